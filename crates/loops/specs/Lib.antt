@@ -1,0 +1,5 @@
+-- One library of loops and places, which every crate above cites.
+pub mod Loop
+pub mod Places
+pub mod Fold
+pub mod Within

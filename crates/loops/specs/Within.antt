@@ -1,0 +1,23 @@
+-- Memory of which only the first n places are used: t is s but there. Assumes nothing.
+use mathlib.Core.Path.{_≡_, refl, ap, _∙_}
+use mathlib.Core.List.{List, _++_}
+use Prim.Native.Nat.{ℕ, _<_}
+use lib.ListN.{length, set, drop, length-set}
+use lib.Seq.{drop-set-lt}
+
+pub record Within {A : Type 0} (n : ℕ) (s t : List A) : Type 0 where
+  pub long : length t ≡ length s
+  pub rest : drop n t ≡ drop n s
+
+pub within-itself : {A : Type 0} (n : ℕ) (s : List A) → Within n s s
+within-itself n s = record { long = refl; rest = refl }
+
+pub within-then : {A : Type 0} {n : ℕ} {s t u : List A} → Within n s t → Within n t u → Within n s u
+within-then p q = record { long = q .long ∙ p .long; rest = q .rest ∙ p .rest }
+
+pub within-set : {A : Type 0} (n : ℕ) (s : List A) (i : ℕ) (a : A) → i < n → Within n s (set s i a)
+within-set n s i a h = record { long = length-set s i a; rest = drop-set-lt n s i a h }
+
+-- the first n places are written anew
+pub within-front : {A : Type 0} {n : ℕ} {s : List A} (t u r : List A) → Within n s t → u ≡ r ++ drop n t → u ≡ r ++ drop n s
+within-front t u r w e = e ∙ ap (λ l. r ++ l) (w .rest)

@@ -1,0 +1,5 @@
+-- The laws behind the square root.
+pub mod Numbers
+pub mod Packing
+pub mod Reading
+pub mod Closest

@@ -1,0 +1,13 @@
+-- Document 01's stand-ins, in its order, and what every crate above shares of doubles.
+pub mod Numbers
+pub mod Nan
+pub mod Finite
+pub mod Absolute
+pub mod Exact
+pub mod Maximum
+pub mod Power
+pub mod Root
+pub mod Nearest
+pub mod Logarithm
+pub mod Keys
+pub mod Total
