@@ -9,5 +9,6 @@ pub mod Power
 pub mod Root
 pub mod Nearest
 pub mod Logarithm
+pub mod Order
 pub mod Keys
 pub mod Total

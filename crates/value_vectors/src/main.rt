@@ -7,6 +7,7 @@ ghost use Prim.Native.Nat.{_+_, _<_, _≤_};
 ghost use lib.ListN.{length};
 
 const STDIN: i32 = 0;
+
 const STDOUT: i32 = 1;
 
 // The value of a hexadecimal digit.
@@ -90,7 +91,10 @@ fn main() {
     say(b"square roots that differ ", counts[1]);
     say(b"logarithms equal ", counts[2]);
     say(b"logarithms that differ ", counts[3]);
-    say(b"logarithms more than one last bit from the library's ", counts[4]);
+    say(
+        b"logarithms more than one last bit from the library's ",
+        counts[4],
+    );
     say(b"lines that are no vector ", counts[5]);
     say(b"bytes left over ", (n % 53) as u64);
 }

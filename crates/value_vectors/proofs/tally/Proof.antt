@@ -1,8 +1,8 @@
+-- `value_vectors::tally` meets its contract. Assumes nothing.
 use mathlib.Core.Path.{_≡_}
 use Prim.Native.Nat.{_-_, _/_, _≤_}
 use borrow.Author.Needs.{needs}
 use lib.ListN.{length}
-
 use Rattle.value_vectors.proofs.tally.Statement.{statement}
 use Rattle.value_vectors.proofs.tally.Tie as tie
 

@@ -1,6 +1,6 @@
+-- `value_vectors::word` meets its contract. Assumes nothing.
 use Prim.Native.Nat.{_-_, _≤_}
 use borrow.Author.Needs.{needs}
-
 use Rattle.value_vectors.proofs.word.Statement.{statement}
 use Rattle.value_vectors.proofs.word.Tie as tie
 

@@ -1,0 +1,61 @@
+-- Document 01's choice among the degrees 0, 1, .. below b, where S d says of degree d whether it is solved, and its score. Assumes nothing.
+use mathlib.Core.Path.{_≡_, ap, _∙_}
+use mathlib.Core.Bool.{Bool, false, cond, _&&_}
+use mathlib.Core.Option.{Option, none, some}
+use mathlib.Core.List.{List}
+use Prim.Native.Nat.{ℕ, _+_, _<_}
+use lib.ListN.{getD}
+use lib.Ieee.{Float, nan, binary64, sub, lt, le}
+use Rattle.loops.specs.Loop.{from, seek, from-same, seek-same}
+use Rattle.choice.specs.declared.Scored.{Scored}
+use Rattle.basis.specs.declared.Degree.{Degree}
+use Rattle.basis.specs.declared.OptionDegree.{OptionDegree}
+use Rattle.basis.specs.declared.OptionDegree.the-variants.{Some, None}
+use Rattle.value.specs.Numbers.{twoF, infinityF}
+
+-- the degree d
+abbrev pub degree : ℕ → Degree
+degree d = record { 0 = d }
+
+-- The least score yields to a smaller one of a solved degree;
+unfoldable pub yields : Scored → Float → Float
+yields s a = cond (s .solved && lt (s .score) a) (s .score) a
+
+-- document 01's "least": it starts at +infinity and yields to each smaller score of a solved degree
+unfoldable pub leastOf : (ℕ → Scored) → ℕ → Float
+leastOf S b = from (λ d a. yields (S d) a) 0 b infinityF
+
+-- a solved degree with score − least, a float step, at most 2
+unfoldable pub near : Float → Scored → Bool
+near a s = s .solved && le (sub binary64 (s .score) a) twoF
+
+abbrev pub degreeOf : Option ℕ → OptionDegree
+degreeOf none = None
+degreeOf (some d) = Some (degree d)
+
+-- document 01's "chosen": the lowest solved degree with score − least at most 2
+unfoldable pub chosenOf : (ℕ → Scored) → ℕ → OptionDegree
+chosenOf S b = degreeOf (seek (λ d. near (leastOf S b) (S d)) 0 b)
+
+-- the number of solved degrees
+unfoldable pub solvedCount : (ℕ → Scored) → ℕ → ℕ
+solvedCount S b = from (λ d m. cond (S d .solved) (m + 1) m) 0 b 0
+
+-- of two arrays
+abbrev pub scoredAt : List Bool → List Float → ℕ → Scored
+scoredAt u v d = record { solved = getD u d false; score = getD v d nan }
+
+-- ---- what is known of the degrees below b decides
+
+module _ (S R : ℕ → Scored) (b : ℕ) (same : (d : ℕ) → d < b → S d ≡ R d) where
+  pub least-same : leastOf S b ≡ leastOf R b
+  unfolding leastOf
+  least-same = from-same _ _ b (infinityF) (λ d a h. ap (λ (s : Scored). yields s a) (same d h))
+
+  pub chosen-same : chosenOf S b ≡ chosenOf R b
+  unfolding chosenOf
+  chosen-same = ap degreeOf (seek-same _ _ b (λ d h. ap (λ (s : Scored). near (leastOf S b) s) (same d h) ∙ ap (λ (a : Float). near a (R d)) least-same))
+
+  pub count-same : solvedCount S b ≡ solvedCount R b
+  unfolding solvedCount
+  count-same = from-same _ _ b 0 (λ d m h. ap (λ (s : Scored). cond (s .solved) (m + 1) m) (same d h))

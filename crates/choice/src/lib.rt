@@ -1,0 +1,75 @@
+// The choice among the degrees below b, of which each is solved or not and has a score.
+use basis::Degree;
+use basis::OptionDegree;
+ghost use mathlib.Core.Path.{_≡_};
+ghost use Prim.Native.Nat.{_≤_};
+ghost use Rattle.choice.specs.Choice.{scoredAt, yields, near, leastOf, chosenOf, solvedCount};
+
+// A degree's score, where it is solved.
+pub struct Scored {
+    pub solved: bool,
+    pub score: f64,
+}
+
+// The least score a yields to a smaller one of a solved degree.
+fn yielded(solved: bool, score: f64, a: f64) -> f64
+    ensures { λ r. ⌜ r ≡ yields (record { solved = solved; score = score }) a ⌝ }
+{
+    if !solved {
+        return a;
+    }
+    if score < a {
+        return score;
+    }
+    a
+}
+
+// A solved degree's score is at most 2 above a.
+fn is_near(solved: bool, score: f64, a: f64) -> bool
+    ensures { λ r. ⌜ r ≡ near a (record { solved = solved; score = score }) ⌝ }
+{
+    if !solved {
+        return false;
+    }
+    score - a <= 2.0
+}
+
+// The least score: it starts at +infinity and yields to each smaller one of a solved degree.
+pub fn least(solved: &[bool; 16], score: &[f64; 16], b: usize) -> f64
+    requires { ⌜ b ≤ 16 ⌝ }
+    ensures { λ r. ⌜ r ≡ leastOf (scoredAt (now (solved .entry)) (now (score .entry))) b ⌝ }
+{
+    let mut a = f64::from_bits(0x7FF0_0000_0000_0000);
+    for d in 0..b {
+        a = yielded(solved[d], score[d], a);
+    }
+    a
+}
+
+// The lowest solved degree with a score at most 2 above the least.
+pub fn lowest(solved: &[bool; 16], score: &[f64; 16], b: usize) -> OptionDegree
+    requires { ⌜ b ≤ 16 ⌝ }
+    ensures { λ r. ⌜ r ≡ chosenOf (scoredAt (now (solved .entry)) (now (score .entry))) b ⌝ }
+{
+    let a = least(solved, score, b);
+    for d in 0..b {
+        if is_near(solved[d], score[d], a) {
+            return OptionDegree::Some(Degree(d));
+        }
+    }
+    OptionDegree::None
+}
+
+// How many degrees are solved.
+pub fn solved_of(solved: &[bool; 16], score: &[f64; 16], b: usize) -> usize
+    requires { ⌜ b ≤ 16 ⌝ }
+    ensures { λ r. ⌜ r ≡ solvedCount (scoredAt (now (solved .entry)) (now (score .entry))) b ⌝ }
+{
+    let mut m = 0;
+    for d in 0..b {
+        if solved[d] {
+            m += 1;
+        }
+    }
+    m
+}

@@ -1,0 +1,33 @@
+-- `score::aic` meets its contract. Assumes nothing.
+use mathlib.Core.Path.{ap, _∙_}
+use Prim.Native.Nat.{_-_}
+use borrow.Author.Needs.{needs}
+use Rattle.score.specs.Score.{aic-few, aic-many}
+use Rattle.value.specs.Logarithm.{lnF}
+use Rattle.score.proofs.aic.Statement.{statement}
+use Rattle.score.proofs.aic.Tie as tie
+
+returns : tie.Need-returns
+returns c =
+    let at-args = c .before .before .before .before .before .args in
+    let at-nearest-u64-to-f64 = c .before .before .before .before .nearest-u64-to-f64 in
+    let at-nearest-u64-to-f642 = c .before .before .before .nearest-u64-to-f642 in
+    aic-few (at-args .n) (at-args .k) (at-args .total) _ _ _ (at-nearest-u64-to-f64 .ensures) (at-nearest-u64-to-f642 .ensures) (c .before .ln .ensures ∙ ap lnF (c .before .before .likelihood .ensures)) (c .if1 .taken)
+
+returns-2 : tie.Need-returns-2
+returns-2 c =
+    let at-args = c .before .before .before .before .before .args in
+    let at-nearest-u64-to-f64 = c .before .before .before .before .nearest-u64-to-f64 in
+    let at-nearest-u64-to-f642 = c .before .before .before .nearest-u64-to-f642 in
+    aic-many (at-args .n) (at-args .k) (at-args .total) _ _ _ (at-nearest-u64-to-f64 .ensures) (at-nearest-u64-to-f642 .ensures) (c .before .ln .ensures ∙ ap lnF (c .before .before .likelihood .ensures)) (c .if1 .left)
+
+pub aic-spec : {M : Type 1} → statement M
+aic-spec =
+    tie.close
+    (tie.spec
+    (λ c κs. search needs)
+    (λ c κs. search needs)
+    (λ c κs. search needs)
+    (λ c κs. search needs)
+    returns
+    returns-2)
