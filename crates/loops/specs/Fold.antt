@@ -1,6 +1,7 @@
 -- A fold in index order. Assumes nothing.
 use mathlib.Core.Path.{_≡_, refl, ap, _∙_}
-use mathlib.Core.List.{List, [], _∷_, _++_}
+use mathlib.Core.Bool.{Bool, true, _&&_}
+use mathlib.Core.List.{List, [], _∷_, _++_, map, map-append}
 use Prim.Native.Nat.{ℕ, _+_, _<_}
 use native.Mathlib.Numerals.{add-one}
 use lib.ListN.{length, getD, take}
@@ -10,6 +11,10 @@ use Rattle.loops.specs.Places.{table, table-again}
 unfoldable pub fold : {A B : Type 0} → (B → A → B) → B → List A → B
 fold f b [] = b
 fold f b (a ∷ l) = fold f (f b a) l
+
+-- a test passes at every element
+abbrev pub allOf : {A : Type 0} → (A → Bool) → List A → Bool
+allOf f l = fold (λ b a. b && f a) true l
 
 -- ---- laws
 
@@ -27,3 +32,16 @@ fold-again f b l d i h = ap (λ k. fold f b (take k l)) (add-one i) ∙ ap (λ m
 -- one turn of a loop that folds a table
 pub fold-table : {A B : Type 0} (g : B → A → B) (b : B) (f : ℕ → A) (i : ℕ) → fold g b (table f (i + 1)) ≡ g (fold g b (table f i)) (f i)
 fold-table g b f i = ap (λ m. fold g b m) (table-again f i) ∙ fold-snoc g b (table f i) (f i)
+
+-- one turn of a loop that folds what a function makes of a list
+pub fold-map-again : {A B C : Type 0} (g : C → B → C) (b : C) (f : A → B) (l : List A) (d : A) (i : ℕ) → i < length l
+    → fold g b (map f (take (i + 1) l)) ≡ g (fold g b (map f (take i l))) (f (getD l i d))
+fold-map-again g b f l d i h =
+    ap (λ m. fold g b (map f m)) (ap (λ k. take k l) (add-one i) ∙ take-suc l i d h) ∙ ap (λ m. fold g b m) (map-append f (take i l) (getD l i d ∷ []))
+    ∙ fold-snoc g b (map f (take i l)) (f (getD l i d))
+
+-- a fold over what a function makes of a list
+pub fold-map : {A B C : Type 0} (f : C → B → C) (g : A → B) (v : C) (l : List A) → fold f v (map g l) ≡ fold (λ u a. f u (g a)) v l
+unfolding fold
+fold-map f g v [] = refl
+fold-map f g v (a ∷ l) = fold-map f g (f v (g a)) l

@@ -3,3 +3,5 @@ pub mod Loop
 pub mod Places
 pub mod Fold
 pub mod Within
+pub mod All
+pub mod Cases

@@ -1,7 +1,8 @@
 -- Lists, place by place: `each` puts the first places through a function, `table` makes a list of n places. Assumes nothing.
-use mathlib.Core.Path.{_≡_, refl, ap}
+use mathlib.Core.Path.{_≡_, refl, sym, ap, fun-ext, _∙_}
 use mathlib.Core.List.{List, [], _∷_, _++_, append-nil, map}
 use Prim.Native.Nat.{ℕ, zero, suc, _+_, _-_, _≤_, _<_}
+use native.Mathlib.Nat.{le-of-suc-le-suc}
 use native.Mathlib.Numerals.{add-one}
 use native.Mathlib.Omega.{arith}
 use lib.ListN.{length, getD, set, take, drop, replicate, length-drop, drop-of-length-le}
@@ -123,3 +124,44 @@ unfolding table
 table-take d zero s h = refl
 table-take d (suc n) [] h = absurd (omega arith)
 table-take d (suc n) (v ∷ vs) h = ap (λ l. v ∷ l) (table-take d n vs (omega arith))
+
+-- two functions that agree below n
+pub each-same : {A : Type 0} (f g : ℕ → A → A) (n : ℕ) (s : List A) → ((k : ℕ) (v : A) → k < n → f k v ≡ g k v) → each f n s ≡ each g n s
+unfolding each
+each-same f g zero s h = refl
+each-same f g (suc n) [] h = refl
+each-same f g (suc n) (v ∷ vs) h =
+    rw (h 0 v (omega arith)) (ap (λ l. g 0 v ∷ l) (each-same (λ k. f (suc k)) (λ k. g (suc k)) n vs (λ k u q. h (suc k) u (omega arith))))
+
+-- what stands from n on is left alone
+pub each-rest : {A : Type 0} (f : ℕ → A → A) (n : ℕ) (s : List A) → drop n (each f n s) ≡ drop n s
+unfolding each
+each-rest f zero s = refl
+each-rest f (suc n) [] = refl
+each-rest f (suc n) (v ∷ vs) = each-rest (λ k. f (suc k)) n vs
+
+-- a + b places: the first a, and behind them the other b
+pub each-split : {A : Type 0} (f : ℕ → A → A) (a b : ℕ) (s : List A) → a ≤ length s → each f (a + b) s ≡ take a (each f a s) ++ each (λ k. f (a + k)) b (drop a s)
+unfolding each
+each-split f zero b s h =
+    let e : 0 + b ≡ b = omega arith in
+    rw e (ap (λ g. each g b s) (fun-ext (λ k. let z : k ≡ 0 + k = omega arith in ap f z)))
+each-split f (suc a) b [] h = absurd (omega arith)
+each-split f (suc a) b (v ∷ vs) h =
+    let e : suc a + b ≡ suc (a + b) = omega arith in
+    let i = each-split (λ k. f (suc k)) a b vs (omega arith) in
+    let shifted = fun-ext (λ k. let z : suc (a + k) ≡ suc a + k = omega arith in ap f z) in
+    rw e (ap (λ l. f 0 v ∷ l) (i ∙ ap (λ g. take a (each (λ k. f (suc k)) a vs) ++ each g b (drop a vs)) shifted))
+
+-- a tail that was lent, `&mut s[a..]`, is back as g left it
+pub tail-through : {A : Type 0} (g : List A → List A) (a : ℕ) (xs : List A)
+    → take a xs ++ (g (take (length xs - a) (drop a xs)) ++ drop (length xs - a) (drop a xs)) ≡ take a xs ++ g (drop a xs)
+tail-through g a xs =
+    let d : length (drop a xs) ≤ length xs - a = rw length-drop (omega arith) in
+    rw (take-all (length xs - a) (drop a xs) d, drop-of-length-le (drop a xs) d, append-nil)
+
+-- an element of a mapped list
+pub map-at : {A B : Type 0} (f : A → B) (l : List A) (i : ℕ) (a : A) (b : B) → i < length l → getD (map f l) i b ≡ f (getD l i a)
+map-at f [] i a b h = absurd (omega arith)
+map-at f (x ∷ xs) zero a b h = refl
+map-at f (x ∷ xs) (suc i) a b h = map-at f xs i a b (omega arith)

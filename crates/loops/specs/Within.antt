@@ -1,9 +1,10 @@
 -- Memory of which only the first n places are used: t is s but there. Assumes nothing.
 use mathlib.Core.Path.{_≡_, refl, ap, _∙_}
 use mathlib.Core.List.{List, _++_}
-use Prim.Native.Nat.{ℕ, _<_}
-use lib.ListN.{length, set, drop, length-set}
-use lib.Seq.{drop-set-lt}
+use Prim.Native.Nat.{ℕ, _≤_, _<_}
+use native.Mathlib.Omega.{arith}
+use lib.ListN.{length, set, take, drop, length-set, length-append, length-drop}
+use lib.Seq.{drop-set-lt, take-at, drop-at}
 
 pub record Within {A : Type 0} (n : ℕ) (s t : List A) : Type 0 where
   pub long : length t ≡ length s
@@ -21,3 +22,15 @@ within-set n s i a h = record { long = length-set s i a; rest = drop-set-lt n s 
 -- the first n places are written anew
 pub within-front : {A : Type 0} {n : ℕ} {s : List A} (t u r : List A) → Within n s t → u ≡ r ++ drop n t → u ≡ r ++ drop n s
 within-front t u r w e = e ∙ ap (λ l. r ++ l) (w .rest)
+
+-- memory whose first n places were written with r
+module _ {A : Type 0} (n : ℕ) (s u r : List A) (e : u ≡ r ++ drop n s) (sized : length r ≡ n) where
+  pub front-written : take n u ≡ r
+  front-written = ap (λ l. take n l) e ∙ take-at r (drop n s) n sized
+
+  pub within-written : n ≤ length s → Within n s u
+  within-written h =
+      record {
+        long = ap length e ∙ length-append r (drop n s) ∙ omega (arith, sized, length-drop n s);
+        rest = ap (λ l. drop n l) e ∙ drop-at r (drop n s) n sized;
+      }

@@ -1,0 +1,117 @@
+-- Document 01's T1 to T12 together, stated with the names that the public contracts cite. Assumes nothing.
+use mathlib.Core.Path.{_≡_, refl, ap, _∙_}
+use mathlib.Core.Bool.{Bool, true, false}
+use mathlib.Core.List.{List, [], _∷_}
+use Prim.Native.Nat.{ℕ, zero, suc, _<_}
+use native.Mathlib.Omega.{arith}
+use lib.ListN.{take}
+use lib.Count.{trailingZeros}
+use lib.Ieee.{Float, binary64, ofBits, toBits, round, size, span, climb, odd, units, sum, add, sub, mul, div, neg, lt, le, eq, isNan, ofInt}
+use Rattle.loops.specs.Loop.{from, turns, seek, seeks}
+use Rattle.loops.specs.Places.{table}
+use Rattle.value.specs.Logarithm.{mBits, kBiased, lnSum, lnBits, lnPositive, lnF}
+use Rattle.value.specs.Maximum.{maximumF}
+use Rattle.value.specs.Numbers.{num, zeroF, twoF}
+use Rattle.basis.specs.declared.OptionDegree.the-variants.{Some}
+use Rattle.student.specs.Table.{thousandths}
+use Rattle.statistics.specs.declared.Confidence.the-variants.{P95}
+use Rattle.statistics.specs.declared.DegreeBound.the-variants.{Conservative, Relaxed, Custom}
+use Rattle.statistics.specs.Degrees.{root, rootUpTo, maxDegree}
+use Rattle.statistics.specs.Medians.{insert, sort, midpoint, medianOf}
+use Rattle.statistics.specs.Scores.{milli, zScore, cell, entryAt, tableScore, tScore}
+use Rattle.monomial.specs.Rows.{Row, rowsOf}
+use Rattle.monomial.specs.Sums.{sumsOf}
+use Rattle.solve.specs.Solve.{solve}
+use Rattle.solve.specs.declared.Solved.{Solved}
+use Rattle.score.specs.Score.{likelihoodOf, aicOf}
+use Rattle.score.specs.declared.Criterion.the-variants.{Aic}
+use Rattle.choice.specs.Choice.{degree, yields, leastOf, near, chosenOf, chosen-same}
+use Rattle.choice.specs.declared.Scored.{Scored}
+use Rattle.fit.specs.Chosen.{curveCounts, tried, choiceOf}
+use Rattle.fit.specs.Solved.{isSolved, scoredBy}
+use Rattle.cases.specs.Solutions.{line, twice, line-degree-1, line-score-0, line-score-1, twice-score-0, twice-score-1}
+
+-- 2.5
+abbrev pub twoAndHalf : Float
+twoAndHalf = milli 2500
+
+pub record Cases : Type 0 where
+  -- Conservative n 44 gives 1
+  pub t1 : maxDegree Conservative 44 ≡ 1
+  -- n 45 gives 2
+  pub t2 : maxDegree Conservative 45 ≡ 2
+  -- Relaxed n 63 gives 3
+  pub t3 : maxDegree Relaxed 63 ≡ 3
+  -- n 64 gives 4
+  pub t4 : maxDegree Relaxed 64 ≡ 4
+  -- Custom 5, n 3 gives 2
+  pub t5 : maxDegree (Custom (degree 5)) 3 ≡ 2
+  -- P95 df 8 gives 2.306
+  pub t6 : tScore P95 8 ≡ milli 2306
+  -- df 29 gives 2.045
+  pub t7 : tScore P95 29 ≡ milli 2045
+  -- df 30 gives 1.959
+  pub t8 : tScore P95 30 ≡ milli 1959
+  -- median 1, 2, 3, 10 is 2.5
+  pub t9 : medianOf (num 1 ∷ num 2 ∷ num 3 ∷ num 10 ∷ []) ≡ twoAndHalf
+  -- samples (0,1),(1,3),(2,5) fit degree 1 as 1, 2
+  pub t10 : take 2 (solve (sumsOf (rowsOf line)) 2 .c) ≡ num 1 ∷ num 2 ∷ []
+  pub t10-solved : isSolved (sumsOf (rowsOf line)) (rowsOf line) 2 ≡ true
+  -- the same by AIC, Custom 1, choose degree 0,
+  pub t11 : choiceOf Aic (sumsOf (rowsOf line)) (rowsOf line) (curveCounts (maxDegree (Custom (degree 1)) 3)) .chosen ≡ Some (degree 0)
+  -- whose score is exactly 2 above
+  pub t11-above : sub binary64 (scoredBy Aic (sumsOf (rowsOf line)) (rowsOf line) (rowsOf line) 1 .score) (scoredBy Aic (sumsOf (rowsOf line)) (rowsOf line) (rowsOf line) 2 .score) ≡ twoF
+  -- (2,1),(2,5), T11's settings: degree 1 unsolved, choice 0
+  pub t12-unsolved : isSolved (sumsOf (rowsOf twice)) (rowsOf twice) 2 ≡ false
+  pub t12 : choiceOf Aic (sumsOf (rowsOf twice)) (rowsOf twice) (curveCounts (maxDegree (Custom (degree 1)) 2)) .chosen ≡ Some (degree 0)
+
+-- ---- the parts
+
+-- what is known of degrees 0 and 1
+abbrev known : Scored → Scored → ℕ → Scored
+known a b zero = a
+known a b (suc d) = b
+
+below-two : (P : ℕ → Type 0) → P 0 → P 1 → (d : ℕ) → d < 2 → P d
+below-two P a b zero h = a
+below-two P a b (suc zero) h = b
+below-two P a b (suc (suc d)) h = absurd (omega arith)
+
+line-chosen : chosenOf (known (record { solved = true; score = aicOf 3 1 zeroF }) (record { solved = true; score = aicOf 3 2 zeroF })) 2 ≡ Some (degree 0)
+unfolding chosenOf leastOf yields near seek seeks from turns aicOf likelihoodOf maximumF isNan lnF lnPositive lnBits mBits kBiased lnSum ofInt ofBits toBits round size span climb odd units sum add sub mul div neg lt le eq trailingZeros
+line-chosen = refl
+
+line-above : sub binary64 (aicOf 3 1 zeroF) (aicOf 3 2 zeroF) ≡ twoF
+unfolding aicOf likelihoodOf maximumF isNan lnF lnPositive lnBits mBits kBiased lnSum ofInt ofBits toBits round size span climb odd units sum add sub mul div neg lt le eq trailingZeros
+line-above = refl
+
+twice-chosen : chosenOf (known (record { solved = true; score = aicOf 2 1 zeroF }) (record { solved = false; score = zeroF })) 2 ≡ Some (degree 0)
+unfolding chosenOf leastOf yields near seek seeks from turns aicOf likelihoodOf maximumF isNan lnF lnPositive lnBits mBits kBiased lnSum ofInt ofBits toBits round size span climb odd units sum add sub mul div neg lt le eq trailingZeros
+twice-chosen = refl
+
+solved-is : (rows : List Row) (k : ℕ) (t : Bool) (v : Float) → scoredBy Aic (sumsOf rows) rows rows k ≡ record { solved = t; score = v } → isSolved (sumsOf rows) rows k ≡ t
+unfolding scoredBy
+solved-is rows k t v e = ap (λ (s : Scored). s .solved) e
+
+-- ---- the theorem
+
+pub cases : Cases
+unfolding maxDegree root rootUpTo tScore tableScore entryAt cell milli zScore thousandths medianOf sort insert midpoint choiceOf tried table ofInt ofBits round size span climb odd units sum add div lt le eq trailingZeros
+cases =
+    record {
+      t1 = refl;
+      t2 = refl;
+      t3 = refl;
+      t4 = refl;
+      t5 = refl;
+      t6 = refl;
+      t7 = refl;
+      t8 = refl;
+      t9 = refl;
+      t10 = ap (λ (s : Solved). take 2 (s .c)) line-degree-1;
+      t10-solved = solved-is (rowsOf line) 2 true _ line-score-1;
+      t11 = chosen-same _ _ 2 (below-two _ line-score-0 line-score-1) ∙ line-chosen;
+      t11-above = rw (line-score-0, line-score-1) line-above;
+      t12-unsolved = solved-is (rowsOf twice) 2 false _ twice-score-1;
+      t12 = chosen-same _ _ 2 (below-two _ twice-score-0 twice-score-1) ∙ twice-chosen;
+    }

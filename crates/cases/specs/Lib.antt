@@ -1,0 +1,2 @@
+pub mod Solutions
+pub mod Cases

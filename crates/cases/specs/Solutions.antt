@@ -1,0 +1,98 @@
+-- What the samples of T10 to T12 solve to and score, computed from the definitions that the contracts cite. Assumes nothing.
+use mathlib.Core.Path.{_≡_, refl, _∙_}
+use mathlib.Core.Bool.{true, false, cond, _&&_}
+use mathlib.Core.List.{List, [], _∷_}
+use Prim.Native.Nat.{ℕ}
+use lib.Dec.{eqb}
+use lib.ListN.{length, replicate}
+use lib.Count.{trailingZeros}
+use lib.Ieee.{ofBits, round, size, span, climb, odd, units, sum, add, sub, mul, div, neg, lt, le, eq, ofInt}
+use Rattle.loops.specs.Loop.{from, turns, while, tries}
+use Rattle.loops.specs.Places.{each, table}
+use Rattle.loops.specs.Fold.{fold, allOf}
+use Rattle.value.specs.Absolute.{absF}
+use Rattle.value.specs.Finite.{finite}
+use Rattle.value.specs.Numbers.{num, zeroF}
+use Rattle.value.specs.Power.{powerTurns, powerFrom, powerF}
+use Rattle.value.specs.Total.{totalF}
+use Rattle.statistics.specs.Scores.{milli}
+use Rattle.statistics.specs.Medians.{insert, sort, midpoint, medianOf, deviations, medianAbsoluteDeviation}
+use Rattle.statistics.specs.Losses.{huberConst, huberLoss, losses}
+use Rattle.monomial.specs.Samples.{Sample}
+use Rattle.monomial.specs.Rows.{Row, rowOf, rowsOf, fitted}
+use Rattle.monomial.specs.Sums.{productOf, addRow, sumsOf}
+use Rattle.solve.specs.Solve.{clearRow, clearBelow, pivotHolds, eliminate, backRow, back, rightOf, solved, solve}
+use Rattle.solve.specs.declared.Solved.{Solved}
+use Rattle.score.specs.Score.{aicOf, scoreOf}
+use Rattle.score.specs.declared.Criterion.the-variants.{Aic}
+use Rattle.choice.specs.declared.Scored.{Scored}
+use Rattle.fit.specs.Residuals.{residual, residuals}
+use Rattle.fit.specs.Solved.{isSolved, scoreOn, scoredBy}
+
+abbrev pub at : ℕ → ℕ → Sample
+at x y = record { x = num x; y = num y }
+
+-- (0,1), (1,3), (2,5)
+abbrev pub line : List Sample
+line = at 0 1 ∷ at 1 3 ∷ at 2 5 ∷ []
+
+-- (2,1), (2,5)
+abbrev pub twice : List Sample
+twice = at 2 1 ∷ at 2 5 ∷ []
+
+-- both pivots hold, the coefficients are 1 and 2, and the other 14 places are +0
+pub line-degree-1 : solve (sumsOf (rowsOf line)) 2 ≡ record { held = 2; c = num 1 ∷ num 2 ∷ replicate 14 zeroF }
+unfolding ofInt ofBits round size span climb odd units sum add sub mul div lt trailingZeros from turns while tries each table fold powerTurns powerFrom powerF rowOf productOf addRow sumsOf clearRow clearBelow pivotHolds eliminate backRow back rightOf solved solve
+line-degree-1 = refl
+
+-- the mean
+pub line-degree-0 : solve (sumsOf (rowsOf line)) 1 ≡ record { held = 1; c = num 3 ∷ replicate 15 zeroF }
+unfolding ofInt ofBits round size span climb odd units sum add sub mul div lt trailingZeros from turns while tries each table fold powerTurns powerFrom powerF rowOf productOf addRow sumsOf clearRow clearBelow pivotHolds eliminate backRow back rightOf solved solve
+line-degree-0 = refl
+
+pub twice-degree-0 : solve (sumsOf (rowsOf twice)) 1 ≡ record { held = 1; c = num 3 ∷ replicate 15 zeroF }
+unfolding ofInt ofBits round size span climb odd units sum add sub mul div lt trailingZeros from turns while tries each table fold powerTurns powerFrom powerF rowOf productOf addRow sumsOf clearRow clearBelow pivotHolds eliminate backRow back rightOf solved solve
+twice-degree-0 = refl
+
+-- the second pivot fails
+pub twice-degree-1 : solve (sumsOf (rowsOf twice)) 2 ≡ record { held = 1; c = replicate 16 zeroF }
+unfolding ofInt ofBits round size span climb odd units sum add sub mul div lt trailingZeros from turns while tries each table fold powerTurns powerFrom powerF rowOf productOf addRow sumsOf clearRow clearBelow pivotHolds eliminate backRow back rightOf solved solve
+twice-degree-1 = refl
+
+-- ---- scores by AIC: every loss is +0, since at least half of the residuals have one size
+
+-- from a solution in hand
+scoredFrom : List Row → ℕ → Solved → Scored
+scoredFrom rows k s =
+    let rs = residuals k (s .c) rows in
+    let t = eqb (s .held) k && allOf finite rs in
+    record { solved = t; score = cond t (aicOf (length rows) k (totalF (losses rs))) zeroF }
+
+scored-from : (rows : List Row) (k : ℕ) (s : Solved) → solve (sumsOf rows) k ≡ s → scoredBy Aic (sumsOf rows) rows rows k ≡ scoredFrom rows k s
+unfolding scoredBy isSolved scoreOn scoreOf scoredFrom
+scored-from rows k s e = rw e
+
+line-from-0 : scoredFrom (rowsOf line) 1 (record { held = 1; c = num 3 ∷ replicate 15 zeroF }) ≡ record { solved = true; score = aicOf 3 1 zeroF }
+unfolding scoredFrom residuals residual fitted fold table rowOf powerTurns powerFrom powerF losses huberLoss huberConst milli medianAbsoluteDeviation medianOf deviations sort insert midpoint absF finite ofInt ofBits round size span climb odd units sum add sub mul div neg lt le eq trailingZeros
+line-from-0 = refl
+
+pub line-score-0 : scoredBy Aic (sumsOf (rowsOf line)) (rowsOf line) (rowsOf line) 1 ≡ record { solved = true; score = aicOf 3 1 zeroF }
+line-score-0 = scored-from (rowsOf line) 1 _ line-degree-0 ∙ line-from-0
+
+line-from-1 : scoredFrom (rowsOf line) 2 (record { held = 2; c = num 1 ∷ num 2 ∷ replicate 14 zeroF }) ≡ record { solved = true; score = aicOf 3 2 zeroF }
+unfolding scoredFrom residuals residual fitted fold table rowOf powerTurns powerFrom powerF losses huberLoss huberConst milli medianAbsoluteDeviation medianOf deviations sort insert midpoint absF finite ofInt ofBits round size span climb odd units sum add sub mul div neg lt le eq trailingZeros
+line-from-1 = refl
+
+pub line-score-1 : scoredBy Aic (sumsOf (rowsOf line)) (rowsOf line) (rowsOf line) 2 ≡ record { solved = true; score = aicOf 3 2 zeroF }
+line-score-1 = scored-from (rowsOf line) 2 _ line-degree-1 ∙ line-from-1
+
+twice-from-0 : scoredFrom (rowsOf twice) 1 (record { held = 1; c = num 3 ∷ replicate 15 zeroF }) ≡ record { solved = true; score = aicOf 2 1 zeroF }
+unfolding scoredFrom residuals residual fitted fold table rowOf powerTurns powerFrom powerF losses huberLoss huberConst milli medianAbsoluteDeviation medianOf deviations sort insert midpoint absF finite ofInt ofBits round size span climb odd units sum add sub mul div neg lt le eq trailingZeros
+twice-from-0 = refl
+
+pub twice-score-0 : scoredBy Aic (sumsOf (rowsOf twice)) (rowsOf twice) (rowsOf twice) 1 ≡ record { solved = true; score = aicOf 2 1 zeroF }
+twice-score-0 = scored-from (rowsOf twice) 1 _ twice-degree-0 ∙ twice-from-0
+
+pub twice-score-1 : scoredBy Aic (sumsOf (rowsOf twice)) (rowsOf twice) (rowsOf twice) 2 ≡ record { solved = false; score = zeroF }
+unfolding scoredBy isSolved
+twice-score-1 = rw twice-degree-1

@@ -1,0 +1,70 @@
+-- `fit::sizes` meets its contract. Assumes nothing.
+use mathlib.Core.Path.{_≡_, refl, sym, _∙_}
+use mathlib.Core.Bool.{true, _&&_}
+use Prim.Native.Nat.{_-_, _≤_}
+use native.Mathlib.Omega.{arith}
+use borrow.Author.Needs.{needs}
+use lib.ListN.{length, length-set}
+use lib.Ieee.{nan}
+use Rattle.loops.specs.Fold.{fold, allOf, fold-table}
+use Rattle.loops.specs.Places.{each, each-again, table}
+use Rattle.value.specs.Finite.{finite}
+use Rattle.value.specs.Absolute.{absF}
+use Rattle.monomial.specs.Samples.{Sample, sampleAt, samplesOf}
+use Rattle.monomial.specs.Rows.{rowOf}
+use Rattle.fit.specs.Residuals.{residual, sizes-written, every-residual}
+use Rattle.fit.proofs.sizes.Statement.{statement}
+use Rattle.fit.proofs.sizes.Tie as tie
+
+abbrev Inv-loop : tie.InvT-loop
+Inv-loop xs ys n k c scratch₀ all₀ i₀ scratch all i =
+    (i ≤ n) × (length scratch ≡ length scratch₀) × (scratch ≡ each (λ t _. absF (residual (k .0) c (rowOf (sampleAt xs ys t)))) i scratch₀)
+    × (all ≡ allOf (λ (p : Sample). finite (residual (k .0) c (rowOf p))) (samplesOf i xs ys))
+
+abbrev μ-loop : tie.MeasureT-loop
+μ-loop xs ys n k c scratch₀ all₀ i₀ scratch all i = n - i
+
+loop-holds : tie.Need-loop-holds Inv-loop μ-loop
+unfolding each fold samplesOf table
+loop-holds c = (search needs, refl, refl, refl)
+
+loop-again : tie.Need-loop-again Inv-loop μ-loop
+unfolding samplesOf
+loop-again c =
+    let at-loop = c .before .before .before .before .before .before .loop in
+    let at-args = c .before .before .before .before .before .before .before .before .before .before .args in (
+      search needs,
+      simp length-set (at-loop .inv .1),
+      rw (c .abs .ensures, c .before .before .residual .ensures, at-loop .inv .2) (each-again (λ t _. absF (residual (at-args .k .0) (at-args .c .now) (rowOf (sampleAt (at-args .xs .now) (at-args .ys .now) t)))) (at-loop .i) _ nan (search needs)),
+      rw (c .before .is-finite .ensures, c .before .before .residual .ensures, at-loop .inv .3) (sym (fold-table (λ b (p : Sample). b && finite (residual (at-args .k .0) (at-args .c .now) (rowOf p))) true (sampleAt (at-args .xs .now) (at-args .ys .now)) (at-loop .i))),
+    )
+
+returns : tie.Need-returns Inv-loop μ-loop
+returns c =
+    let at-args = c .before .before .before .before .before .args in
+    let z : c .before .loop .i ≡ at-args .n = omega arith in (
+      (rw z at (c .before .loop .inv .3)) ∙ every-residual finite (at-args .k .0) (at-args .c .now) (samplesOf (at-args .n) (at-args .xs .now) (at-args .ys .now)),
+      (rw z at (c .before .loop .inv .2)) ∙ sizes-written (at-args .k .0) (at-args .c .now) (at-args .n) (at-args .xs .now) (at-args .ys .now) _ (search needs),
+    )
+
+pub sizes-spec : {M : Type 1} → statement M
+sizes-spec =
+    tie.close
+    (tie.spec
+    Inv-loop
+    μ-loop
+    loop-holds
+    (λ c. search needs)
+    (λ c. search needs)
+    (λ c. search needs)
+    (λ c. search needs)
+    (λ c κs. search needs)
+    (λ c κs. search needs)
+    (λ c κs. search needs)
+    (λ c. search needs)
+    (λ c. search needs)
+    (λ c. search needs)
+    (λ c. search needs)
+    loop-again
+    (λ c. search needs)
+    returns)

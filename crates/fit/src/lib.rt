@@ -1,0 +1,184 @@
+// Residuals, the attempt at a degree, and the choice of one.
+use basis::CoefficientCount;
+use basis::Degree;
+use basis::OptionDegree;
+use score::Criterion;
+ghost use mathlib.Core.Path.{_≡_};
+ghost use mathlib.Core.List.{_++_, map};
+ghost use Prim.Native.Nat.{_+_, _≤_};
+ghost use lib.ListN.{length, take, drop};
+ghost use Rattle.loops.specs.All.{All};
+ghost use Rattle.loops.specs.Fold.{allOf};
+ghost use Rattle.loops.specs.Within.{Within};
+ghost use Rattle.value.specs.Absolute.{absF};
+ghost use Rattle.value.specs.Finite.{finite};
+ghost use Rattle.value.specs.Total.{totalF};
+ghost use Rattle.statistics.specs.Losses.{losses};
+ghost use Rattle.statistics.specs.Medians.{Size};
+ghost use Rattle.monomial.specs.Samples.{samplesOf};
+ghost use Rattle.monomial.specs.Rows.{rowOf, rowsOf};
+ghost use Rattle.score.specs.Score.{scoreOf};
+ghost use Rattle.fit.specs.Residuals.{residual as residualF, residuals};
+ghost use Rattle.fit.specs.Solved.{scoredBy, pivotTests};
+ghost use Rattle.fit.specs.Chosen.{curveCounts, choiceOf};
+ghost use Rattle.fit.specs.Promises.{Attempted};
+
+// y less the fitted value of x.
+fn residual(k: CoefficientCount, c: &[f64; 16], x: f64, y: f64) -> f64
+    requires { ⌜ k .0 ≤ 16 ⌝ }
+    ensures { λ r. ⌜ r ≡ residualF (k .0) (now (c .entry)) (rowOf (record { x = x; y = y })) ⌝ }
+{
+    let terms = value::powers(x);
+    y - monomial::fitted(k, c, &terms)
+}
+
+// The first n places of scratch become the sizes of the residuals. Answers whether every residual is finite.
+pub fn sizes(
+    xs: &[f64],
+    ys: &[f64],
+    n: usize,
+    k: CoefficientCount,
+    c: &[f64; 16],
+    scratch: &mut [f64],
+) -> bool
+    requires { ⌜ (n ≤ length (now xs)) × (n ≤ length (now ys)) × (n ≤ length (now scratch)) × (k .0 ≤ 16) ⌝ }
+    ensures is { λ r. ⌜ r ≡ allOf finite (residuals (k .0) (now (c .entry)) (rowsOf (samplesOf n (now (xs .entry)) (now (ys .entry))))) ⌝ }
+    ensures written { λ _. ⌜ now (scratch .exit) ≡ map absF (residuals (k .0) (now (c .entry)) (rowsOf (samplesOf n (now (xs .entry)) (now (ys .entry))))) ++ drop n (now (scratch .entry)) ⌝ }
+{
+    let mut all = true;
+    for i in 0..n {
+        let r = residual(k, c, xs[i], ys[i]);
+        all = all & value::is_finite(r);
+        scratch[i] = value::abs(r);
+    }
+    all
+}
+
+// A solution from the sums: whether it is solved, the pivots tested, and its coefficients.
+pub struct Solution {
+    pub solved: bool,
+    pub tests: usize,
+    pub c: [f64; 16],
+}
+
+// Solves k coefficients from the sums. Where it is solved, the first n places of scratch hold the sizes of the residuals.
+pub fn attempt(
+    xs: &[f64],
+    ys: &[f64],
+    n: usize,
+    sums: &[f64],
+    k: CoefficientCount,
+    scratch: &mut [f64],
+) -> Solution
+    requires { ⌜ (n ≤ length (now xs)) × (n ≤ length (now ys)) × (n ≤ length (now scratch)) × (272 ≤ length (now sums)) × (k .0 ≤ 16) ⌝ }
+    ensures { λ r. ⌜ Attempted (now (sums .entry)) (rowsOf (samplesOf n (now (xs .entry)) (now (ys .entry)))) (k .0) n (now (scratch .entry)) (now (scratch .exit)) r ⌝ }
+{
+    let s = solve::solve(sums, k);
+    let c = s.c;
+    if s.held < k.0 {
+        return Solution {
+            solved: false,
+            tests: s.held + 1,
+            c,
+        };
+    }
+    let all = sizes(xs, ys, n, k, &c, &mut *scratch);
+    Solution {
+        solved: all,
+        tests: k.0,
+        c,
+    }
+}
+
+// The score of k coefficients, the sizes of whose residuals are the first n numbers.
+pub fn score_on(criterion: Criterion, a: &[f64], n: usize, k: CoefficientCount) -> f64
+    requires { ⌜ (n ≤ length (now a)) × All Size (take n (now a)) ⌝ }
+    ensures { λ r. ⌜ r ≡ scoreOf criterion n (k .0) (totalF (losses (take n (now (a .entry))))) ⌝ }
+{
+    let total = statistics::total_loss(a, n);
+    score::score(criterion, n, k, total)
+}
+
+// What is known of a coefficient count, and the pivots tested.
+pub struct Tried {
+    pub solved: bool,
+    pub score: f64,
+    pub tests: usize,
+}
+
+// Solves k coefficients and scores them on the same n samples.
+pub fn trial(
+    xs: &[f64],
+    ys: &[f64],
+    n: usize,
+    sums: &[f64],
+    k: CoefficientCount,
+    criterion: Criterion,
+    scratch: &mut [f64],
+) -> Tried
+    requires { ⌜ (n ≤ length (now xs)) × (n ≤ length (now ys)) × (n ≤ length (now scratch)) × (272 ≤ length (now sums)) × (k .0 ≤ 16) ⌝ }
+    ensures scored { λ r. ⌜ record { solved = r .solved; score = r .score } ≡ scoredBy criterion (now (sums .entry)) (rowsOf (samplesOf n (now (xs .entry)) (now (ys .entry)))) (rowsOf (samplesOf n (now (xs .entry)) (now (ys .entry)))) (k .0) ⌝ }
+    ensures tests { λ r. ⌜ r .tests ≡ pivotTests (now (sums .entry)) (k .0) ⌝ }
+    ensures within { λ _. ⌜ Within n (now (scratch .entry)) (now (scratch .exit)) ⌝ }
+{
+    let a = attempt(xs, ys, n, sums, k, &mut *scratch);
+    if !a.solved {
+        return Tried {
+            solved: false,
+            score: 0.0,
+            tests: a.tests,
+        };
+    }
+    let score = score_on(criterion, &*scratch, n, k);
+    Tried {
+        solved: true,
+        score,
+        tests: a.tests,
+    }
+}
+
+// The chosen degree or none, the number of solved degrees, and the number of pivot tests.
+pub struct Choice {
+    pub chosen: OptionDegree,
+    pub solved: usize,
+    pub tests: usize,
+}
+
+// The choice among the degrees 0 to the bound.
+pub fn choose(
+    xs: &[f64],
+    ys: &[f64],
+    n: usize,
+    sums: &[f64],
+    bound: Degree,
+    criterion: Criterion,
+    scratch: &mut [f64],
+) -> Choice
+    requires { ⌜ (n ≤ length (now xs)) × (n ≤ length (now ys)) × (n ≤ length (now scratch)) × (272 ≤ length (now sums)) × (bound .0 ≤ 15) ⌝ }
+    ensures is { λ r. ⌜ r ≡ choiceOf criterion (now (sums .entry)) (rowsOf (samplesOf n (now (xs .entry)) (now (ys .entry)))) (curveCounts (bound .0)) ⌝ }
+    ensures within { λ _. ⌜ Within n (now (scratch .entry)) (now (scratch .exit)) ⌝ }
+{
+    let b = bound.0 + 1;
+    let mut solved = [false; 16];
+    let mut score = [0.0; 16];
+    let mut tests = 0;
+    for d in 0..b {
+        let t = trial(
+            xs,
+            ys,
+            n,
+            sums,
+            CoefficientCount(d + 1),
+            criterion,
+            &mut *scratch,
+        );
+        solved[d] = t.solved;
+        score[d] = t.score;
+        tests = tests + t.tests;
+    }
+    Choice {
+        chosen: choice::lowest(&solved, &score, b),
+        solved: choice::solved_of(&solved, &score, b),
+        tests,
+    }
+}

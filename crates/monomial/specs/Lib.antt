@@ -1,0 +1,5 @@
+-- Samples, their rows of term values, and the sums of document 01.
+pub mod Samples
+pub mod Rows
+pub mod Adding
+pub mod Sums

@@ -1,0 +1,41 @@
+-- Samples, and the columns that they are read from. Assumes nothing.
+use mathlib.Core.Path.{_≡_, ap, _∙_}
+use mathlib.Core.List.{List, [], _∷_, _++_, map}
+use Prim.Native.Nat.{ℕ, _+_, _≤_}
+use lib.ListN.{length, getD, drop}
+use lib.Ieee.{Float, nan}
+use Rattle.loops.specs.Places.{each, table, table-again, length-table, map-table, each-write}
+
+-- A sample is x and y.
+pub record Sample : Type 0 where
+  pub x : Float
+  pub y : Float
+
+-- the sample of place t of two columns
+abbrev pub sampleAt : List Float → List Float → ℕ → Sample
+sampleAt xs ys t = record { x = getD xs t nan; y = getD ys t nan }
+
+-- the samples of the first n places of two columns
+unfoldable pub samplesOf : ℕ → List Float → List Float → List Sample
+samplesOf n xs ys = table (sampleAt xs ys) n
+
+-- ---- laws
+
+pub length-samples : (n : ℕ) (xs ys : List Float) → length (samplesOf n xs ys) ≡ n
+unfolding samplesOf
+length-samples n xs ys = length-table (sampleAt xs ys) n
+
+-- one place more is one sample more at the end
+pub samples-again : (n : ℕ) (xs ys : List Float) → samplesOf (n + 1) xs ys ≡ samplesOf n xs ys ++ (sampleAt xs ys n ∷ [])
+unfolding samplesOf
+samples-again n xs ys = table-again (sampleAt xs ys) n
+
+-- what g makes of each sample
+pub map-samples : {B : Type 0} (g : Sample → B) (n : ℕ) (xs ys : List Float) → table (λ t. g (sampleAt xs ys t)) n ≡ map g (samplesOf n xs ys)
+unfolding samplesOf
+map-samples g n xs ys = map-table g (sampleAt xs ys) n
+
+-- n places are written with it
+pub each-samples : {B : Type 0} (g : Sample → B) (n : ℕ) (xs ys : List Float) (s : List B) → n ≤ length s
+    → each (λ t _. g (sampleAt xs ys t)) n s ≡ map g (samplesOf n xs ys) ++ drop n s
+each-samples g n xs ys s h = each-write (λ t. g (sampleAt xs ys t)) n s h ∙ ap (λ l. l ++ drop n s) (map-samples g n xs ys)

@@ -1,0 +1,105 @@
+// The fitted value, and the 272 sums that a fit is solved from: A[i][j] at 16i + j, g[i] at 256 + i.
+use basis::CoefficientCount;
+ghost use mathlib.Core.Path.{_≡_};
+ghost use mathlib.Core.List.{_++_};
+ghost use Prim.Native.Nat.{_+_, _≤_};
+ghost use lib.Ieee.{binary64, add};
+ghost use lib.ListN.{length, take, drop};
+ghost use Rattle.loops.specs.Places.{each};
+ghost use Rattle.value.specs.Numbers.{zeroF};
+ghost use Rattle.monomial.specs.Samples.{samplesOf};
+ghost use Rattle.monomial.specs.Rows.{rowOf, rowsOf, fitted as fittedF};
+ghost use Rattle.monomial.specs.Sums.{productOf, addRow, sumsOf};
+
+// Coefficient × term value, ascending, for the k coefficients.
+pub fn fitted(k: CoefficientCount, c: &[f64; 16], terms: &[f64; 16]) -> f64
+    requires { ⌜ k .0 ≤ 16 ⌝ }
+    ensures { λ r. ⌜ r ≡ fittedF (k .0) (now (c .entry)) (now (terms .entry)) ⌝ }
+{
+    let n = k.0;
+    let mut v = 0.0;
+    for j in 0..n {
+        v = v + c[j] * terms[j];
+    }
+    v
+}
+
+// Adds the products of two term values to the 256 places of A.
+fn add_matrix(sums: &mut [f64], terms: &[f64; 16])
+    requires { ⌜ 256 ≤ length (now sums) ⌝ }
+    ensures { λ _. ⌜ now (sums .exit) ≡ each (λ k v. add binary64 v (productOf (now (terms .entry)) zeroF k)) 256 (now (sums .entry)) ⌝ }
+{
+    for i in 0..16 {
+        let t = terms[i];
+        for j in 0..16 {
+            let at = 16 * i + j;
+            sums[at] = sums[at] + t * terms[j];
+        }
+    }
+}
+
+// Adds the products of a term value and y to the 16 places of g.
+fn add_right(g: &mut [f64], terms: &[f64; 16], y: f64)
+    requires { ⌜ 16 ≤ length (now g) ⌝ }
+    ensures { λ _. ⌜ now (g .exit) ≡ each (λ i v. add binary64 v (productOf (now (terms .entry)) y (256 + i))) 16 (now (g .entry)) ⌝ }
+{
+    for i in 0..16 {
+        g[i] = g[i] + terms[i] * y;
+    }
+}
+
+// Adds the products of a row to what stands at the 272 places.
+pub fn add_row(sums: &mut [f64], terms: &[f64; 16], y: f64)
+    requires { ⌜ 272 ≤ length (now sums) ⌝ }
+    ensures { λ _. ⌜ now (sums .exit) ≡ addRow (now (sums .entry)) (record { terms = now (terms .entry); y = y }) ⌝ }
+{
+    add_matrix(&mut *sums, terms);
+    add_right(&mut sums[256..], terms, y);
+}
+
+// Adds a sample's products to what stands at the 272 places.
+pub fn add_sample(sums: &mut [f64], x: f64, y: f64)
+    requires { ⌜ 272 ≤ length (now sums) ⌝ }
+    ensures { λ _. ⌜ now (sums .exit) ≡ addRow (now (sums .entry)) (rowOf (record { x = x; y = y })) ⌝ }
+{
+    let terms = value::powers(x);
+    add_row(&mut *sums, &terms, y);
+}
+
+// The 272 places become the sums over the first n places of the columns, folded afresh.
+pub fn fold_sums(xs: &[f64], ys: &[f64], n: usize, sums: &mut [f64])
+    requires { ⌜ 272 ≤ length (now sums) ⌝ }
+    requires { ⌜ (n ≤ length (now xs)) × (n ≤ length (now ys)) ⌝ }
+    ensures { λ _. ⌜ now (sums .exit) ≡ sumsOf (rowsOf (samplesOf n (now (xs .entry)) (now (ys .entry)))) ++ drop 272 (now (sums .entry)) ⌝ }
+{
+    for k in 0..272 {
+        sums[k] = 0.0;
+    }
+    for t in 0..n {
+        add_sample(&mut *sums, xs[t], ys[t]);
+    }
+}
+
+// The first 16 places become g over the first n places of the columns, folded afresh.
+fn fold_right(xs: &[f64], ys: &[f64], n: usize, g: &mut [f64])
+    requires { ⌜ 16 ≤ length (now g) ⌝ }
+    requires { ⌜ (n ≤ length (now xs)) × (n ≤ length (now ys)) ⌝ }
+    ensures { λ _. ⌜ now (g .exit) ≡ drop 256 (sumsOf (rowsOf (samplesOf n (now (xs .entry)) (now (ys .entry))))) ++ drop 16 (now (g .entry)) ⌝ }
+{
+    for k in 0..16 {
+        g[k] = 0.0;
+    }
+    for t in 0..n {
+        let terms = value::powers(xs[t]);
+        add_right(&mut *g, &terms, ys[t]);
+    }
+}
+
+// The 16 places of g are folded afresh over the first n places of the columns. A and all other places are untouched.
+pub fn refold_right(xs: &[f64], ys: &[f64], n: usize, sums: &mut [f64])
+    requires { ⌜ 272 ≤ length (now sums) ⌝ }
+    requires { ⌜ (n ≤ length (now xs)) × (n ≤ length (now ys)) ⌝ }
+    ensures { λ _. ⌜ now (sums .exit) ≡ take 256 (now (sums .entry)) ++ (drop 256 (sumsOf (rowsOf (samplesOf n (now (xs .entry)) (now (ys .entry))))) ++ drop 272 (now (sums .entry))) ⌝ }
+{
+    fold_right(xs, ys, n, &mut sums[256..]);
+}

@@ -1,0 +1,2 @@
+-- Lemmas for the proofs.
+pub mod Steps

@@ -1,0 +1,3 @@
+-- Document 01's solution and inverse of the corner of A.
+pub mod Solve
+pub mod Laws

@@ -1,0 +1,163 @@
+// The solution and the inverse of the k by k corner of A, by elimination and back substitution, for every content of the lent sums.
+// They stand in for polyfit's SVD in `solve_matrix` and for its inverse.
+use basis::CoefficientCount;
+ghost use mathlib.Core.Path.{_≡_};
+ghost use Prim.Native.Nat.{_≤_, _<_};
+ghost use lib.ListN.{length};
+ghost use Rattle.solve.specs.Solve.{eliminate as eliminateF, back, matrixOf, rightOf, solve as solveF, lift as liftF, putColumn, inverse as inverseF};
+
+// 2 to the power −48.
+const PIVOT_RATIO: f64 = f64::from_bits(0x3CF0_0000_0000_0000);
+
+// 2 to the power −52.
+const EPSILON: f64 = f64::from_bits(0x3CB0_0000_0000_0000);
+
+// Eliminates on the k by k corner of m, with b beside it, and is abandoned at the first pivot that is not greater than 2⁻⁴⁸ × its
+// starting value. Answers how many pivots held.
+pub fn eliminate(
+    start: &[f64; 256],
+    k: CoefficientCount,
+    m: &mut [f64; 256],
+    b: &mut [f64; 16],
+) -> usize
+    requires { ⌜ k .0 ≤ 16 ⌝ }
+    ensures { λ held. ⌜ record { at = held; state = record { m = now (m .exit); b = now (b .exit) } } ≡ eliminateF (now (start .entry)) (k .0) (record { m = now (m .entry); b = now (b .entry) }) ⌝ }
+{
+    let n = k.0;
+    let mut p = 0;
+    'pivots: while p < n {
+        let pp = 16 * p + p;
+        let least = PIVOT_RATIO * start[pp];
+        if !(m[pp] > least) {
+            break 'pivots;
+        }
+        'rows: for r in p + 1..n {
+            let f = m[16 * r + p] / m[pp];
+            'columns: for c in p + 1..n {
+                let at = 16 * r + c;
+                m[at] = m[at] - f * m[16 * p + c];
+            }
+            b[r] = b[r] - f * b[p];
+        }
+        p += 1;
+    }
+    p
+}
+
+// From the last row of m up, b becomes the k coefficients.
+pub fn back_substitution(k: CoefficientCount, m: &[f64; 256], b: &mut [f64; 16])
+    requires { ⌜ k .0 ≤ 16 ⌝ }
+    ensures { λ _. ⌜ now (b .exit) ≡ back (k .0) (now (m .entry)) (now (b .entry)) ⌝ }
+{
+    let n = k.0;
+    for i in 0..n {
+        let r = n - 1 - i;
+        let mut v = b[r];
+        for c in r + 1..n {
+            v = v - m[16 * r + c] * b[c];
+        }
+        b[r] = v / m[16 * r + r];
+    }
+}
+
+// The 256 places of A.
+fn matrix_of(sums: &[f64]) -> [f64; 256]
+    requires { ⌜ 256 ≤ length (now sums) ⌝ }
+    ensures { λ r. ⌜ r ≡ matrixOf (now (sums .entry)) ⌝ }
+{
+    let mut a = [0.0; 256];
+    for i in 0..256 {
+        a[i] = sums[i];
+    }
+    a
+}
+
+// The first k places of g, then +0.
+fn right_of(sums: &[f64], k: CoefficientCount) -> [f64; 16]
+    requires { ⌜ (272 ≤ length (now sums)) × (k .0 ≤ 16) ⌝ }
+    ensures { λ r. ⌜ r ≡ rightOf (now (sums .entry)) (k .0) ⌝ }
+{
+    let n = k.0;
+    let mut b = [0.0; 16];
+    for i in 0..n {
+        b[i] = sums[256 + i];
+    }
+    b
+}
+
+// How many pivots held, and the k coefficients if all did; +0 in every other place.
+pub struct Solved {
+    pub held: usize,
+    pub c: [f64; 16],
+}
+
+// The k coefficients, from the corner of A and from g.
+pub fn solve(sums: &[f64], k: CoefficientCount) -> Solved
+    requires { ⌜ (272 ≤ length (now sums)) × (k .0 ≤ 16) ⌝ }
+    ensures { λ r. ⌜ r ≡ solveF (now (sums .entry)) (k .0) ⌝ }
+{
+    let a = matrix_of(sums);
+    let mut m = a;
+    let mut b = right_of(sums, k);
+    let held = eliminate(&a, k, &mut m, &mut b);
+    if held < k.0 {
+        return Solved { held, c: [0.0; 16] };
+    }
+    back_substitution(k, &m, &mut b);
+    Solved { held, c: b }
+}
+
+// Adds 2⁻⁵² to each diagonal place of the corner.
+fn lift(k: CoefficientCount, m: &mut [f64; 256])
+    requires { ⌜ k .0 ≤ 16 ⌝ }
+    ensures { λ _. ⌜ now (m .exit) ≡ liftF (k .0) (now (m .entry)) ⌝ }
+{
+    let n = k.0;
+    for i in 0..n {
+        let at = 16 * i + i;
+        m[at] = m[at] + EPSILON;
+    }
+}
+
+// Column j of v becomes the first k places of b.
+fn put_column(k: CoefficientCount, j: usize, b: &[f64; 16], v: &mut [f64; 256])
+    requires { ⌜ (k .0 ≤ 16) × (j < 16) ⌝ }
+    ensures { λ _. ⌜ now (v .exit) ≡ putColumn (k .0) j (now (b .entry)) (now (v .entry)) ⌝ }
+{
+    let n = k.0;
+    for i in 0..n {
+        v[16 * i + j] = b[i];
+    }
+}
+
+// How many columns of the inverse are made, all k unless a pivot fails, and the inverse; +0 in every other place.
+pub struct Inverted {
+    pub made: usize,
+    pub v: [f64; 256],
+}
+
+// The inverse of the corner of A with 2⁻⁵² first added to each diagonal place, one unit column after the other.
+pub fn inverse(sums: &[f64], k: CoefficientCount) -> Inverted
+    requires { ⌜ (256 ≤ length (now sums)) × (k .0 ≤ 16) ⌝ }
+    ensures { λ r. ⌜ r ≡ inverseF (now (sums .entry)) (k .0) ⌝ }
+{
+    let n = k.0;
+    let a = matrix_of(sums);
+    let mut l = a;
+    lift(k, &mut l);
+    let start = l;
+    let mut v = [0.0; 256];
+    let mut j = 0;
+    'columns: while j < n {
+        let mut m = l;
+        let mut b = [0.0; 16];
+        b[j] = 1.0;
+        if eliminate(&start, k, &mut m, &mut b) < n {
+            break 'columns;
+        }
+        back_substitution(k, &m, &mut b);
+        put_column(k, j, &b, &mut v);
+        j += 1;
+    }
+    Inverted { made: j, v }
+}

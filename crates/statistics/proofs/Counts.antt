@@ -1,0 +1,200 @@
+-- Counts of bits over a list of doubles with no NaN and no sign: how they grow along a list, and what they tell of a place of the list in order.
+-- Assumes nothing.
+use mathlib.Core.Path.{_≡_, refl, sym, ap, subst, _∙_}
+use mathlib.Core.Bool.{Bool, true, false, not, _&&_}
+use mathlib.Core.List.{List, [], _∷_, _++_, map, map-append}
+use mathlib.Core.Logic.{_⊎_, inl, inr}
+use Prim.Native.Nat.{ℕ, suc, _+_, _≤_, _<_, zero-le}
+use native.Mathlib.Nat.{le-refl, le-trans, zero-add, add-comm}
+use native.Mathlib.Numerals.{add-one}
+use native.Mathlib.Omega.{arith}
+use borrow.Author.Tests.{ltb-true, ltb-false, leb-true, leb-false, le-leb, lt-leb}
+use lib.Dec.{T, leb, ltb, le→leb, nleb→lt}
+use lib.ListN.{length, getD, take}
+use lib.Seq.{take-suc}
+use lib.Ieee.{Float, nan, binary64, sub, toBits, ofBits}
+use lib.Ieee.Bits.{ofBits-toBits}
+use Rattle.loops.specs.All.{All, all-at}
+use Rattle.loops.specs.Cases.{by-test, either}
+use Rattle.loops.specs.Fold.{fold, fold-map-again}
+use Rattle.value.specs.Absolute.{absF}
+use Rattle.value.specs.Keys.{bits-le, plain-fits}
+use Rattle.statistics.specs.Medians.{sort, deviations, Plain}
+use Rattle.statistics.specs.Counting.{one, count, upto, under, AtPlace, nearer, leastFrom}
+use Rattle.statistics.proofs.Sorting.{place, all-sort, length-sort}
+
+-- ---- counts along a list
+
+count-snoc : (p : Float → Bool) (l : List Float) (x : Float) → count p (l ++ (x ∷ [])) ≡ count p l + one (p x)
+unfolding count
+count-snoc p [] x = add-comm (one (p x)) 0
+count-snoc p (y ∷ ys) x = let h = count-snoc p ys x in omega arith
+
+count-again : (p : Float → Bool) (f : Float → Float) (l : List Float) (d : Float) (i : ℕ) → i < length l
+    → count p (map f (take (i + 1) l)) ≡ count p (map f (take i l)) + one (p (f (getD l i d)))
+count-again p f l d i h =
+    ap (λ m. count p (map f m)) (ap (λ k. take k l) (add-one i) ∙ take-suc l i d h) ∙ ap (count p) (map-append f (take i l) (getD l i d ∷ []))
+    ∙ count-snoc p (map f (take i l)) (f (getD l i d))
+
+-- one turn of a loop over deviations: k is the bits of the one at i
+module _ (d : Float) (a : List Float) (i : ℕ) (h : i < length a) (k : ℕ) (e : k ≡ toBits binary64 (absF (sub binary64 (getD a i nan) d))) where
+  pub count-turn : (b found t : ℕ) → found ≡ count (upto b) (deviations d (take i a)) → t ≡ one (leb k b) → found + t ≡ count (upto b) (deviations d (take (i + 1) a))
+  unfolding deviations
+  count-turn b found t q u = rw (q, u, e) (sym (count-again (upto b) (λ x. absF (sub binary64 x d)) a nan i h))
+
+  pub least-turn : (b v r : ℕ) → v ≡ leastFrom b (deviations d (take i a)) → r ≡ nearer b k v → r ≡ leastFrom b (deviations d (take (i + 1) a))
+  unfolding deviations leastFrom
+  least-turn b v r q u =
+      rw (u, q, e) (sym (fold-map-again (λ w x. nearer b (toBits binary64 x) w) 0x7FF0_0000_0000_0000 (λ x. absF (sub binary64 x d)) a nan i h))
+
+-- a test that passes wherever another does counts as many
+one-mono : (a b : Bool) → (T a → T b) → one a ≤ one b
+one-mono true true f = omega arith
+one-mono true false f = absurd (f tt)
+one-mono false b f = zero-le
+
+count-mono : (p q : Float → Bool) (l : List Float) → ((x : Float) → T (p x) → T (q x)) → count p l ≤ count q l
+unfolding count
+count-mono p q [] f = zero-le
+count-mono p q (x ∷ xs) f = let a = one-mono (p x) (q x) (f x) in let b = count-mono p q xs f in omega arith
+
+-- what is under b + 1 is up to b
+pub under-next : (b : ℕ) (l : List Float) → count (under (b + 1)) l ≡ count (upto b) l
+unfolding count
+under-next b [] = refl
+under-next b (x ∷ xs) = rw (next (toBits binary64 x) (leb (toBits binary64 x) b) refl) (ap (λ (n : ℕ). one (leb (toBits binary64 x) b) + n) (under-next b xs))
+  where
+    next : (k : ℕ) (t : Bool) → leb k b ≡ t → not (leb (b + 1) k) ≡ t
+    next k true q = let h = leb-true k b q in rw (lt-leb (b + 1) k (omega arith))
+    next k false q = let h = leb-false k b q in rw (le-leb (b + 1) k (omega arith))
+
+pub under-zero : (l : List Float) → count (under 0) l ≡ 0
+unfolding count
+under-zero [] = refl
+under-zero (x ∷ xs) = rw (le-leb 0 (toBits binary64 x) zero-le) (zero-add (count (under 0) xs) ∙ under-zero xs)
+
+-- no bits are above +infinity's
+pub upto-all : (l : List Float) → All Plain l → count (upto 0x7FF0_0000_0000_0000) l ≡ length l
+unfolding count
+upto-all [] a = refl
+upto-all (x ∷ xs) a =
+    rw (le-leb (toBits binary64 x) 0x7FF0_0000_0000_0000 (bits-le x (a .0))) (let h = upto-all xs (a .1) in omega arith)
+
+-- ---- the least bits that are b or above
+
+and-left : (a b : Bool) → a && b ≡ true → a ≡ true
+and-left true b h = refl
+and-left false b h = h
+
+and-right : (a b : Bool) → a && b ≡ true → b ≡ true
+and-right true b h = h
+and-right false b h = absurd (let z : _≡_ {A = ℕ} 0 1 = cc in omega arith)
+
+and-not : (a b : Bool) → a && b ≡ false → a ≡ true → b ≡ false
+and-not true b h q = h
+and-not false b h q = absurd (let z : _≡_ {A = ℕ} 0 1 = cc in omega arith)
+
+-- what a turn makes of v: v itself, or the bits k, which are then b or above and below v
+record Turn (b k v r : ℕ) : Type 0 where
+  low : r ≤ v
+  over : b ≤ k → r ≤ k
+  kind : (r ≡ v) ⊎ ((r ≡ k) × (b ≤ k))
+
+turn : (b k v : ℕ) → Turn b k v (nearer b k v)
+unfolding nearer
+turn b k v =
+    by-test (leb b k && ltb k v)
+    (λ t. rw t
+    (let p = leb-true b k (and-left (leb b k) (ltb k v) t) in let q = ltb-true k v (and-right (leb b k) (ltb k v) t) in
+    record { low = omega arith; over = λ _. le-refl k; kind = inr (refl, p) }))
+    (λ t. rw t
+    (record { low = le-refl v; over = λ h. ltb-false k v (and-not (leb b k) (ltb k v) t (le-leb b k h)); kind = inl refl }))
+
+-- the least from b on, a run that begins at v
+leastOver : ℕ → ℕ → List Float → ℕ
+leastOver b v l = fold (λ u x. nearer b (toBits binary64 x) u) v l
+
+least-low : (b v : ℕ) (l : List Float) → leastOver b v l ≤ v
+unfolding leastOver fold
+least-low b v [] = le-refl v
+least-low b v (x ∷ xs) = le-trans (least-low b (nearer b (toBits binary64 x) v) xs) (turn b (toBits binary64 x) v .low)
+
+-- none of the list lies from b up to below it
+least-under : (b v : ℕ) (l : List Float) → count (under (leastOver b v l)) l ≤ count (under b) l
+unfolding leastOver fold count
+least-under b v [] = zero-le
+least-under b v (x ∷ xs) =
+    let k = toBits binary64 x in
+    let w = nearer b k v in
+    let r = leastOver b w xs in
+    let ih = least-under b w xs in
+    let h = one-mono (under r x) (under b x)
+    (λ t. under-true b k (lesser b k r (λ g. le-trans (least-low b w xs) (turn b k v .over g)) (nleb→lt r k t))) in
+    omega (arith, ih, h)
+  where
+    lesser : (b k r : ℕ) → (b ≤ k → r ≤ k) → k < r → k < b
+    lesser b k r f q = either b k (λ h. absurd (let z = f h in omega arith)) (λ h. h)
+
+    under-true : (b k : ℕ) → k < b → T (not (leb b k))
+    under-true b k h = subst (λ (t : Bool). T (not t)) (sym (lt-leb b k h)) tt
+
+-- it is where the run began, or one more than are under b are up to it
+least-reached : (b v : ℕ) (l : List Float) → b ≤ suc v
+    → (b ≤ suc (leastOver b v l)) × ((leastOver b v l ≡ v) ⊎ (count (under b) l < count (upto (leastOver b v l)) l))
+unfolding leastOver fold count
+least-reached b v [] h = (h, inl refl)
+least-reached b v (x ∷ xs) h =
+    let k = toBits binary64 x in
+    let w = nearer b k v in
+    let r = leastOver b w xs in
+    let ih = least-reached b w xs (from-turn b k v w h (turn b k v .kind)) in
+    let more = count-mono (under b) (upto r) xs (λ y t. le→leb (toBits binary64 y) r (let g = nleb→lt b (toBits binary64 y) t in omega (arith, g, ih .0))) in
+    let same = one-mono (under b x) (upto r x) (λ t. le→leb k r (let g = nleb→lt b k t in omega (arith, g, ih .0))) in (
+      ih .0,
+      joined b k v w r (one (under b x)) (one (upto r x)) (count (under b) xs) (count (upto r) xs) more same
+          (λ g. ap (λ (t : Bool). one (not t)) (le-leb b k g)) (λ g. ap one (le-leb k r g)) (turn b k v .kind) (ih .1),
+    )
+  where
+    from-turn : (b k v w : ℕ) → b ≤ suc v → (w ≡ v) ⊎ ((w ≡ k) × (b ≤ k)) → b ≤ suc w
+    from-turn b k v w h (inl e) = omega arith
+    from-turn b k v w h (inr e) = omega (arith, e .0, e .1)
+
+    joined : (b k v w r p q m n : ℕ) → m ≤ n → p ≤ q → (b ≤ k → p ≡ 0) → (k ≤ r → q ≡ 1) → (w ≡ v) ⊎ ((w ≡ k) × (b ≤ k)) → (r ≡ w) ⊎ (m < n)
+        → (r ≡ v) ⊎ (p + m < q + n)
+    joined b k v w r p q m n mn pq f g (inl e) (inl z) = inl (z ∙ e)
+    joined b k v w r p q m n mn pq f g (inr e) (inl z) =
+        inr (let a = f (e .1) in let d = g (omega (arith, z, e .0)) in omega (arith, a, d, mn))
+    joined b k v w r p q m n mn pq f g e (inr z) = inr (omega arith)
+
+-- ---- places
+
+-- where m are under b, the least from b on stands at place m
+pub least-place : (l : List Float) → All Plain l → (m b : ℕ) → b ≤ 0x7FF0_0000_0000_0001 → count (under b) l ≡ m → m < length l → AtPlace l m (leastFrom b l)
+unfolding leastFrom leastOver
+least-place l a m b s e h =
+    let r = leastOver b 0x7FF0_0000_0000_0000 l in
+    record {
+      small = least-low b 0x7FF0_0000_0000_0000 l;
+      below = le-trans (least-under b 0x7FF0_0000_0000_0000 l) (omega arith);
+      reached = ends r (least-reached b 0x7FF0_0000_0000_0000 l s .1);
+    }
+  where
+    ends : (r : ℕ) → (r ≡ 0x7FF0_0000_0000_0000) ⊎ (count (under b) l < count (upto r) l) → m < count (upto r) l
+    ends r (inl q) = rw (q, upto-all l a) h
+    ends r (inr q) = omega arith
+
+-- the next place
+pub next-place : (l : List Float) → All Plain l → (m b : ℕ) → AtPlace l m b → m + 1 < length l → count (upto b) l ≤ m + 1 → AtPlace l (m + 1) (leastFrom (b + 1) l)
+next-place l a m b p h g =
+    let s = p .small in let q = p .reached in let u = under-next b l in
+    least-place l a (m + 1) (b + 1) (omega arith) (omega arith) h
+
+pub same-place : (l : List Float) (m b : ℕ) → AtPlace l m b → m + 1 < count (upto b) l → AtPlace l (m + 1) b
+same-place l m b p h = record { small = p .small; below = le-trans (p .below) (omega arith); reached = h }
+
+-- the double at a place
+pub placed : (l : List Float) → All Plain l → (m b : ℕ) → AtPlace l m b → m < length l → ofBits binary64 b ≡ getD (sort l) m nan
+placed l a m b p h =
+    ap (ofBits binary64) (sym (place l a b m nan (p .below) (p .reached)))
+    ∙ ofBits-toBits binary64 (getD (sort l) m nan)
+    (plain-fits (getD (sort l) m nan) (all-at Plain (sort l) m nan (all-sort Plain l a) (rw (← length-sort l) at h)))

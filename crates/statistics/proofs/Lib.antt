@@ -1,0 +1,5 @@
+-- Lemmas that belong to no one function.
+pub mod Roots
+pub mod Sorting
+pub mod Counts
+pub mod Deviations

@@ -1,0 +1,39 @@
+-- What the code counts to find the numbers in the middle without a sort. Not needed to read a public promise. Definitions only.
+-- The bits of doubles with no sign are in the order of the doubles, so a place of the list in order is told by two counts of bits.
+use mathlib.Core.Bool.{Bool, true, false, cond, not, _&&_}
+use mathlib.Core.List.{List, [], _∷_}
+use Prim.Native.Nat.{ℕ, _+_, _≤_, _<_}
+use lib.Dec.{leb, ltb}
+use lib.Ieee.{Float, binary64, toBits}
+use Rattle.loops.specs.Fold.{fold}
+
+abbrev pub one : Bool → ℕ
+one true = 1
+one false = 0
+
+-- how many pass a test
+unfoldable pub count : (Float → Bool) → List Float → ℕ
+count p [] = 0
+count p (x ∷ xs) = one (p x) + count p xs
+
+-- whether a double's bits are at most b
+abbrev pub upto : ℕ → Float → Bool
+upto b x = leb (toBits binary64 x) b
+
+-- whether they are below b
+abbrev pub under : ℕ → Float → Bool
+under b x = not (leb b (toBits binary64 x))
+
+-- b is the bits at place m of the list in order, from 0: at most m are under b, and more than m are up to b. +infinity has the greatest bits.
+pub record AtPlace (l : List Float) (m b : ℕ) : Type 0 where
+  pub small : b ≤ 0x7FF0_0000_0000_0000
+  pub below : count (under b) l ≤ m
+  pub reached : m < count (upto b) l
+
+-- of k and v: k where it is b or above, and below v
+unfoldable pub nearer : ℕ → ℕ → ℕ → ℕ
+nearer b k v = cond (leb b k && ltb k v) k v
+
+-- the least bits that are b or above, and else +infinity's
+unfoldable pub leastFrom : ℕ → List Float → ℕ
+leastFrom b l = fold (λ v x. nearer b (toBits binary64 x) v) 0x7FF0_0000_0000_0000 l

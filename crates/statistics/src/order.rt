@@ -1,0 +1,131 @@
+// Order statistics with no sort and no write: what stands at a place of the numbers in order is found by counting bit patterns.
+// The numbers are the deviations |x − d| of the first n of a from d. They are worked out anew in each pass, and not stored.
+ghost use mathlib.Core.Path.{_≡_};
+ghost use Prim.Native.Nat.{_+_, _≤_, _<_};
+ghost use lib.Dec.{leb};
+ghost use lib.ListN.{length, take};
+ghost use lib.Ieee.{binary64, sub, toBits};
+ghost use Rattle.loops.specs.All.{All};
+ghost use Rattle.value.specs.Absolute.{absF};
+ghost use Rattle.statistics.specs.Medians.{Plain, deviations, midpoint as midpointF, medianOf};
+ghost use Rattle.statistics.specs.Counting.{one, count, upto, AtPlace, nearer as nearerF, leastFrom};
+
+// The bits of |x − d|.
+fn key(x: f64, d: f64) -> u64
+    requires { ⌜ Plain (absF (sub binary64 x d)) ⌝ }
+    ensures { λ r. ⌜ r ≡ toBits binary64 (absF (sub binary64 x d)) ⌝ }
+{
+    let v = x - d;
+    f64::to_bits(v) % 0x8000_0000_0000_0000
+}
+
+// 1 where k is at most b, else 0.
+fn tally(k: u64, b: u64) -> usize
+    ensures { λ r. ⌜ (r ≡ one (leb k b)) × (r ≤ 1) ⌝ }
+{
+    if k <= b {
+        return 1;
+    }
+    0
+}
+
+// How many have bits up to b.
+fn count_upto(a: &[f64], n: usize, d: f64, b: u64) -> usize
+    requires { ⌜ (n ≤ length (now a)) × All Plain (deviations d (take n (now a))) ⌝ }
+    ensures { λ r. ⌜ r ≡ count (upto b) (deviations d (take n (now (a .entry)))) ⌝ }
+{
+    let mut found: usize = 0;
+    for i in 0..n {
+        found = found + tally(key(a[i], d), b);
+    }
+    found
+}
+
+// Of k and v: k where it is b or above, and below v.
+fn nearer(b: u64, k: u64, v: u64) -> u64
+    ensures { λ r. ⌜ r ≡ nearerF b k v ⌝ }
+{
+    if (b <= k) & (k < v) {
+        return k;
+    }
+    v
+}
+
+// The least bits that are b or above.
+fn least_from(a: &[f64], n: usize, d: f64, b: u64) -> u64
+    requires { ⌜ (n ≤ length (now a)) × All Plain (deviations d (take n (now a))) ⌝ }
+    ensures { λ r. ⌜ r ≡ leastFrom b (deviations d (take n (now (a .entry)))) ⌝ }
+{
+    let mut v: u64 = 0x7FF0_0000_0000_0000;
+    for i in 0..n {
+        v = nearer(b, key(a[i], d), v);
+    }
+    v
+}
+
+// The bits at place m, from 0. They lie from lo to hi, and `below` of the bits are under lo. This range is halved until m are under lo, so that the least
+// from lo on stands at place m, or until lo is hi: 63 times at the most.
+fn select(a: &[f64], n: usize, d: f64, m: usize) -> u64
+    requires { ⌜ (n ≤ length (now a)) × All Plain (deviations d (take n (now a))) × (m < n) ⌝ }
+    ensures { λ r. ⌜ AtPlace (deviations d (take n (now (a .entry)))) m r ⌝ }
+{
+    let mut lo: u64 = 0;
+    let mut hi: u64 = 0x7FF0_0000_0000_0000;
+    let mut below: usize = 0;
+    while lo < hi {
+        if below == m {
+            return least_from(a, n, d, lo);
+        }
+        let mid = lo + (hi - lo) / 2;
+        let found = count_upto(a, n, d, mid);
+        if m < found {
+            hi = mid;
+        } else {
+            lo = mid + 1;
+            below = found;
+        }
+    }
+    hi
+}
+
+// The bits at place m + 1, from those at place m: the same, or the least above them.
+fn following(a: &[f64], n: usize, d: f64, m: usize, b: u64) -> u64
+    requires { ⌜ (n ≤ length (now a)) × All Plain (deviations d (take n (now a))) × (m + 1 < n) × AtPlace (deviations d (take n (now a))) m b ⌝ }
+    ensures { λ r. ⌜ AtPlace (deviations d (take n (now (a .entry)))) (m + 1) r ⌝ }
+{
+    let mut found: usize = 0;
+    let mut v: u64 = 0x7FF0_0000_0000_0000;
+    for i in 0..n {
+        let k = key(a[i], d);
+        found = found + tally(k, b);
+        v = nearer(b + 1, k, v);
+    }
+    if m + 1 < found {
+        return b;
+    }
+    v
+}
+
+// The midpoint of the two middle values.
+fn midpoint(low: f64, high: f64) -> f64
+    ensures { λ r. ⌜ r ≡ midpointF low high ⌝ }
+{
+    (low + high) / 2.0
+}
+
+// The median of the deviations.
+pub fn median_from(a: &[f64], n: usize, d: f64) -> f64
+    requires { ⌜ (n ≤ length (now a)) × All Plain (deviations d (take n (now a))) ⌝ }
+    ensures { λ r. ⌜ r ≡ medianOf (deviations d (take n (now (a .entry)))) ⌝ }
+{
+    if n == 0 {
+        return 0.0;
+    }
+    let m = n / 2;
+    if n % 2 == 1 {
+        return f64::from_bits(select(a, n, d, m));
+    }
+    let low = select(a, n, d, m - 1);
+    let high = following(a, n, d, m - 1, low);
+    midpoint(f64::from_bits(low), f64::from_bits(high))
+}
