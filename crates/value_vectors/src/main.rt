@@ -2,7 +2,7 @@
 //
 // Standard input has a line of 53 bytes for each: `r` for a square root or `l` for ln, then x, the right result and, for
 // ln, a library's result, each as 16 hexadecimal digits in capitals. `judge/src/bin/vectors.rs` makes them:
-// `cargo run --release --bin vectors > crates/value_vectors/stdin`.
+// `cargo run --release -p judge --bin vectors > crates/value_vectors/stdin`.
 ghost use Prim.Native.Nat.{_+_, _<_, _≤_};
 ghost use lib.ListN.{length};
 

@@ -1,0 +1,521 @@
+//! Counts what the runs made, as the judge sees it, and names what never happened.
+
+use std::collections::{BTreeMap, BTreeSet};
+
+use judge::fit::{self, Criterion, Settings};
+use judge::numbers::bits;
+use judge::refusals::{Conditions, Lengths};
+use judge::solve::inverse;
+use judge::statistics::{
+    max_degree, median, median_absolute_deviation, Confidence, DegreeBound, Tolerance, HUBER_CONST,
+};
+use judge::sums::{a, folded_afresh, PLACES, TERMS};
+use judge::Sample;
+
+use crate::call::{Answer, Call};
+use crate::memory::Memory;
+use crate::run::passes_nine;
+
+/// One call, and what came of it.
+pub struct Seen<'a> {
+    pub call: &'a Call,
+    pub lengths: &'a Lengths,
+    pub count: usize,
+    pub samples: Vec<Sample>,
+    pub conditions: Conditions,
+    pub answer: Answer,
+    pub memory: &'a Memory,
+    pub own_sums: bool,
+    pub by_reference: bool,
+}
+
+#[derive(Default)]
+pub struct Coverage {
+    counts: BTreeMap<String, u64>,
+    /// Confidences and degrees of freedom, 30 for more, with a term just below and above the score.
+    beside: BTreeSet<(&'static str, usize, bool)>,
+    pub calls: u64,
+    pub by_reference: u64,
+}
+
+/// What each call may answer, besides being let through.
+const REFUSALS: [(&str, &[u8]); 10] = [
+    ("open", &[1]),
+    ("add", &[1, 4, 5]),
+    ("correct", &[1, 4, 6]),
+    ("withdraw", &[1, 6]),
+    ("add_frame", &[1, 2, 3, 4, 5]),
+    ("fit", &[1, 4, 7, 8, 10]),
+    ("report", &[1, 4, 7, 8, 11, 12]),
+    ("validate", &[1, 4, 7, 8, 10, 11]),
+    ("band", &[1, 4, 7, 8, 9, 10, 12]),
+    ("reader", &[2, 3]),
+];
+
+/// Pairs that cannot both hold: without samples no column value is below the count, and a bound is
+/// then 0.
+const IMPOSSIBLE_PAIRS: [(&str, u8, u8); 2] = [("fit", 4, 7), ("report", 7, 8)];
+
+/// Calls that read the fit, each with the refusals that polyfit can speak of.
+const BY_REFERENCE: [(&str, &[u8]); 4] =
+    [("fit", &[10]), ("report", &[11, 12]), ("validate", &[10, 11]), ("band", &[10, 12])];
+
+const CONFIDENCES: [&str; 7] = ["P80", "P90", "P95", "P98", "P99", "P999", "Custom"];
+const FREEDOMS: [&str; 3] = ["df 0", "df 1 to 29", "df 30 or more"];
+const TOLERANCES: [&str; 4] = ["none", "absolute", "variance", "measurement"];
+const BOUNDS: [&str; 4] = ["Conservative", "Relaxed", "Aggressive", "Custom"];
+const CRITERIA: [&str; 2] = ["Aic", "Bic"];
+
+/// Memory whose length is judged, and by which calls.
+const LENGTHS: [(&str, &[&str]); 8] = [
+    (
+        "sums",
+        &["open", "add", "correct", "withdraw", "add_frame", "fit", "report", "validate", "band"],
+    ),
+    ("scratch", &["fit", "report", "validate", "band"]),
+    ("coefficients", &["fit", "report", "validate"]),
+    ("errors", &["report"]),
+    ("pruned", &["report"]),
+    ("lower", &["report"]),
+    ("upper", &["report"]),
+    ("outlier", &["report"]),
+];
+
+/// Everything else that must happen.
+const EVENTS: [&str; 49] = [
+    "report: 11 with no degree solved",
+    "report: 11 with degrees solved",
+    "report: degree 0 unsolved, a higher one chosen",
+    "report: an unsolved degree below a solved one",
+    "report: chosen does not have the least score",
+    "report: chosen is exactly 2 above the least",
+    "report: outliers",
+    "report: no outliers",
+    "report: every sample an outlier",
+    "report: pruned terms",
+    "report: pruned terms at df 0",
+    "report: a positive term kept",
+    "report: a term below zero kept though its t is small",
+    "report: NaN in a band",
+    "report: infinity in a band",
+    "report: a NaN error",
+    "report: a -0 error",
+    "report: an infinite error",
+    "report: a +0 error",
+    "report: a -0 coefficient",
+    "report: correction term of the AIC used",
+    "report: correction term of the AIC not used",
+    "report: square losses",
+    "report: linear losses",
+    "report: infinite median of sizes",
+    "band: 9 before 10",
+    "band: 9 before 12",
+    "band: NaN",
+    "band: infinity",
+    "band: at the least x",
+    "band: at the greatest x",
+    "band: between",
+    "validate: leave one out",
+    "validate: the last fold takes a rest",
+    "validate: a degree with solved and unsolved folds",
+    "validate: a degree without a solved fold",
+    "samples: -0",
+    "samples: subnormal",
+    "samples: above 1e308",
+    "samples: equal x",
+    "samples: x near 2000",
+    "sums: not the ledger's, fit answered",
+    "sums: not the ledger's, report answered",
+    "sums: not the ledger's, validate answered",
+    "sums: not the ledger's, band answered",
+    "sums: not symmetric, report answered",
+    "count: above capacity",
+    "count: above 4,096 in longer columns",
+    "count: 4,096 in longer columns",
+];
+
+/// Six confidences; df 1 to 29 by the table, 30 and more by the z score.
+const T_SCORES: usize = 6 * 30;
+
+const COUNTS: [usize; 4] = [1, 2, 3, 4096];
+
+impl Coverage {
+    fn note(&mut self, key: impl Into<String>) {
+        *self.counts.entry(key.into()).or_default() += 1;
+    }
+
+    fn note_if(&mut self, holds: bool, key: &str) {
+        if holds {
+            self.note(key);
+        }
+    }
+
+    /// Everything that must have happened, by name.
+    fn required() -> Vec<String> {
+        let mut keys = required_refusals();
+        keys.extend(required_settings());
+        keys.extend((0..=TERMS).map(|number| format!("solved degrees: {number}")));
+        keys.extend((0..TERMS).map(|degree| format!("chosen degree: {degree}")));
+        keys.extend(COUNTS.map(|n| format!("samples: {n}")));
+        keys.extend(EVENTS.map(String::from));
+        for (memory, calls) in LENGTHS {
+            for call in calls {
+                for fit in ["one too short", "exact", "with places past the end"] {
+                    keys.push(format!("length: {call}, {memory} {fit}"));
+                }
+            }
+        }
+        keys
+    }
+
+    /// What never happened.
+    pub fn missing(&self) -> Vec<String> {
+        let mut keys = Self::required();
+        keys.retain(|key| !self.counts.contains_key(key));
+        let unmet = 2 * T_SCORES - self.beside.len();
+        if unmet > 0 {
+            keys.push(format!("{unmet} sides of t scores"));
+        }
+        keys
+    }
+
+    pub fn print(&self) {
+        for key in Self::required() {
+            println!("{:>9}  {key}", self.counts.get(&key).copied().unwrap_or(0));
+        }
+        println!(
+            "{:>9}  sides of {T_SCORES} t scores, a term just below or above",
+            self.beside.len()
+        );
+    }
+
+    pub fn note_call(&mut self, seen: &Seen) {
+        self.calls += 1;
+        let name = seen.call.name();
+        let outcome = match seen.answer {
+            Answer::Refused(number) => format!("refused by {number}"),
+            _ => "answered".to_string(),
+        };
+        self.note(format!("{name}: {outcome}"));
+        if seen.by_reference {
+            self.by_reference += 1;
+            self.note(format!("{name} by polyfit: {outcome}"));
+        }
+        self.note_pairs(name, &seen.conditions);
+        self.note_outside(seen);
+        self.note_lengths(seen);
+        self.note_counts(seen);
+        if passes_nine(&seen.answer) {
+            self.note_reading(seen);
+        }
+    }
+
+    fn note_pairs(&mut self, name: &str, conditions: &Conditions) {
+        let held: Vec<u8> = conditions.iter().filter(|c| c.1).map(|c| c.0).collect();
+        for (i, first) in held.iter().enumerate() {
+            for second in &held[i + 1..] {
+                self.note(format!("{name}: {first} before {second}"));
+            }
+        }
+    }
+
+    /// A band refused by 9 whose fit would have been refused by 10 or 12.
+    fn note_outside(&mut self, seen: &Seen) {
+        let (Call::Band { degree, .. }, Answer::Refused(9)) = (seen.call, &seen.answer) else {
+            return;
+        };
+        let sums = &seen.memory.sums;
+        self.note_if(fit::solved(&seen.samples, sums, *degree).is_none(), "band: 9 before 10");
+        self.note_if(inverse(sums, degree + 1).is_none(), "band: 9 before 12");
+    }
+
+    fn note_lengths(&mut self, seen: &Seen) {
+        let name = seen.call.name();
+        for (memory, calls) in LENGTHS {
+            if !calls.contains(&name) {
+                continue;
+            }
+            let (length, places) = length_of(seen.lengths, memory, seen.count);
+            let fit = match length {
+                _ if length + 1 == places => "one too short",
+                _ if length == places => "exact",
+                _ if length > places => "with places past the end",
+                _ => continue,
+            };
+            self.note(format!("length: {name}, {memory} {fit}"));
+        }
+    }
+
+    fn note_counts(&mut self, seen: &Seen) {
+        let shorter = seen.lengths.x.min(seen.lengths.y);
+        self.note_if(seen.count > shorter, "count: above capacity");
+        let longer = shorter > 4096;
+        self.note_if(longer && seen.count > 4096, "count: above 4,096 in longer columns");
+        self.note_if(longer && seen.count == 4096, "count: 4,096 in longer columns");
+    }
+
+    fn note_reading(&mut self, seen: &Seen) {
+        match seen.call {
+            Call::Fit { .. } => {}
+            Call::Report(settings) => self.note_report(seen, *settings),
+            Call::Validate { folds, bound, criterion } => {
+                self.note_validation(seen, *folds, *bound, *criterion)
+            }
+            Call::Band { x, tolerance, .. } => self.note_band(seen, *x, *tolerance),
+            _ => return,
+        }
+        self.note_samples(&seen.samples);
+        let answered = !matches!(seen.answer, Answer::Refused(_));
+        if answered && !seen.own_sums {
+            self.note(format!("sums: not the ledger's, {} answered", seen.call.name()));
+        }
+    }
+
+    fn note_samples(&mut self, samples: &[Sample]) {
+        let values = || samples.iter().flat_map(|sample| [sample.x, sample.y]);
+        self.note_if(values().any(|v| bits(v) == 1 << 63), "samples: -0");
+        self.note_if(values().any(f64::is_subnormal), "samples: subnormal");
+        self.note_if(values().any(|v| v.abs() > 1e308), "samples: above 1e308");
+        let near_2000 = |sample: &Sample| (sample.x - 2000.0).abs() < 100.0;
+        self.note_if(samples.iter().all(near_2000), "samples: x near 2000");
+        let equal = samples.windows(2).any(|pair| pair[0].x == pair[1].x);
+        self.note_if(equal, "samples: equal x");
+        if COUNTS.contains(&samples.len()) {
+            self.note(format!("samples: {}", samples.len()));
+        }
+    }
+
+    fn note_band(&mut self, seen: &Seen, x: f64, tolerance: Tolerance) {
+        let Answer::Band { value, lower, upper } = seen.answer else { return };
+        let numbers = [value, lower, upper];
+        self.note(format!("band: tolerance {}", tolerance_name(tolerance)));
+        self.note_if(numbers.iter().any(|v| v.is_nan()), "band: NaN");
+        self.note_if(numbers.iter().any(|v| v.is_infinite()), "band: infinity");
+        let least = seen.samples.iter().all(|sample| x <= sample.x);
+        let greatest = seen.samples.iter().all(|sample| x >= sample.x);
+        self.note_if(least, "band: at the least x");
+        self.note_if(greatest, "band: at the greatest x");
+        self.note_if(!least && !greatest, "band: between");
+    }
+
+    fn note_validation(
+        &mut self,
+        seen: &Seen,
+        folds: usize,
+        bound: DegreeBound,
+        criterion: Criterion,
+    ) {
+        let n = seen.samples.len();
+        self.note(format!("validate: criterion {}", criterion_name(criterion)));
+        self.note(format!("validate: bound {}", bound_name(bound)));
+        self.note_if(folds == n, "validate: leave one out");
+        self.note_if(!n.is_multiple_of(folds), "validate: the last fold takes a rest");
+        if n * folds <= 200 {
+            self.note_folds(&seen.samples, folds, max_degree(bound, n));
+        }
+    }
+
+    fn note_folds(&mut self, samples: &[Sample], folds: usize, bound: usize) {
+        let ranges = fit::fold_ranges(samples.len(), folds);
+        let sums_of = |range: &std::ops::Range<usize>| {
+            folded_afresh(&[&samples[..range.start], &samples[range.end..]].concat())
+        };
+        let sums: Vec<Vec<f64>> = ranges.iter().map(sums_of).collect();
+        for degree in 0..=bound {
+            let is_solved = |sums: &&Vec<f64>| fit::solved(samples, sums, degree).is_some();
+            let solved = sums.iter().filter(is_solved).count();
+            self.note_if(solved == 0, "validate: a degree without a solved fold");
+            let some = solved > 0 && solved < folds;
+            self.note_if(some, "validate: a degree with solved and unsolved folds");
+        }
+    }
+
+    fn note_report(&mut self, seen: &Seen, settings: Settings) {
+        let samples = &seen.samples;
+        let bound = max_degree(settings.bound, samples.len());
+        let sums = &seen.memory.sums;
+        let scores = fit::scores(samples, sums, bound, settings.criterion);
+        let solved = scores.iter().flatten().count();
+        if seen.answer == Answer::Refused(11) {
+            self.note_if(solved == 0, "report: 11 with no degree solved");
+            self.note_if(solved > 0, "report: 11 with degrees solved");
+        }
+        self.note(format!("solved degrees: {solved}"));
+        self.note_medians(samples, sums, bound);
+        let gap = scores.windows(2).any(|pair| pair[0].is_none() && pair[1].is_some());
+        self.note_if(gap, "report: an unsolved degree below a solved one");
+        let Answer::Report { degree, outliers, .. } = seen.answer else { return };
+        self.note(format!("chosen degree: {degree}"));
+        self.note_if(scores[0].is_none(), "report: degree 0 unsolved, a higher one chosen");
+        self.note_distance(scores[degree].unwrap_or(f64::NAN) - fit::least(&scores));
+        self.note_if(outliers > 0, "report: outliers");
+        self.note_if(outliers == 0, "report: no outliers");
+        self.note_if(outliers == seen.count, "report: every sample an outlier");
+        self.note_settings(settings, seen.count - degree - 1);
+        self.note_terms(seen, settings, degree);
+        self.note_bands(seen);
+        self.note_losses(seen, settings, degree);
+        let symmetric =
+            (0..TERMS).all(|i| (0..i).all(|j| bits(a(sums, i, j)) == bits(a(sums, j, i))));
+        self.note_if(!symmetric, "sums: not symmetric, report answered");
+    }
+
+    fn note_medians(&mut self, samples: &[Sample], sums: &[f64], bound: usize) {
+        for degree in 0..=bound {
+            let Some(coefficients) = fit::solved(samples, sums, degree) else { continue };
+            let residuals = fit::residuals(samples, &coefficients);
+            let sizes: Vec<f64> = residuals.iter().map(|r| r.abs()).collect();
+            self.note_if(median(&sizes).is_infinite(), "report: infinite median of sizes");
+        }
+    }
+
+    fn note_distance(&mut self, distance: f64) {
+        self.note_if(distance > 0.0, "report: chosen does not have the least score");
+        self.note_if(distance == 2.0, "report: chosen is exactly 2 above the least");
+    }
+
+    fn note_settings(&mut self, settings: Settings, df: usize) {
+        let freedom = match df {
+            0 => FREEDOMS[0],
+            1..=29 => FREEDOMS[1],
+            _ => FREEDOMS[2],
+        };
+        self.note(format!("report: {} at {freedom}", confidence_name(settings.confidence)));
+        self.note(format!("report: criterion {}", criterion_name(settings.criterion)));
+        self.note(format!("report: tolerance {}", tolerance_name(settings.tolerance)));
+        self.note(format!("report: bound {}", bound_name(settings.bound)));
+    }
+
+    fn note_terms(&mut self, seen: &Seen, settings: Settings, degree: usize) {
+        let df = seen.count - degree - 1;
+        let critical = judge::statistics::t_score(settings.confidence, df);
+        let level = confidence_name(settings.confidence);
+        for j in 0..=degree {
+            let coefficient = seen.memory.coefficients[j];
+            let error = seen.memory.errors[j];
+            let pruned = seen.memory.pruned[j] == 1;
+            let part = coefficient / error / critical;
+            if level != "Custom" && df > 0 && (part - 1.0).abs() < 1e-5 {
+                self.beside.insert((level, df.min(30), part > 1.0));
+            }
+            self.note_if(pruned, "report: pruned terms");
+            self.note_if(pruned && df == 0, "report: pruned terms at df 0");
+            self.note_if(!pruned && coefficient > 1e-9, "report: a positive term kept");
+            let small = coefficient < -1e-9 && -coefficient / error < critical;
+            self.note_if(small, "report: a term below zero kept though its t is small");
+            self.note_if(error.is_nan(), "report: a NaN error");
+            self.note_if(error.is_infinite(), "report: an infinite error");
+            self.note_if(bits(error) == 1 << 63, "report: a -0 error");
+            self.note_if(bits(error) == 0, "report: a +0 error");
+            self.note_if(bits(coefficient) == 1 << 63, "report: a -0 coefficient");
+        }
+    }
+
+    fn note_bands(&mut self, seen: &Seen) {
+        let ends = seen.memory.lower[..seen.count].iter().chain(&seen.memory.upper[..seen.count]);
+        self.note_if(ends.clone().any(|v| v.is_nan()), "report: NaN in a band");
+        self.note_if(ends.clone().any(|v| v.is_infinite()), "report: infinity in a band");
+    }
+
+    fn note_losses(&mut self, seen: &Seen, settings: Settings, degree: usize) {
+        let residuals = fit::residuals(&seen.samples, &seen.memory.coefficients[..=degree]);
+        let delta = HUBER_CONST * median_absolute_deviation(&residuals);
+        self.note_if(residuals.iter().any(|r| r.abs() <= delta), "report: square losses");
+        self.note_if(residuals.iter().any(|r| r.abs() > delta), "report: linear losses");
+        if settings.criterion == Criterion::Aic {
+            let (n, k) = (seen.count, degree + 1);
+            let used = n < 4 * k && n > k + 1;
+            self.note_if(used, "report: correction term of the AIC used");
+            self.note_if(!used, "report: correction term of the AIC not used");
+        }
+    }
+}
+
+fn required_refusals() -> Vec<String> {
+    let mut keys = Vec::new();
+    for (call, numbers) in REFUSALS {
+        keys.push(format!("{call}: answered"));
+        keys.extend(numbers.iter().map(|number| format!("{call}: refused by {number}")));
+    }
+    for (call, numbers) in REFUSALS {
+        let nine: Vec<u8> = numbers.iter().copied().filter(|number| *number <= 9).collect();
+        for (i, &first) in nine.iter().enumerate() {
+            for &second in &nine[i + 1..] {
+                if !IMPOSSIBLE_PAIRS.contains(&(call, first, second)) {
+                    keys.push(format!("{call}: {first} before {second}"));
+                }
+            }
+        }
+    }
+    for (call, numbers) in BY_REFERENCE {
+        keys.push(format!("{call} by polyfit: answered"));
+        keys.extend(numbers.iter().map(|number| format!("{call} by polyfit: refused by {number}")));
+    }
+    keys
+}
+
+fn required_settings() -> Vec<String> {
+    let mut keys = Vec::new();
+    for confidence in CONFIDENCES {
+        keys.extend(FREEDOMS.map(|freedom| format!("report: {confidence} at {freedom}")));
+    }
+    for call in ["report", "validate"] {
+        keys.extend(CRITERIA.map(|criterion| format!("{call}: criterion {criterion}")));
+        keys.extend(BOUNDS.map(|bound| format!("{call}: bound {bound}")));
+    }
+    for call in ["report", "band"] {
+        keys.extend(TOLERANCES.map(|tolerance| format!("{call}: tolerance {tolerance}")));
+    }
+    keys
+}
+
+/// The length of a lent memory, and the places that a call needs there.
+fn length_of(lengths: &Lengths, memory: &str, count: usize) -> (usize, usize) {
+    match memory {
+        "sums" => (lengths.sums, PLACES),
+        "scratch" => (lengths.scratch, count),
+        "coefficients" => (lengths.coefficients, TERMS),
+        "errors" => (lengths.errors, TERMS),
+        "pruned" => (lengths.pruned, TERMS),
+        "lower" => (lengths.lower, count),
+        "upper" => (lengths.upper, count),
+        _ => (lengths.outlier, count),
+    }
+}
+
+fn confidence_name(confidence: Confidence) -> &'static str {
+    match confidence {
+        Confidence::P80 => CONFIDENCES[0],
+        Confidence::P90 => CONFIDENCES[1],
+        Confidence::P95 => CONFIDENCES[2],
+        Confidence::P98 => CONFIDENCES[3],
+        Confidence::P99 => CONFIDENCES[4],
+        Confidence::P999 => CONFIDENCES[5],
+        Confidence::Custom(_) => CONFIDENCES[6],
+    }
+}
+
+fn tolerance_name(tolerance: Tolerance) -> &'static str {
+    match tolerance {
+        Tolerance::None => TOLERANCES[0],
+        Tolerance::Absolute(_) => TOLERANCES[1],
+        Tolerance::Variance(_) => TOLERANCES[2],
+        Tolerance::Measurement(_) => TOLERANCES[3],
+    }
+}
+
+fn bound_name(bound: DegreeBound) -> &'static str {
+    match bound {
+        DegreeBound::Conservative => BOUNDS[0],
+        DegreeBound::Relaxed => BOUNDS[1],
+        DegreeBound::Aggressive => BOUNDS[2],
+        DegreeBound::Custom(_) => BOUNDS[3],
+    }
+}
+
+fn criterion_name(criterion: Criterion) -> &'static str {
+    match criterion {
+        Criterion::Aic => CRITERIA[0],
+        Criterion::Bic => CRITERIA[1],
+    }
+}

@@ -1,0 +1,559 @@
+//! Makes lists of calls. Each kind of list aims at something that plain random lists never make.
+
+use judge::fit::Settings;
+use judge::frame;
+use judge::ledger::Ledger;
+use judge::refusals::Lengths;
+use judge::statistics::{t_score, Confidence, DegreeBound, Tolerance};
+use judge::sums::{PLACES, TERMS};
+use judge::Sample;
+
+use crate::arguments;
+use crate::call::{Call, List, Poke, Step};
+use crate::random::Random;
+use crate::samples::{self, Kind, Source};
+
+/// A list in the making, with a ledger beside it to know the samples.
+struct Maker<'a> {
+    random: &'a mut Random,
+    steps: Vec<Step>,
+    ledger: Ledger,
+    x_length: usize,
+    y_length: usize,
+    /// One call in so many gets a memory that is one place too short; 0 for none.
+    short_one_in: usize,
+}
+
+/// Makes the list of the given number from the given seed.
+pub fn list(seed: u64, number: u64) -> List {
+    let random = &mut Random::new(seed ^ number.wrapping_mul(0xD6E8_FEB8_6659_FD93));
+    let contents = random.next();
+    let steps = match number % 64 {
+        // Few, because 4,096 samples take long.
+        0 if number % 4096 == 64 => full(random),
+        0..=5 => many_samples(random),
+        6..=11 => interpolated(random),
+        12..=17 => spoiled(random),
+        18..=27 => lent_sums(random),
+        28 | 29 => inverse_fails(random),
+        30 => negative_zero_error(random),
+        31 | 32 => overflowing_mean(random),
+        33 if number % 256 == 33 => pivot_edge(random),
+        34 => long_columns(random),
+        35 => beside_t_scores(random, 1 + (number / 64 % 30) as usize),
+        _ => mixed(random),
+    };
+    List { contents, steps }
+}
+
+impl<'a> Maker<'a> {
+    fn new(random: &'a mut Random, capacity: usize) -> Self {
+        let longer = random.pick(&[0, 0, 0, 1, 4]);
+        let (x_length, y_length) = match random.below(2) {
+            0 => (capacity, capacity + longer),
+            _ => (capacity + longer, capacity),
+        };
+        let ledger = Ledger::default();
+        let mut maker =
+            Self { random, steps: Vec::new(), ledger, x_length, y_length, short_one_in: 0 };
+        maker.call(Call::Open);
+        maker
+    }
+
+    fn samples(&self) -> &[Sample] {
+        &self.ledger.samples
+    }
+
+    /// Just long enough, or with some places past the end.
+    fn lengths(&mut self) -> Lengths {
+        let n = self.samples().len();
+        let mut more = || self.random.pick(&[0, 0, 0, 1, 3]);
+        Lengths {
+            sums: PLACES + more(),
+            scratch: n + more(),
+            coefficients: TERMS + more(),
+            errors: TERMS + more(),
+            pruned: TERMS + more(),
+            lower: n + more(),
+            upper: n + more(),
+            outlier: n + more(),
+            x: self.x_length,
+            y: self.y_length,
+        }
+    }
+
+    fn call(&mut self, call: Call) {
+        self.step(Vec::new(), call);
+    }
+
+    fn step(&mut self, pokes: Vec<Poke>, call: Call) {
+        let mut lengths = self.lengths();
+        if self.short_one_in > 0 && self.random.one_in(self.short_one_in) {
+            shorten(self.random, &mut lengths, self.ledger.samples.len());
+        }
+        self.follow(&lengths, &call);
+        self.steps.push(Step { pokes, count: None, lengths, call });
+    }
+
+    /// Keeps the ledger up with the calls that change the book; refusals change nothing.
+    fn follow(&mut self, lengths: &Lengths, call: &Call) {
+        let _ = match call {
+            Call::Open => self.ledger.open(lengths),
+            Call::Add(sample) => self.ledger.add(lengths, sample.x, sample.y),
+            Call::Correct { index, y } => self.ledger.correct(lengths, *index, *y),
+            Call::Withdraw { index } => self.ledger.withdraw(lengths, *index),
+            Call::AddFrame(bytes) => self.ledger.add_frame(lengths, bytes),
+            _ => Ok(0),
+        };
+    }
+
+    fn add_all(&mut self, samples: &[Sample]) {
+        if samples.len() > 8 || self.random.one_in(2) {
+            self.call(Call::AddFrame(frame::encode(samples)));
+        } else {
+            for &sample in samples {
+                self.call(Call::Add(sample));
+            }
+        }
+    }
+
+    fn read(&mut self) {
+        let call = arguments::reading(self.random, &self.ledger.samples);
+        self.call(call);
+    }
+
+    /// A call that changes the book, or tries to.
+    fn change(&mut self, source: &mut Source) {
+        let n = self.samples().len();
+        let random = &mut *self.random;
+        let call = match random.below(12) {
+            0..=4 => Call::Add(spoil_sample(random, source)),
+            5 | 6 => Call::Correct { index: index(random, n), y: spoil_sample(random, source).y },
+            7 | 8 => Call::Withdraw { index: index(random, n) },
+            9 => {
+                let number = random.below(4);
+                Call::AddFrame(frame::encode(&source.take(random, number)))
+            }
+            10 => {
+                let number = random.below(3);
+                let samples = source.take(random, number);
+                let bytes = arguments::wrong_frame(random, &samples);
+                random.pick(&[Call::AddFrame, Call::Reader])(bytes)
+            }
+            _ => {
+                let number = random.below(4);
+                Call::Reader(frame::encode(&source.take(random, number)))
+            }
+        };
+        self.call(call);
+    }
+}
+
+/// Mostly below n.
+fn index(random: &mut Random, n: usize) -> usize {
+    if n == 0 || random.one_in(12) {
+        random.pick(&[n, n + 1, usize::MAX])
+    } else {
+        random.below(n)
+    }
+}
+
+/// The next sample, rarely with a part that is not finite.
+fn spoil_sample(random: &mut Random, source: &mut Source) -> Sample {
+    let sample = source.next(random);
+    match random.below(50) {
+        0 => Sample { x: arguments::not_finite(random), ..sample },
+        1 => Sample { y: arguments::not_finite(random), ..sample },
+        _ => sample,
+    }
+}
+
+/// One memory one place too short, now and then without any place.
+fn shorten(random: &mut Random, lengths: &mut Lengths, n: usize) {
+    let empty = random.one_in(5);
+    let short = |places: usize| if empty { 0 } else { places.saturating_sub(1) };
+    match random.below(8) {
+        0 => lengths.sums = short(PLACES),
+        1 => lengths.scratch = short(n),
+        2 => lengths.coefficients = short(TERMS),
+        3 => lengths.errors = short(TERMS),
+        4 => lengths.pruned = short(TERMS),
+        5 => lengths.lower = short(n),
+        6 => lengths.upper = short(n),
+        _ => lengths.outlier = short(n),
+    }
+}
+
+/// Calls as they come: adds, corrections, withdrawals, frames, and reading calls in between.
+fn mixed(random: &mut Random) -> Vec<Step> {
+    let capacity = random.pick(&[0, 1, 2, 3, 4, 6, 8, 10, 12, 16, 20, 24, 40]);
+    let mut source = Source::new(random, capacity);
+    let number = random.between(0, capacity);
+    let first = source.take(random, number);
+    let mut maker = Maker::new(random, capacity);
+    maker.short_one_in = 30;
+    maker.add_all(&first);
+    for _ in 0..maker.random.between(4, 16) {
+        if maker.random.one_in(3) {
+            maker.change(&mut source);
+        } else {
+            maker.read();
+        }
+    }
+    if maker.random.one_in(20) {
+        maker.call(Call::Open);
+        maker.read();
+    }
+    maker.steps
+}
+
+/// Enough samples for every bound, and for degrees of freedom past the table.
+fn many_samples(random: &mut Random) -> Vec<Step> {
+    let n = match random.below(4) {
+        0 => random.pick(&[31, 32, 33, 44, 45, 63, 64, 135, 136]),
+        1 => random.between(100, 140),
+        _ => random.between(17, 70),
+    };
+    let mut source = Source::new(random, n);
+    let first = source.take(random, n);
+    let mut maker = Maker::new(random, n);
+    maker.add_all(&first);
+    for _ in 0..3 {
+        maker.read();
+        let mut settings = arguments::settings(maker.random);
+        settings.bound = maker.random.pick(&[
+            DegreeBound::Conservative,
+            DegreeBound::Relaxed,
+            DegreeBound::Aggressive,
+            DegreeBound::Custom(0),
+        ]);
+        maker.call(Call::Report(settings));
+    }
+    maker.change(&mut source);
+    maker.read();
+    maker.steps
+}
+
+/// As many samples as coefficients, or one or two more: df 0 and 1, and every degree chosen.
+fn interpolated(random: &mut Random) -> Vec<Step> {
+    let degree = random.below(16);
+    let n = degree + 1 + random.pick(&[0, 0, 0, 1, 2]);
+    let kind = random.pick(&[Kind::EvenGrid, Kind::EvenGrid, Kind::Unit, Kind::Offset]);
+    let samples = Source::of_kind(random, kind, n).take(random, n);
+    let mut maker = Maker::new(random, n);
+    maker.add_all(&samples);
+    for _ in 0..4 {
+        let bound = DegreeBound::Custom(degree);
+        let settings = Settings { bound, ..arguments::settings(maker.random) };
+        maker.call(Call::Report(settings));
+        maker.read();
+    }
+    maker.steps
+}
+
+/// For every confidence, terms just below and just above its t score: pruned and kept.
+fn beside_t_scores(random: &mut Random, df: usize) -> Vec<Step> {
+    let levels = [
+        Confidence::P80,
+        Confidence::P90,
+        Confidence::P95,
+        Confidence::P98,
+        Confidence::P99,
+        Confidence::P999,
+    ];
+    let mut maker = Maker::new(random, df + 1);
+    for confidence in levels {
+        for part in [1.0 - 2e-6, 1.0 + 2e-6] {
+            maker.call(Call::Open);
+            maker.add_all(&samples::with_t(df, part * t_score(confidence, df)));
+            let (bound, tolerance) = (DegreeBound::Custom(0), Tolerance::None);
+            let criterion = arguments::criterion(maker.random);
+            let settings = Settings { bound, criterion, confidence, tolerance };
+            maker.call(Call::Report(settings));
+        }
+    }
+    maker.steps
+}
+
+/// Samples whose mean leaves a residual that overflows.
+fn overflowing_mean(random: &mut Random) -> Vec<Step> {
+    let samples = samples::overflowing_mean(random);
+    let mut maker = Maker::new(random, 4);
+    maker.add_all(&samples);
+    for _ in 0..3 {
+        let bound = DegreeBound::Custom(maker.random.between(0, 2));
+        let settings = Settings { bound, ..arguments::settings(maker.random) };
+        maker.call(Call::Report(settings));
+        maker.read();
+    }
+    maker.steps
+}
+
+/// Solved, and the inverse not, from a ledger.
+fn pivot_edge(random: &mut Random) -> Vec<Step> {
+    let Some((samples, degree)) = samples::at_some_pivot_edge(random) else {
+        return mixed(random);
+    };
+    let mut maker = Maker::new(random, samples.len());
+    maker.add_all(&samples);
+    maker.call(Call::Fit { degree });
+    for _ in 0..2 {
+        let mut settings = arguments::settings(maker.random);
+        settings.bound = DegreeBound::Custom(degree);
+        maker.call(Call::Report(settings));
+        let (confidence, tolerance) = (Confidence::P95, Tolerance::None);
+        maker.call(Call::Band { x: samples[0].x, degree, confidence, tolerance });
+        maker.read();
+    }
+    maker.steps
+}
+
+/// Sums that are not the ledger's.
+fn lent_sums(random: &mut Random) -> Vec<Step> {
+    let n = random.between(1, 8);
+    let mut source = Source::new(random, n);
+    let first = source.take(random, n);
+    let mut maker = Maker::new(random, n + 2);
+    maker.add_all(&first);
+    for _ in 0..maker.random.between(2, 6) {
+        let pokes = (0..maker.random.between(1, 4)).map(|_| sums_poke(maker.random)).collect();
+        let call = arguments::reading(maker.random, &maker.ledger.samples);
+        maker.step(pokes, call);
+        if maker.random.one_in(3) {
+            maker.change(&mut source);
+        }
+    }
+    maker.steps
+}
+
+/// A value at a place of the sums that small degrees read, or now and then at any place.
+fn sums_poke(random: &mut Random) -> Poke {
+    let (i, j) = (random.below(3), random.below(3));
+    let at = match random.below(8) {
+        0 => random.below(PLACES),
+        1 | 2 => 256 + i,
+        3 | 4 => 16 * i + i,
+        _ => 16 * i + j,
+    };
+    let value = match random.below(8) {
+        0 => arguments::not_finite(random),
+        1 => -0.0,
+        2 => 0.0,
+        3 => f64::from_bits(random.next()),
+        4 => -random.within(0.0, 9.0),
+        _ => random.between(0, 12) as f64 - 4.0,
+    };
+    Poke::Sums { at, value }
+}
+
+fn sums_pokes(places: &[(usize, f64)]) -> Vec<Poke> {
+    places.iter().map(|&(at, value)| Poke::Sums { at, value }).collect()
+}
+
+/// A line through every sample, so that the fit is exact.
+fn line(maker: &mut Maker, n: usize) {
+    for i in 0..n {
+        let x = i as f64;
+        maker.call(Call::Add(Sample { x, y: 1.0 + 2.0 * x }));
+    }
+}
+
+/// A matrix with a first pivot of 2⁻⁵², which the inverse doubles: the second pivot is then 2⁻¹⁰ for
+/// the solution and about −1/2 for the inverse. The right-hand side is that of 1 + 2x, exactly.
+fn inverse_fails(random: &mut Random) -> Vec<Step> {
+    let n = random.between(2, 5);
+    let mut maker = Maker::new(random, n);
+    line(&mut maker, n);
+    let (p, above) = (1.0 / (1u64 << 26) as f64, 1.0 + 1.0 / 1024.0);
+    let places = [
+        (0, f64::EPSILON),
+        (1, p),
+        (16, -p * above),
+        (17, -1.0),
+        (256, f64::EPSILON + 2.0 * p),
+        (257, -p * above - 2.0),
+    ];
+    let settings = Settings { bound: DegreeBound::Custom(1), ..arguments::settings(maker.random) };
+    maker.step(sums_pokes(&places), Call::Report(settings));
+    let (confidence, tolerance) = (arguments::confidence(maker.random), Tolerance::None);
+    for x in [0.0, -1.0] {
+        maker.call(Call::Band { x, degree: 1, confidence, tolerance });
+    }
+    maker.call(Call::Fit { degree: 1 });
+    maker.read();
+    maker.steps
+}
+
+/// A matrix that is not symmetric, with −1 in the first place of its inverse; the right-hand side is
+/// that of 1 + 2x. With two samples the variance is +0 and the error −0, with more it is a NaN.
+fn negative_zero_error(random: &mut Random) -> Vec<Step> {
+    let n = random.between(2, 4);
+    let mut maker = Maker::new(random, n);
+    line(&mut maker, n);
+    if n > 2 {
+        maker.call(Call::Correct { index: 0, y: 1.5 });
+    }
+    let places = [(0, 1.0), (1, 1.0), (16, -2.0), (17, -1.0), (256, 3.0), (257, -4.0)];
+    let settings = Settings { bound: DegreeBound::Custom(1), ..arguments::settings(maker.random) };
+    maker.step(sums_pokes(&places), Call::Report(settings));
+    maker.read();
+    maker.steps
+}
+
+/// Calls with several things wrong at once, to see in which order they are judged.
+fn spoiled(random: &mut Random) -> Vec<Step> {
+    let n = random.pick(&[0, 0, 1, 2, 5, 17, 20]);
+    let kind = random.pick(&[Kind::Exact, Kind::SmallWhole, Kind::Unit]);
+    let mut source = Source::of_kind(random, kind, n);
+    let first = source.take(random, n);
+    let spare = random.pick(&[0, 0, 1]);
+    let mut maker = Maker::new(random, n + spare);
+    maker.add_all(&first);
+    maker.short_one_in = 3;
+    for _ in 0..8 {
+        let call = spoiled_call(maker.random, &mut source, &maker.ledger.samples);
+        let mut pokes = Vec::new();
+        if n > 0 && maker.random.one_in(4) {
+            pokes.push(column_poke(maker.random, n));
+        }
+        maker.step(pokes, call);
+        if maker.random.one_in(8) {
+            spoil_count(&mut maker);
+        }
+    }
+    refused_open(&mut maker);
+    maker.steps
+}
+
+/// An open on sums that are too short, and a call on the book that still stands.
+fn refused_open(maker: &mut Maker) {
+    let mut lengths = maker.lengths();
+    lengths.sums = maker.random.pick(&[PLACES - 1, PLACES - 1, 256, 0]);
+    maker.steps.push(Step { pokes: Vec::new(), count: None, lengths, call: Call::Open });
+    maker.short_one_in = 0;
+    maker.read();
+}
+
+fn column_poke(random: &mut Random, n: usize) -> Poke {
+    // One past the count now and then, which no call may look at.
+    let (at, value) = (random.below(n + 1), arguments::not_finite(random));
+    match random.below(2) {
+        0 => Poke::X { at, value },
+        _ => Poke::Y { at, value },
+    }
+}
+
+/// A count above capacity for the last call.
+fn spoil_count(maker: &mut Maker) {
+    let capacity = maker.x_length.min(maker.y_length);
+    let count = capacity + maker.random.pick(&[1, 2, 4096, usize::MAX - 4096]);
+    if let Some(step) = maker.steps.last_mut() {
+        step.count = Some(count);
+    }
+}
+
+fn spoiled_call(random: &mut Random, source: &mut Source, samples: &[Sample]) -> Call {
+    let n = samples.len();
+    let bad = arguments::not_finite(random);
+    let or_bad = |random: &mut Random, value: f64| if random.one_in(2) { bad } else { value };
+    match random.below(9) {
+        0 => Call::Add(Sample { x: or_bad(random, 1.0), y: or_bad(random, 2.0) }),
+        1 => Call::Correct { index: n + random.below(2), y: or_bad(random, 1.0) },
+        2 => Call::Withdraw { index: n + random.below(2) },
+        3 => Call::AddFrame(spoiled_frame(random, source)),
+        4 => Call::Reader(spoiled_frame(random, source)),
+        5 => Call::Fit { degree: random.pick(&[0, n, 16, usize::MAX]) },
+        6 => Call::Report(spoiled_settings(random, bad)),
+        7 => Call::Validate {
+            folds: random.pick(&[0, 1, 2, n + 1]),
+            bound: DegreeBound::Custom(random.pick(&[1, 16, 20])),
+            criterion: arguments::criterion(random),
+        },
+        _ => Call::Band {
+            x: random.pick(&[0.0, -1e9, 1e9, f64::NAN, f64::INFINITY]),
+            degree: random.pick(&[0, n, 16, usize::MAX]),
+            confidence: spoiled_settings(random, bad).confidence,
+            tolerance: spoiled_settings(random, bad).tolerance,
+        },
+    }
+}
+
+fn spoiled_settings(random: &mut Random, bad: f64) -> Settings {
+    let mut settings = arguments::settings(random);
+    settings.bound = DegreeBound::Custom(random.pick(&[1, 16, 20]));
+    match random.below(4) {
+        0 => settings.confidence = Confidence::Custom(bad),
+        1 => settings.tolerance = Tolerance::Absolute(bad),
+        2 => settings.tolerance = Tolerance::Measurement(bad),
+        _ => {}
+    }
+    settings
+}
+
+/// Wrong in length, version, or a sample, or in several.
+fn spoiled_frame(random: &mut Random, source: &mut Source) -> Vec<u8> {
+    let number = random.below(4);
+    let mut samples = source.take(random, number);
+    if let (Some(sample), true) = (samples.first_mut(), random.one_in(2)) {
+        sample.y = arguments::not_finite(random);
+    }
+    let mut bytes = frame::encode(&samples);
+    if random.one_in(2) {
+        bytes[2] = random.pick(&[0, 2, 255]);
+    }
+    if random.one_in(2) {
+        bytes.push(0);
+    }
+    bytes
+}
+
+/// Columns longer than a book's 4,096, and counts about that.
+fn long_columns(random: &mut Random) -> Vec<Step> {
+    let mut maker = Maker::new(random, 4100);
+    let sample = Sample { x: 1.0, y: 2.0 };
+    let calls = [
+        Call::Add(sample),
+        Call::AddFrame(frame::encode(&[sample])),
+        Call::Correct { index: 0, y: 1.0 },
+        Call::Withdraw { index: 4095 },
+        Call::Fit { degree: 0 },
+    ];
+    for _ in 0..3 {
+        let pick = maker.random.below(calls.len());
+        maker.call(calls[pick].clone());
+        let count = maker.random.pick(&[4095, 4096, 4097, 4100, 4101]);
+        if let Some(step) = maker.steps.last_mut() {
+            step.count = Some(count);
+        }
+    }
+    maker.steps
+}
+
+/// A full book of 4,096 samples.
+fn full(random: &mut Random) -> Vec<Step> {
+    let kind = random.pick(&[Kind::EvenGrid, Kind::Density, Kind::Unit, Kind::Offset]);
+    let mut source = Source::of_kind(random, kind, 4096);
+    let samples = source.take(random, 4096);
+    let spare = random.pick(&[0, 3]);
+    let mut maker = Maker::new(random, 4096 + spare);
+    maker.call(Call::AddFrame(frame::encode(&samples[..4095])));
+    maker.call(Call::Add(samples[4095]));
+    maker.call(Call::Add(samples[0]));
+    maker.call(Call::AddFrame(frame::encode(&samples[..1])));
+    let bounds = [DegreeBound::Relaxed, DegreeBound::Conservative, DegreeBound::Custom(2)];
+    let bound = maker.random.pick(&bounds);
+    let settings = Settings { bound, ..arguments::settings(maker.random) };
+    maker.call(Call::Report(settings));
+    let degree = maker.random.below(16);
+    maker.call(Call::Fit { degree });
+    let (folds, criterion) = (maker.random.between(2, 5), arguments::criterion(maker.random));
+    maker.call(Call::Validate { folds, bound: DegreeBound::Custom(3), criterion });
+    let call = arguments::band(maker.random, &samples);
+    maker.call(call);
+    let index = maker.random.below(4096);
+    maker.call(Call::Correct { index, y: 1.0 });
+    maker.call(Call::Withdraw { index });
+    maker.call(Call::Add(samples[1]));
+    maker.call(Call::Fit { degree: 1 });
+    maker.steps
+}

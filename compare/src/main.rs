@@ -1,0 +1,148 @@
+//! Runs random lists of calls through the judge, the plain ledger and polyfit, and through every
+//! further side, and compares every answer and every bit, NaNs as one value.
+//!
+//! `compare [--seed N] [--calls N]`: runs until so many calls were judged by polyfit. The seed is
+//! printed; `--seed clock` takes one from the clock. `--list N` runs one list only and prints it.
+//!
+//! Fails on a difference, which it shrinks and prints, and where something that the runs must make
+//! never happened.
+
+mod arguments;
+mod call;
+mod coverage;
+mod generate;
+mod memory;
+mod random;
+mod reference;
+mod run;
+mod samples;
+mod shrink;
+mod side;
+#[cfg(test)]
+mod tests;
+
+use std::process::ExitCode;
+use std::time::Instant;
+
+use call::List;
+use coverage::Coverage;
+use run::{run, Difference};
+use side::Side;
+
+struct Options {
+    seed: u64,
+    calls: u64,
+    list: Option<u64>,
+}
+
+fn options() -> Result<Options, String> {
+    let mut options = Options { seed: 1, calls: 100_000, list: None };
+    let mut arguments = std::env::args().skip(1);
+    while let Some(name) = arguments.next() {
+        let value = arguments.next().ok_or(format!("{name} needs a value"))?;
+        let number = || value.parse::<u64>().map_err(|_| format!("{name}: {value} is no number"));
+        match name.as_str() {
+            "--seed" if value == "clock" => options.seed = clock(),
+            "--seed" => options.seed = number()?,
+            "--calls" => options.calls = number()?,
+            "--list" => options.list = Some(number()?),
+            _ => return Err(format!("{name} is not known")),
+        }
+    }
+    Ok(options)
+}
+
+fn clock() -> u64 {
+    let since = std::time::SystemTime::now().duration_since(std::time::UNIX_EPOCH);
+    since.map_or(0, |time| time.as_nanos() as u64)
+}
+
+/// The sides compared with the judge, besides the ledger and polyfit.
+fn further_sides() -> Vec<Box<dyn Side>> {
+    Vec::new()
+}
+
+fn print_list(list: &List) {
+    println!("contents {:#x}", list.contents);
+    for (at, step) in list.steps.iter().enumerate() {
+        println!("{at}:\n{step}");
+    }
+}
+
+/// Shrinks a failing list and prints it.
+fn print_failure(list: &List, difference: &Difference, sides: &[&dyn Side]) {
+    println!("step {}: {}", difference.step, difference.what);
+    let outcome = |list: &List| run(list, sides, &mut Coverage::default());
+    let smallest = shrink::shrink(list, |list| outcome(list).is_err());
+    println!("shrunk to:");
+    print_list(&smallest);
+    if let Err(difference) = outcome(&smallest) {
+        println!("step {}: {}", difference.step, difference.what);
+    }
+}
+
+/// Runs lists until enough calls were judged by polyfit; false at a difference.
+fn run_all(options: &Options, sides: &[&dyn Side], coverage: &mut Coverage) -> bool {
+    let mut number = 0;
+    while coverage.by_reference < options.calls {
+        let list = generate::list(options.seed, number);
+        if let Err(difference) = run(&list, sides, coverage) {
+            println!("seed {}, list {number}: DIFFERENCE", options.seed);
+            print_failure(&list, &difference, sides);
+            return false;
+        }
+        number += 1;
+    }
+    println!("{number} lists");
+    true
+}
+
+fn main() -> ExitCode {
+    let options = match options() {
+        Ok(options) => options,
+        Err(message) => {
+            eprintln!("{message}");
+            return ExitCode::FAILURE;
+        }
+    };
+    println!("seed {}", options.seed);
+    let sides = further_sides();
+    let sides: Vec<&dyn Side> = sides.iter().map(AsRef::as_ref).collect();
+    let mut coverage = Coverage::default();
+    if let Some(number) = options.list {
+        let list = generate::list(options.seed, number);
+        print_list(&list);
+        return match run(&list, &sides, &mut coverage) {
+            Ok(()) => ExitCode::SUCCESS,
+            Err(difference) => {
+                print_failure(&list, &difference, &sides);
+                ExitCode::FAILURE
+            }
+        };
+    }
+    let start = Instant::now();
+    let same = run_all(&options, &sides, &mut coverage);
+    finish(&coverage, same, start)
+}
+
+/// Prints what was covered; succeeds with no difference and nothing missing.
+fn finish(coverage: &Coverage, same: bool, start: Instant) -> ExitCode {
+    coverage.print();
+    let missing = coverage.missing();
+    for key in &missing {
+        println!("NEVER HAPPENED: {key}");
+    }
+    println!(
+        "{} calls, {} of them judged by polyfit, in {:.1} s: {} difference, {} never happened",
+        coverage.calls,
+        coverage.by_reference,
+        start.elapsed().as_secs_f64(),
+        if same { "no" } else { "a" },
+        missing.len(),
+    );
+    if same && missing.is_empty() {
+        ExitCode::SUCCESS
+    } else {
+        ExitCode::FAILURE
+    }
+}

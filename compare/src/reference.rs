@@ -1,0 +1,184 @@
+//! polyfit itself. It folds its own sums, so it can be asked about calls on a ledger's sums that
+//! pass refusals 1 to 9, and answers them or refuses by 10, 11 or 12.
+
+use polyfit::error::Error;
+use polyfit::score::{Aic, Bic, ModelScoreProvider};
+use polyfit::statistics as theirs;
+use polyfit::{basis::MonomialBasis, CurveFitCovariance, MonomialFit};
+
+use judge::fit::{Band, Criterion, Report, Settings};
+use judge::statistics::{Confidence, DegreeBound, Tolerance};
+use judge::Sample;
+
+type Data = Vec<(f64, f64)>;
+type Fit<'a> = MonomialFit<'a, f64>;
+type Covariance<'a> = CurveFitCovariance<'a, 'a, MonomialBasis<f64>, f64>;
+
+fn data_of(samples: &[Sample]) -> Data {
+    samples.iter().map(|sample| (sample.x, sample.y)).collect()
+}
+
+pub fn confidence_of(confidence: Confidence) -> theirs::Confidence {
+    match confidence {
+        Confidence::P80 => theirs::Confidence::P80,
+        Confidence::P90 => theirs::Confidence::P90,
+        Confidence::P95 => theirs::Confidence::P95,
+        Confidence::P98 => theirs::Confidence::P98,
+        Confidence::P99 => theirs::Confidence::P99,
+        Confidence::P999 => theirs::Confidence::P999,
+        Confidence::Custom(z) => theirs::Confidence::Custom(z),
+    }
+}
+
+pub fn bound_of(bound: DegreeBound) -> theirs::DegreeBound {
+    match bound {
+        DegreeBound::Conservative => theirs::DegreeBound::Conservative,
+        DegreeBound::Relaxed => theirs::DegreeBound::Relaxed,
+        DegreeBound::Aggressive => theirs::DegreeBound::Aggressive,
+        DegreeBound::Custom(degree) => theirs::DegreeBound::Custom(degree),
+    }
+}
+
+fn tolerance_of(tolerance: Tolerance) -> Option<theirs::Tolerance<f64>> {
+    match tolerance {
+        Tolerance::None => None,
+        Tolerance::Absolute(v) => Some(theirs::Tolerance::Absolute(v)),
+        Tolerance::Variance(v) => Some(theirs::Tolerance::Variance(v)),
+        Tolerance::Measurement(v) => Some(theirs::Tolerance::Measurement(v)),
+    }
+}
+
+/// polyfit's error as the book's number; what fails in algebra has the number given.
+fn number_of(error: &Error, algebra: u8) -> u8 {
+    match error {
+        Error::NoData => 7,
+        Error::DegreeTooHigh(_) => 8,
+        Error::DataRange(..) => 9,
+        Error::Algebra(_) | Error::DidNotConverge => algebra,
+        Error::NoModel => 11,
+        Error::CastFailed | Error::InvalidNumberOfParameters(_) => 0,
+    }
+}
+
+fn fit_of(data: &Data, degree: usize) -> Result<Fit<'_>, u8> {
+    Fit::new(data.as_slice(), degree).map_err(|e| number_of(&e, 10))
+}
+
+fn covariance_of<'a>(fit: &'a Fit<'a>) -> Result<Covariance<'a>, u8> {
+    fit.covariance().map_err(|e| number_of(&e, 12))
+}
+
+/// `CurveFit::new`.
+pub fn fit(samples: &[Sample], degree: usize) -> Result<Vec<f64>, u8> {
+    let data = data_of(samples);
+    let fit = fit_of(&data, degree)?;
+    Ok(fit.coefficients().to_vec())
+}
+
+/// `CurveFit::new` and `model_score` at each degree up to the bound; none where it fails.
+pub fn scores(samples: &[Sample], bound: DegreeBound, criterion: Criterion) -> Vec<Option<f64>> {
+    let data = data_of(samples);
+    let bound = bound_of(bound).max_degree(data.len());
+    let score_of = |degree| {
+        let fit = fit_of(&data, degree).ok()?;
+        Some(match criterion {
+            Criterion::Aic => fit.model_score(&Aic),
+            Criterion::Bic => fit.model_score(&Bic),
+        })
+    };
+    (0..=bound).map(score_of).collect()
+}
+
+/// `CurveFit::new_auto`, `covariance`, `solution_confidence`, `outliers`, `prune_insignificant`. The
+/// number of solved degrees is not in polyfit; it is counted by `scores`.
+pub fn report(samples: &[Sample], settings: Settings) -> Result<Report, u8> {
+    match settings.criterion {
+        Criterion::Aic => report_by(&Aic, samples, settings),
+        Criterion::Bic => report_by(&Bic, samples, settings),
+    }
+}
+
+fn report_by(
+    method: &impl ModelScoreProvider<MonomialBasis<f64>, f64>,
+    samples: &[Sample],
+    settings: Settings,
+) -> Result<Report, u8> {
+    let data = data_of(samples);
+    let confidence = confidence_of(settings.confidence);
+    let tolerance = tolerance_of(settings.tolerance);
+    let fit = Fit::new_auto(data.as_slice(), bound_of(settings.bound), method)
+        .map_err(|e| number_of(&e, 0))?;
+    let covariance = covariance_of(&fit)?;
+    let bands = covariance.solution_confidence(confidence, tolerance).map_err(|_| 0)?;
+    let outliers = covariance.outliers(confidence, tolerance).map_err(|_| 0)?;
+    let pruned = fit.clone().prune_insignificant(confidence).map_err(|_| 0)?;
+    Ok(Report {
+        degree: fit.degree(),
+        solved: scores(samples, settings.bound, settings.criterion).iter().flatten().count(),
+        coefficients: fit.coefficients().to_vec(),
+        errors: covariance.coefficient_standard_errors(),
+        pruned: marks(fit.coefficients().len(), pruned.iter().map(|(j, _)| *j)),
+        bands: bands.iter().map(|(_, band)| band_of(band)).collect(),
+        outliers: outlier_marks(&data, outliers.iter().map(|(x, y, _)| (*x, *y))),
+    })
+}
+
+fn band_of(band: &theirs::ConfidenceBand<f64>) -> Band {
+    Band { value: band.value(), lower: band.min(), upper: band.max() }
+}
+
+fn marks(length: usize, marked: impl Iterator<Item = usize>) -> Vec<bool> {
+    let mut marks = vec![false; length];
+    for at in marked {
+        marks[at] = true;
+    }
+    marks
+}
+
+/// polyfit lists the outliers in order, without their index. Equal samples have equal bands, so the
+/// next outlier is the next sample equal to it.
+fn outlier_marks(data: &Data, outliers: impl Iterator<Item = (f64, f64)>) -> Vec<bool> {
+    let mut marks = vec![false; data.len()];
+    let mut at = 0;
+    for outlier in outliers {
+        while data[at] != outlier {
+            at += 1;
+        }
+        marks[at] = true;
+        at += 1;
+    }
+    marks
+}
+
+/// `CurveFit::new_kfold_cross_validated` with `CvStrategy::Custom`.
+pub fn validate(
+    samples: &[Sample],
+    folds: usize,
+    bound: DegreeBound,
+    criterion: Criterion,
+) -> Result<(usize, Vec<f64>), u8> {
+    let data = data_of(samples);
+    let (slice, bound) = (data.as_slice(), bound_of(bound));
+    let fit = match criterion {
+        Criterion::Aic => Fit::new_kfold_cross_validated(slice, folds, bound, &Aic),
+        Criterion::Bic => Fit::new_kfold_cross_validated(slice, folds, bound, &Bic),
+    };
+    let fit = fit.map_err(|e| number_of(&e, 10))?;
+    Ok((fit.degree(), fit.coefficients().to_vec()))
+}
+
+/// `CurveFit::new`, `covariance`, `confidence_band`.
+pub fn band(
+    samples: &[Sample],
+    (x, degree): (f64, usize),
+    confidence: Confidence,
+    tolerance: Tolerance,
+) -> Result<Band, u8> {
+    let data = data_of(samples);
+    let fit = fit_of(&data, degree)?;
+    let covariance = covariance_of(&fit)?;
+    covariance
+        .confidence_band(x, confidence_of(confidence), tolerance_of(tolerance))
+        .map(|band| band_of(&band))
+        .map_err(|e| number_of(&e, 0))
+}

@@ -1,0 +1,382 @@
+//! Runs a list of calls: the judge on its own memory, and beside it the plain ledger, polyfit, and
+//! every other side on memory of its own. Ends at the first difference.
+
+use judge::book::answer_of;
+use judge::fit::Report;
+use judge::ledger::Ledger;
+use judge::numbers::bits;
+use judge::sums::{folded_afresh, PLACES, TERMS};
+use judge::Sample;
+
+use crate::call::{Answer, Call, List, Step};
+use crate::coverage::{Coverage, Seen};
+use crate::memory::{first_difference, Memory};
+use crate::reference;
+use crate::side::{Judge, Side};
+
+/// Where two sides differ.
+#[derive(Debug, Clone)]
+pub struct Difference {
+    pub step: usize,
+    pub what: String,
+}
+
+/// The ledger, and the columns as it says they are.
+struct LedgerState {
+    ledger: Ledger,
+    x: Vec<f64>,
+    y: Vec<f64>,
+}
+
+struct Run<'a> {
+    sides: Vec<(&'a dyn Side, Memory)>,
+    memory: Memory,
+    count: usize,
+    /// From a book just opened, until someone else writes the book's memory.
+    ledger_state: Option<LedgerState>,
+}
+
+/// Runs the list; notes in the coverage what happened, by the judge.
+pub fn run(list: &List, others: &[&dyn Side], coverage: &mut Coverage) -> Result<(), Difference> {
+    let memory = Memory::new(list);
+    let sides = others.iter().map(|side| (*side, memory.clone())).collect();
+    let mut run = Run { sides, memory, count: 0, ledger_state: None };
+    for (at, step) in list.steps.iter().enumerate() {
+        run.step(step, coverage).map_err(|what| Difference { step: at, what })?;
+    }
+    Ok(())
+}
+
+impl Run<'_> {
+    fn step(&mut self, step: &Step, coverage: &mut Coverage) -> Result<(), String> {
+        self.disturb(step);
+        let count = step.count.unwrap_or(self.count);
+        let samples = self.memory.samples(&step.lengths, count);
+        let conditions = step.call.conditions(&step.lengths, count, &samples);
+        let own_sums = self.sums_are_folded(&samples);
+        let before = self.memory.clone();
+        let answer = Judge.make(&step.call, count, self.memory.lend(&step.lengths));
+
+        check_writes(&step.call, &answer, count, &before, &self.memory)?;
+        self.check_ledger(step, &answer)?;
+        let by_reference = own_sums && is_reading(&step.call) && passes_nine(&answer);
+        if by_reference {
+            check_reference(&step.call, &answer, &samples, &self.memory)?;
+        }
+        self.check_sides(step, count, &answer)?;
+        if let Answer::Book(count) = answer {
+            self.count = count;
+        }
+        let (lengths, call, memory) = (&step.lengths, &step.call, &self.memory);
+        let seen = Seen {
+            call,
+            lengths,
+            count,
+            samples,
+            conditions,
+            answer,
+            memory,
+            own_sums,
+            by_reference,
+        };
+        coverage.note_call(&seen);
+        Ok(())
+    }
+
+    /// What someone else does before the call.
+    fn disturb(&mut self, step: &Step) {
+        for &poke in &step.pokes {
+            self.memory.poke(poke);
+            for (_, memory) in &mut self.sides {
+                memory.poke(poke);
+            }
+        }
+        if step.count.is_some() || !step.pokes.is_empty() {
+            self.ledger_state = None;
+        }
+    }
+
+    fn sums_are_folded(&self, samples: &[Sample]) -> bool {
+        let sums = &self.memory.sums;
+        let length = PLACES.min(sums.len());
+        first_difference("sums", &sums[..length], &folded_afresh(samples)).is_none()
+    }
+
+    fn check_sides(&mut self, step: &Step, count: usize, answer: &Answer) -> Result<(), String> {
+        for (side, memory) in &mut self.sides {
+            let theirs = side.make(&step.call, count, memory.lend(&step.lengths));
+            if !same_answer(answer, &theirs) {
+                return Err(format!("judge answers {answer:?}, {} {theirs:?}", side.name()));
+            }
+            if let Some(difference) = self.memory.difference(memory) {
+                return Err(format!("judge and {}: {difference}", side.name()));
+            }
+        }
+        Ok(())
+    }
+
+    /// Demand 3, for the judge: answers, book, columns and sums are the ledger's.
+    fn check_ledger(&mut self, step: &Step, answer: &Answer) -> Result<(), String> {
+        if step.call == Call::Open && *answer == Answer::Book(0) {
+            let (x, y) = (self.memory.x.clone(), self.memory.y.clone());
+            self.ledger_state = Some(LedgerState { ledger: Ledger::default(), x, y });
+        }
+        match &mut self.ledger_state {
+            Some(ledger_state) => ledger_state.follow(step, answer, &self.memory),
+            None => Ok(()),
+        }
+    }
+}
+
+impl LedgerState {
+    fn follow(&mut self, step: &Step, answer: &Answer, memory: &Memory) -> Result<(), String> {
+        let lengths = &step.lengths;
+        let ledger = &mut self.ledger;
+        let result = match &step.call {
+            Call::Open => ledger.open(lengths),
+            Call::Add(sample) => ledger.add(lengths, sample.x, sample.y),
+            Call::Correct { index, y } => ledger.correct(lengths, *index, *y),
+            Call::Withdraw { index } => ledger.withdraw(lengths, *index),
+            Call::AddFrame(frame) => ledger.add_frame(lengths, frame),
+            Call::Report(settings) => {
+                let report = ledger.report(lengths, *settings);
+                return check_report("ledger", report, answer, memory);
+            }
+            _ => return Ok(()),
+        };
+        let expected = result.map_or_else(Answer::Refused, Answer::Book);
+        if !same_answer(answer, &expected) {
+            return Err(format!("judge answers {answer:?}, ledger {expected:?}"));
+        }
+        self.check_state(memory)
+    }
+
+    /// Columns below the count are the ledger's; those past it keep what they held.
+    fn check_state(&mut self, memory: &Memory) -> Result<(), String> {
+        for (i, sample) in self.ledger.samples.iter().enumerate() {
+            self.x[i] = sample.x;
+            self.y[i] = sample.y;
+        }
+        let pairs = [
+            ("ledger's x", &self.x[..], &memory.x[..]),
+            ("ledger's y", &self.y[..], &memory.y[..]),
+            ("ledger's sums", &self.ledger.sums()[..], &memory.sums[..PLACES]),
+        ];
+        let difference = pairs.iter().find_map(|(name, a, b)| first_difference(name, a, b));
+        difference.map_or(Ok(()), Err)
+    }
+}
+
+fn is_reading(call: &Call) -> bool {
+    matches!(call, Call::Fit { .. } | Call::Report(_) | Call::Validate { .. } | Call::Band { .. })
+}
+
+/// Not refused, or refused by 10, 11 or 12.
+pub fn passes_nine(answer: &Answer) -> bool {
+    !matches!(answer, Answer::Refused(1..=9))
+}
+
+fn same_number(a: f64, b: f64) -> bool {
+    bits(a) == bits(b)
+}
+
+/// Equal answers, NaNs as one value.
+fn same_answer(a: &Answer, b: &Answer) -> bool {
+    match (a, b) {
+        (
+            Answer::Band { value, lower, upper },
+            Answer::Band { value: value2, lower: lower2, upper: upper2 },
+        ) => {
+            same_number(*value, *value2)
+                && same_number(*lower, *lower2)
+                && same_number(*upper, *upper2)
+        }
+        (Answer::Samples(a), Answer::Samples(b)) => {
+            let same = |(a, b): (&Sample, &Sample)| same_number(a.x, b.x) && same_number(a.y, b.y);
+            a.len() == b.len() && a.iter().zip(b).all(same)
+        }
+        _ => a == b,
+    }
+}
+
+/// A report as answered and written, against one that was worked out.
+fn check_report(
+    name: &str,
+    report: Result<Report, u8>,
+    answer: &Answer,
+    memory: &Memory,
+) -> Result<(), String> {
+    let report = match report {
+        Ok(report) => report,
+        Err(number) if *answer == Answer::Refused(number) => return Ok(()),
+        Err(number) => return Err(format!("judge answers {answer:?}, {name} refuses by {number}")),
+    };
+    let a = answer_of(&report);
+    let expected = Answer::Report {
+        degree: a.degree,
+        solved: a.solved,
+        outliers: a.outliers,
+        pruned: a.pruned,
+    };
+    if *answer != expected {
+        return Err(format!("judge answers {answer:?}, {name} {expected:?}"));
+    }
+    check_report_places(name, &report, memory)
+}
+
+fn check_report_places(name: &str, report: &Report, memory: &Memory) -> Result<(), String> {
+    let n = report.bands.len();
+    let lower: Vec<f64> = report.bands.iter().map(|band| band.lower).collect();
+    let upper: Vec<f64> = report.bands.iter().map(|band| band.upper).collect();
+    let numbers = [
+        ("coefficients", &memory.coefficients[..TERMS], terms(&report.coefficients)),
+        ("errors", &memory.errors[..TERMS], terms(&report.errors)),
+        ("lower", &memory.lower[..n], lower),
+        ("upper", &memory.upper[..n], upper),
+    ];
+    for (places, judges, theirs) in &numbers {
+        if let Some(difference) = first_difference(places, judges, theirs) {
+            return Err(format!("judge and {name}: {difference}"));
+        }
+    }
+    let mut pruned = vec![0; TERMS];
+    for (j, marked) in report.pruned.iter().enumerate() {
+        pruned[j] = u8::from(*marked);
+    }
+    let outlier: Vec<u8> = report.outliers.iter().map(|marked| u8::from(*marked)).collect();
+    if memory.pruned[..TERMS] != pruned || memory.outlier[..n] != outlier {
+        return Err(format!("judge and {name}: pruned or outlier marks differ"));
+    }
+    Ok(())
+}
+
+/// 16 places, +0 from k on.
+fn terms(values: &[f64]) -> Vec<f64> {
+    let mut places = values.to_vec();
+    places.resize(TERMS, 0.0);
+    places
+}
+
+/// The judge against polyfit.
+fn check_reference(
+    call: &Call,
+    answer: &Answer,
+    samples: &[Sample],
+    memory: &Memory,
+) -> Result<(), String> {
+    match call {
+        Call::Fit { degree } => {
+            let fit = reference::fit(samples, *degree).map(|values| (*degree, values));
+            check_fit(fit, answer, memory)
+        }
+        Call::Validate { folds, bound, criterion } => {
+            let fit = reference::validate(samples, *folds, *bound, *criterion);
+            check_fit(fit, answer, memory)
+        }
+        Call::Report(settings) => {
+            let report = reference::report(samples, *settings);
+            check_report("polyfit", report, answer, memory)?;
+            check_scores(samples, *settings)
+        }
+        Call::Band { x, degree, confidence, tolerance } => {
+            let band = reference::band(samples, (*x, *degree), *confidence, *tolerance);
+            let expected = match band {
+                Ok(b) => Answer::Band { value: b.value, lower: b.lower, upper: b.upper },
+                Err(number) => Answer::Refused(number),
+            };
+            if same_answer(answer, &expected) {
+                return Ok(());
+            }
+            Err(format!("judge answers {answer:?}, polyfit {expected:?}"))
+        }
+        _ => Ok(()),
+    }
+}
+
+/// A single fit as answered and written, against polyfit's.
+fn check_fit(
+    fit: Result<(usize, Vec<f64>), u8>,
+    answer: &Answer,
+    memory: &Memory,
+) -> Result<(), String> {
+    let (expected, coefficients) = match fit {
+        Ok((degree, coefficients)) => (Answer::Degree(degree), Some(coefficients)),
+        Err(number) => (Answer::Refused(number), None),
+    };
+    if *answer != expected {
+        return Err(format!("judge answers {answer:?}, polyfit {expected:?}"));
+    }
+    let Some(coefficients) = coefficients else { return Ok(()) };
+    let written = &memory.coefficients[..TERMS];
+    let difference = first_difference("coefficients", written, &terms(&coefficients));
+    difference.map_or(Ok(()), |text| Err(format!("judge and polyfit: {text}")))
+}
+
+/// Every degree's score, which no answer shows.
+fn check_scores(samples: &[Sample], settings: judge::fit::Settings) -> Result<(), String> {
+    let bound = judge::statistics::max_degree(settings.bound, samples.len());
+    let sums = folded_afresh(samples);
+    let ours = judge::fit::scores(samples, &sums, bound, settings.criterion);
+    let theirs = reference::scores(samples, settings.bound, settings.criterion);
+    if ours.iter().map(Option::is_some).ne(theirs.iter().map(Option::is_some)) {
+        return Err(format!("solved degrees: judge {ours:?}, polyfit {theirs:?}"));
+    }
+    let numbers = |scores: &[Option<f64>]| scores.iter().flatten().copied().collect::<Vec<f64>>();
+    let difference = first_difference("scores", &numbers(&ours), &numbers(&theirs));
+    difference.map_or(Ok(()), |text| Err(format!("judge and polyfit: {text}")))
+}
+
+/// Whatever document 01 does not let the call write is as it was; scratch is as it says.
+fn check_writes(
+    call: &Call,
+    answer: &Answer,
+    count: usize,
+    before: &Memory,
+    after: &Memory,
+) -> Result<(), String> {
+    let mut expected = before.clone();
+    if is_reading(call) && passes_nine(answer) {
+        expected.scratch[..count].fill(0.0);
+    }
+    match answer {
+        Answer::Refused(_) | Answer::Band { .. } | Answer::Samples(_) => {}
+        Answer::Book(new_count) => copy_book_places(call, count, *new_count, &mut expected, after),
+        Answer::Degree(_) => {
+            expected.coefficients[..TERMS].copy_from_slice(&after.coefficients[..TERMS]);
+        }
+        Answer::Report { .. } => copy_report_places(count, &mut expected, after),
+    }
+    match expected.difference(after) {
+        Some(difference) => Err(format!("written outside the call's places: {difference}")),
+        None => Ok(()),
+    }
+}
+
+/// The places that a call on the book may change.
+fn copy_book_places(
+    call: &Call,
+    count: usize,
+    new_count: usize,
+    expected: &mut Memory,
+    after: &Memory,
+) {
+    let (x, y, sums) = match call {
+        Call::Open => (0..0, 0..0, 0..PLACES),
+        Call::Correct { index, .. } => (0..0, *index..*index + 1, PLACES - TERMS..PLACES),
+        Call::Withdraw { index } => (*index..new_count, *index..new_count, 0..PLACES),
+        _ => (count..new_count, count..new_count, 0..PLACES),
+    };
+    expected.x[x.clone()].copy_from_slice(&after.x[x]);
+    expected.y[y.clone()].copy_from_slice(&after.y[y]);
+    expected.sums[sums.clone()].copy_from_slice(&after.sums[sums]);
+}
+
+/// The places that a report may change.
+fn copy_report_places(count: usize, expected: &mut Memory, after: &Memory) {
+    expected.coefficients[..TERMS].copy_from_slice(&after.coefficients[..TERMS]);
+    expected.errors[..TERMS].copy_from_slice(&after.errors[..TERMS]);
+    expected.pruned[..TERMS].copy_from_slice(&after.pruned[..TERMS]);
+    expected.lower[..count].copy_from_slice(&after.lower[..count]);
+    expected.upper[..count].copy_from_slice(&after.upper[..count]);
+    expected.outlier[..count].copy_from_slice(&after.outlier[..count]);
+}

@@ -1,0 +1,129 @@
+//! Makes a failing list smaller while it still fails.
+
+use judge::fit::Criterion;
+use judge::frame;
+use judge::statistics::{Confidence, Tolerance};
+use judge::Sample;
+
+use crate::call::{Call, List, Step};
+
+/// The most runs that shrinking may take.
+const MOST_RUNS: usize = 4000;
+
+/// The smallest list found that fails.
+pub fn shrink(list: &List, fails: impl Fn(&List) -> bool) -> List {
+    let mut best = list.clone();
+    let mut runs = 0;
+    'again: loop {
+        for smaller in candidates(&best) {
+            runs += 1;
+            if runs > MOST_RUNS {
+                return best;
+            }
+            if fails(&smaller) {
+                best = smaller;
+                continue 'again;
+            }
+        }
+        return best;
+    }
+}
+
+/// Smaller lists, the much smaller ones first.
+fn candidates(list: &List) -> Vec<List> {
+    let mut lists = Vec::new();
+    let length = list.steps.len();
+    let mut size = length / 2;
+    while size > 0 {
+        for start in (0..length).step_by(size) {
+            let mut smaller = list.clone();
+            smaller.steps.drain(start..(start + size).min(length));
+            lists.push(smaller);
+        }
+        size /= 2;
+    }
+    for (at, step) in list.steps.iter().enumerate() {
+        for simpler in simpler_steps(step) {
+            let mut smaller = list.clone();
+            smaller.steps[at] = simpler;
+            lists.push(smaller);
+        }
+    }
+    lists
+}
+
+/// The step without a disturbance, or with a simpler call.
+fn simpler_steps(step: &Step) -> Vec<Step> {
+    let mut steps = Vec::new();
+    for at in 0..step.pokes.len() {
+        let mut simpler = step.clone();
+        simpler.pokes.remove(at);
+        steps.push(simpler);
+    }
+    if step.count.is_some() {
+        steps.push(Step { count: None, ..step.clone() });
+    }
+    for call in simpler_calls(&step.call) {
+        steps.push(Step { call, ..step.clone() });
+    }
+    steps
+}
+
+/// Fewer bits: whole numbers near it, then those with half of the digits.
+fn simpler_numbers(v: f64) -> Vec<f64> {
+    let cut = |bits: u32| f64::from_bits(v.to_bits() >> bits << bits);
+    let mut numbers = vec![0.0, 1.0, -1.0, v.trunc(), (v * 8.0).trunc() / 8.0, cut(40), cut(26)];
+    // Only towards more zeros at the end, so that shrinking ends.
+    let zeros = |n: f64| n.to_bits().trailing_zeros();
+    numbers.retain(|n| n.is_finite() && zeros(*n) > zeros(v));
+    numbers
+}
+
+fn simpler_samples(sample: Sample) -> Vec<Sample> {
+    let with_x = simpler_numbers(sample.x).into_iter().map(|x| Sample { x, ..sample });
+    let with_y = simpler_numbers(sample.y).into_iter().map(|y| Sample { y, ..sample });
+    with_x.chain(with_y).collect()
+}
+
+fn simpler_calls(call: &Call) -> Vec<Call> {
+    match call {
+        Call::Add(sample) => simpler_samples(*sample).into_iter().map(Call::Add).collect(),
+        Call::Correct { index, y } => {
+            simpler_numbers(*y).into_iter().map(|y| Call::Correct { index: *index, y }).collect()
+        }
+        Call::AddFrame(bytes) => simpler_frames(bytes).into_iter().map(Call::AddFrame).collect(),
+        Call::Report(settings) => {
+            let mut calls = Vec::new();
+            let mut push = |simpler| {
+                if simpler != *settings {
+                    calls.push(Call::Report(simpler));
+                }
+            };
+            push(judge::fit::Settings { tolerance: Tolerance::None, ..*settings });
+            push(judge::fit::Settings { confidence: Confidence::P95, ..*settings });
+            push(judge::fit::Settings { criterion: Criterion::Aic, ..*settings });
+            calls
+        }
+        _ => Vec::new(),
+    }
+}
+
+/// A right frame with a sample less, or with one that is simpler.
+fn simpler_frames(bytes: &[u8]) -> Vec<Vec<u8>> {
+    if frame::wrong_length(bytes) || frame::wrong_version(bytes) {
+        return Vec::new();
+    }
+    let samples = frame::samples(bytes);
+    let mut frames = Vec::new();
+    for at in 0..samples.len() {
+        let mut fewer = samples.clone();
+        fewer.remove(at);
+        frames.push(frame::encode(&fewer));
+        for simpler in simpler_samples(samples[at]) {
+            let mut changed = samples.clone();
+            changed[at] = simpler;
+            frames.push(frame::encode(&changed));
+        }
+    }
+    frames
+}

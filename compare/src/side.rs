@@ -1,0 +1,164 @@
+//! A side: an implementation of the book's calls on lent memory.
+
+use judge::book;
+use judge::fit::{Criterion, Settings};
+use judge::statistics::{Confidence, DegreeBound, Tolerance};
+use judge::Sample;
+
+use crate::call::{Answer, Call};
+use crate::memory::Lent;
+
+/// The book's calls. Each gets the count and the lent memory, and answers; a side keeps nothing.
+pub trait Side {
+    fn name(&self) -> &'static str;
+    fn open(&self, lent: Lent) -> Answer;
+    fn add(&self, count: usize, lent: Lent, sample: Sample) -> Answer;
+    fn correct(&self, count: usize, lent: Lent, index: usize, y: f64) -> Answer;
+    fn withdraw(&self, count: usize, lent: Lent, index: usize) -> Answer;
+    fn add_frame(&self, count: usize, lent: Lent, frame: &[u8]) -> Answer;
+    fn fit(&self, count: usize, lent: Lent, degree: usize) -> Answer;
+    fn report(&self, count: usize, lent: Lent, settings: Settings) -> Answer;
+    fn validate(
+        &self,
+        count: usize,
+        lent: Lent,
+        folds: usize,
+        bound: DegreeBound,
+        criterion: Criterion,
+    ) -> Answer;
+    fn band(
+        &self,
+        count: usize,
+        lent: Lent,
+        at: (f64, usize),
+        confidence: Confidence,
+        tolerance: Tolerance,
+    ) -> Answer;
+    fn reader(&self, frame: &[u8]) -> Answer;
+
+    /// Makes the call.
+    fn make(&self, call: &Call, count: usize, lent: Lent) -> Answer {
+        match call {
+            Call::Open => self.open(lent),
+            Call::Add(sample) => self.add(count, lent, *sample),
+            Call::Correct { index, y } => self.correct(count, lent, *index, *y),
+            Call::Withdraw { index } => self.withdraw(count, lent, *index),
+            Call::AddFrame(frame) => self.add_frame(count, lent, frame),
+            Call::Fit { degree } => self.fit(count, lent, *degree),
+            Call::Report(settings) => self.report(count, lent, *settings),
+            Call::Validate { folds, bound, criterion } => {
+                self.validate(count, lent, *folds, *bound, *criterion)
+            }
+            Call::Band { x, degree, confidence, tolerance } => {
+                self.band(count, lent, (*x, *degree), *confidence, *tolerance)
+            }
+            Call::Reader(frame) => self.reader(frame),
+        }
+    }
+}
+
+/// Document 01 in Rust.
+pub struct Judge;
+
+/// A refusal, or what is answered.
+fn answer<T>(result: Result<T, u8>, of: impl Fn(T) -> Answer) -> Answer {
+    match result {
+        Ok(value) => of(value),
+        Err(number) => Answer::Refused(number),
+    }
+}
+
+/// The book's own part of what is lent.
+macro_rules! memory {
+    ($lent:ident) => {
+        book::Memory { x: $lent.x, y: $lent.y, sums: $lent.sums }
+    };
+}
+
+impl Side for Judge {
+    fn name(&self) -> &'static str {
+        "judge"
+    }
+
+    fn open(&self, lent: Lent) -> Answer {
+        answer(book::open(lent.sums), Answer::Book)
+    }
+
+    fn add(&self, count: usize, lent: Lent, sample: Sample) -> Answer {
+        answer(book::add(count, &mut memory!(lent), sample.x, sample.y), Answer::Book)
+    }
+
+    fn correct(&self, count: usize, lent: Lent, index: usize, y: f64) -> Answer {
+        answer(book::correct(count, &mut memory!(lent), index, y), Answer::Book)
+    }
+
+    fn withdraw(&self, count: usize, lent: Lent, index: usize) -> Answer {
+        answer(book::withdraw(count, &mut memory!(lent), index), Answer::Book)
+    }
+
+    fn add_frame(&self, count: usize, lent: Lent, frame: &[u8]) -> Answer {
+        answer(book::add_frame(count, &mut memory!(lent), frame), Answer::Book)
+    }
+
+    fn fit(&self, count: usize, lent: Lent, degree: usize) -> Answer {
+        let memory = memory!(lent);
+        answer(book::fit(count, &memory, degree, lent.scratch, lent.coefficients), Answer::Degree)
+    }
+
+    fn report(&self, count: usize, lent: Lent, settings: Settings) -> Answer {
+        let memory = memory!(lent);
+        let mut out = book::ReportMemory {
+            coefficients: lent.coefficients,
+            errors: lent.errors,
+            pruned: lent.pruned,
+            lower: lent.lower,
+            upper: lent.upper,
+            outlier: lent.outlier,
+        };
+        let result = book::report(count, &memory, settings, lent.scratch, &mut out);
+        answer(result, |a| Answer::Report {
+            degree: a.degree,
+            solved: a.solved,
+            outliers: a.outliers,
+            pruned: a.pruned,
+        })
+    }
+
+    fn validate(
+        &self,
+        count: usize,
+        lent: Lent,
+        folds: usize,
+        bound: DegreeBound,
+        criterion: Criterion,
+    ) -> Answer {
+        let memory = memory!(lent);
+        let by = (bound, criterion);
+        let result = book::validate(count, &memory, folds, by, lent.scratch, lent.coefficients);
+        answer(result, Answer::Degree)
+    }
+
+    fn band(
+        &self,
+        count: usize,
+        lent: Lent,
+        at: (f64, usize),
+        confidence: Confidence,
+        tolerance: Tolerance,
+    ) -> Answer {
+        let memory = memory!(lent);
+        let result = book::band(count, &memory, at, confidence, tolerance, lent.scratch);
+        answer(result, |b| Answer::Band { value: b.value, lower: b.lower, upper: b.upper })
+    }
+
+    fn reader(&self, frame: &[u8]) -> Answer {
+        let read = |mut reader: judge::frame::Reader| {
+            let mut samples = Vec::new();
+            while let Some(sample) = reader.next_sample() {
+                samples.push(sample);
+            }
+            samples
+        };
+        answer(book::reader(frame).map(read), Answer::Samples)
+    }
+}

@@ -1,0 +1,176 @@
+//! The comparison finds faults, and shrinks the lists that show them.
+
+use judge::fit::{Criterion, Settings};
+use judge::statistics::{Confidence, DegreeBound, Tolerance};
+use judge::Sample;
+
+use crate::call::{Answer, Call, List};
+use crate::coverage::Coverage;
+use crate::generate;
+use crate::memory::Lent;
+use crate::run::run;
+use crate::shrink::shrink;
+use crate::side::{Judge, Side};
+
+/// What a faulty side does after the judge's call: it may change the memory and the answer.
+type Fault = fn(&Call, usize, &mut Lent, &[f64], Answer) -> Answer;
+
+/// The judge with a fault.
+struct Faulty(Fault);
+
+fn again<'a>(lent: &'a mut Lent<'_>) -> Lent<'a> {
+    Lent {
+        x: lent.x,
+        y: lent.y,
+        sums: lent.sums,
+        scratch: lent.scratch,
+        coefficients: lent.coefficients,
+        errors: lent.errors,
+        pruned: lent.pruned,
+        lower: lent.lower,
+        upper: lent.upper,
+        outlier: lent.outlier,
+    }
+}
+
+impl Side for Faulty {
+    fn name(&self) -> &'static str {
+        "faulty"
+    }
+    fn make(&self, call: &Call, count: usize, mut lent: Lent) -> Answer {
+        let sums = lent.sums.to_vec();
+        let answer = Judge.make(call, count, again(&mut lent));
+        (self.0)(call, count, &mut lent, &sums, answer)
+    }
+    fn open(&self, lent: Lent) -> Answer {
+        Judge.open(lent)
+    }
+    fn add(&self, count: usize, lent: Lent, sample: Sample) -> Answer {
+        Judge.add(count, lent, sample)
+    }
+    fn correct(&self, count: usize, lent: Lent, index: usize, y: f64) -> Answer {
+        Judge.correct(count, lent, index, y)
+    }
+    fn withdraw(&self, count: usize, lent: Lent, index: usize) -> Answer {
+        Judge.withdraw(count, lent, index)
+    }
+    fn add_frame(&self, count: usize, lent: Lent, frame: &[u8]) -> Answer {
+        Judge.add_frame(count, lent, frame)
+    }
+    fn fit(&self, count: usize, lent: Lent, degree: usize) -> Answer {
+        Judge.fit(count, lent, degree)
+    }
+    fn report(&self, count: usize, lent: Lent, settings: Settings) -> Answer {
+        Judge.report(count, lent, settings)
+    }
+    fn validate(
+        &self,
+        count: usize,
+        lent: Lent,
+        folds: usize,
+        bound: DegreeBound,
+        criterion: Criterion,
+    ) -> Answer {
+        Judge.validate(count, lent, folds, bound, criterion)
+    }
+    fn band(
+        &self,
+        count: usize,
+        lent: Lent,
+        at: (f64, usize),
+        confidence: Confidence,
+        tolerance: Tolerance,
+    ) -> Answer {
+        Judge.band(count, lent, at, confidence, tolerance)
+    }
+    fn reader(&self, frame: &[u8]) -> Answer {
+        Judge.reader(frame)
+    }
+}
+
+/// The shrunk list that shows the fault, which must be found among the first lists.
+fn found(fault: Fault) -> List {
+    let side = Faulty(fault);
+    let fails = |list: &List| run(list, &[&side], &mut Coverage::default()).is_err();
+    let list = (1..4000).map(|number| generate::list(7, number)).find(|list| fails(list));
+    let smallest = shrink(&list.expect("the fault is found"), fails);
+    assert!(fails(&smallest));
+    smallest
+}
+
+#[test]
+fn no_fault_no_difference() {
+    let side = Faulty(|_, _, _, _, answer| answer);
+    for number in 1..200 {
+        let list = generate::list(7, number);
+        assert!(run(&list, &[&side], &mut Coverage::default()).is_ok());
+    }
+}
+
+#[test]
+fn one_bit_of_a_coefficient() {
+    let list = found(|_, _, lent, _, answer| {
+        if let Answer::Degree(_) = answer {
+            lent.coefficients[0] = f64::from_bits(lent.coefficients[0].to_bits() ^ 1);
+        }
+        answer
+    });
+    assert!(list.steps.len() <= 3, "{list:?}");
+}
+
+#[test]
+fn a_byte_past_the_end() {
+    let list = found(|_, count, lent, _, answer| {
+        if let (Answer::Report { .. }, Some(byte)) = (&answer, lent.outlier.get_mut(count)) {
+            *byte ^= 1;
+        }
+        answer
+    });
+    assert!(list.steps.len() <= 3, "{list:?}");
+}
+
+#[test]
+fn scratch_left_dirty_at_11() {
+    let list = found(|_, _, lent, _, answer| {
+        if answer == Answer::Refused(11) {
+            lent.scratch[0] = -0.0;
+        }
+        answer
+    });
+    assert!(list.steps.len() <= 4, "{list:?}");
+}
+
+#[test]
+fn full_before_not_finite() {
+    let list = found(|call, count, lent, _, answer| match (call, &answer) {
+        (Call::Add(_), Answer::Refused(4)) if count == lent.x.len() => Answer::Refused(5),
+        _ => answer,
+    });
+    assert!(list.steps.len() <= 3, "{list:?}");
+}
+
+/// Adjusting sums by subtraction on withdrawal: bits drift.
+#[test]
+fn withdrawal_by_subtraction() {
+    let list = found(|call, count, lent, before, answer| {
+        if let (Call::Withdraw { index }, Answer::Book(_)) = (call, &answer) {
+            // Only the last sample, whose x is still in its vacated place.
+            if *index + 1 == count {
+                lent.sums[1] = before[1] - lent.x[*index];
+            }
+        }
+        answer
+    });
+    assert!(list.steps.len() <= 5, "{list:?}");
+}
+
+/// Every list is the same when made again, and so is its run.
+#[test]
+fn lists_are_made_again() {
+    for number in 1..300 {
+        assert_eq!(
+            format!("{:?}", generate::list(5, number)),
+            format!("{:?}", generate::list(5, number))
+        );
+    }
+}

@@ -1,0 +1,384 @@
+//! Document 01, "Choice", "Covariance, bands, report" and "Validation, single fit, band": what a
+//! fit is, over samples and sums.
+
+use crate::coefficient_count;
+use crate::numbers::{abs, is_finite, ln, maximum, power, square_root, EPSILON};
+use crate::solve::{inverse, solve, Matrix};
+use crate::statistics::{
+    huber_loss, max_degree, median_absolute_deviation, residual_variance, stddev_and_mean, t_score,
+    z_score, Confidence, DegreeBound, Tolerance,
+};
+use crate::sums::{fitted, folded_afresh};
+use crate::Sample;
+
+/// The score by which a degree is chosen.
+#[derive(Debug, Clone, Copy, PartialEq)]
+pub enum Criterion {
+    Aic,
+    Bic,
+}
+
+/// A report's settings.
+#[derive(Debug, Clone, Copy, PartialEq)]
+pub struct Settings {
+    pub bound: DegreeBound,
+    pub criterion: Criterion,
+    pub confidence: Confidence,
+    pub tolerance: Tolerance,
+}
+
+/// Value, lower and upper.
+#[derive(Debug, Clone, Copy, PartialEq)]
+pub struct Band {
+    pub value: f64,
+    pub lower: f64,
+    pub upper: f64,
+}
+
+/// What a report answers and writes: coefficients, errors and pruned marks for each term of the
+/// chosen degree; band and outlier mark for each sample.
+#[derive(Debug, Clone, PartialEq)]
+pub struct Report {
+    pub degree: usize,
+    pub solved: usize,
+    pub coefficients: Vec<f64>,
+    pub errors: Vec<f64>,
+    pub pruned: Vec<bool>,
+    pub bands: Vec<Band>,
+    pub outliers: Vec<bool>,
+}
+
+/// y − fitted value, for each sample.
+pub fn residuals(samples: &[Sample], coefficients: &[f64]) -> Vec<f64> {
+    samples.iter().map(|sample| sample.y - fitted(coefficients, sample.x)).collect()
+}
+
+/// The coefficients of a solved degree: no pivot fails and every y − fitted value is finite.
+pub fn solved(samples: &[Sample], sums: &[f64], degree: usize) -> Option<Vec<f64>> {
+    let coefficients = solve(sums, coefficient_count(degree))?;
+    let all_finite = residuals(samples, &coefficients).into_iter().all(is_finite);
+    all_finite.then_some(coefficients)
+}
+
+/// The Huber loss of each residual.
+pub fn losses(residuals: &[f64]) -> Vec<f64> {
+    let deviation = median_absolute_deviation(residuals);
+    residuals.iter().map(|&r| huber_loss(r, deviation)).collect()
+}
+
+/// AIC or BIC, with k and the number n of samples scored.
+pub fn score(criterion: Criterion, residuals: &[f64], k: usize) -> f64 {
+    let mut total = 0.0;
+    for loss in losses(residuals) {
+        total += loss;
+    }
+    let n = residuals.len() as f64;
+    let k = k as f64;
+    let likelihood = ln(maximum(total / n, EPSILON));
+    match criterion {
+        Criterion::Aic => {
+            let aic = n * likelihood + 2.0 * k;
+            if n / k < 4.0 && n > k + 1.0 {
+                aic + 2.0 * k * (k + 1.0) / (n - k - 1.0)
+            } else {
+                aic
+            }
+        }
+        Criterion::Bic => n * likelihood + k * ln(n),
+    }
+}
+
+/// The least score starts at +infinity and yields to each smaller one.
+pub fn least(scores: &[Option<f64>]) -> f64 {
+    let mut least = f64::INFINITY;
+    for &score in scores.iter().flatten() {
+        if score < least {
+            least = score;
+        }
+    }
+    least
+}
+
+/// The lowest degree that has a score, with score − least at most 2. A +infinity least chooses none.
+pub fn chosen(scores: &[Option<f64>]) -> Option<usize> {
+    let least = least(scores);
+    (0..scores.len()).find(|&degree| scores[degree].is_some_and(|score| score - least <= 2.0))
+}
+
+/// The scores of the degrees 0 to the bound; none where the degree is unsolved.
+pub fn scores(
+    samples: &[Sample],
+    sums: &[f64],
+    bound: usize,
+    criterion: Criterion,
+) -> Vec<Option<f64>> {
+    let score_of = |degree| {
+        let coefficients = solved(samples, sums, degree)?;
+        let residuals = residuals(samples, &coefficients);
+        Some(score(criterion, &residuals, coefficient_count(degree)))
+    };
+    (0..=bound).map(score_of).collect()
+}
+
+/// The inverse × residual variance, place by place; none where an inverse pivot fails.
+pub fn covariance(samples: &[Sample], sums: &[f64], coefficients: &[f64]) -> Option<Matrix> {
+    let k = coefficients.len();
+    let mut covariance = inverse(sums, k)?;
+    let variance = residual_variance(&residuals(samples, coefficients), k);
+    for row in &mut covariance {
+        for place in row {
+            *place *= variance;
+        }
+    }
+    Some(covariance)
+}
+
+/// First each Σᵢ φᵢ × cov[i][j], then Σⱼ of that × φⱼ.
+pub fn prediction_variance(covariance: &Matrix, x: f64) -> f64 {
+    let k = covariance.len();
+    let mut variance = 0.0;
+    for j in 0..k {
+        let mut sum = 0.0;
+        for i in 0..k {
+            sum += power(x, i) * covariance[i][j];
+        }
+        variance += sum * power(x, j);
+    }
+    variance
+}
+
+/// The standard deviation of the y's, which a variance tolerance scales.
+fn deviation_of_y(samples: &[Sample]) -> f64 {
+    let ys: Vec<f64> = samples.iter().map(|sample| sample.y).collect();
+    stddev_and_mean(&ys).0
+}
+
+/// `confidence_band` at x.
+pub fn confidence_band(
+    coefficients: &[f64],
+    covariance: &Matrix,
+    deviation_of_y: f64,
+    x: f64,
+    confidence: Confidence,
+    tolerance: Tolerance,
+) -> Band {
+    let mut variance = prediction_variance(covariance, x);
+    let value = fitted(coefficients, x);
+    let width = match tolerance {
+        Tolerance::None => 0.0,
+        Tolerance::Absolute(width) => width,
+        Tolerance::Variance(part) => {
+            variance += (deviation_of_y * part) * (deviation_of_y * part);
+            0.0
+        }
+        Tolerance::Measurement(part) => abs(value) * part,
+    };
+    let error = square_root(variance);
+    let z = z_score(confidence);
+    let lower = (value - z * error) - width;
+    let upper = (value + z * error) + width;
+    Band { value, lower, upper }
+}
+
+/// An error is the root of a diagonal place.
+pub fn errors(covariance: &Matrix) -> Vec<f64> {
+    (0..covariance.len()).map(|j| square_root(covariance[j][j])).collect()
+}
+
+/// `prune_insignificant`: |c| / error below the t score at n − k, and c, not its size, above 2⁻⁵².
+pub fn pruned(coefficients: &[f64], errors: &[f64], n: usize, confidence: Confidence) -> Vec<bool> {
+    let df = n.saturating_sub(coefficients.len());
+    let critical = t_score(confidence, df);
+    let is_pruned = |(&c, &error): (&f64, &f64)| abs(c) / error < critical && c > EPSILON;
+    coefficients.iter().zip(errors).map(is_pruned).collect()
+}
+
+/// `outliers`: y outside its own band.
+pub fn is_outlier(sample: Sample, band: Band) -> bool {
+    sample.y < band.lower || sample.y > band.upper
+}
+
+/// The single fit at a degree; 10 where it is unsolved.
+pub fn fit(samples: &[Sample], sums: &[f64], degree: usize) -> Result<Vec<f64>, u8> {
+    solved(samples, sums, degree).ok_or(10)
+}
+
+/// A report; 11 where no degree is chosen, 12 where an inverse pivot fails.
+pub fn report(samples: &[Sample], sums: &[f64], settings: Settings) -> Result<Report, u8> {
+    let bound = max_degree(settings.bound, samples.len());
+    let scores = scores(samples, sums, bound, settings.criterion);
+    let degree = chosen(&scores).ok_or(11)?;
+    let coefficients = solved(samples, sums, degree).ok_or(11)?;
+    let covariance = covariance(samples, sums, &coefficients).ok_or(12)?;
+    let errors = errors(&covariance);
+    let pruned = pruned(&coefficients, &errors, samples.len(), settings.confidence);
+    let (confidence, tolerance) = (settings.confidence, settings.tolerance);
+    let deviation = deviation_of_y(samples);
+    let band_of = |sample: &Sample| {
+        confidence_band(&coefficients, &covariance, deviation, sample.x, confidence, tolerance)
+    };
+    let bands: Vec<Band> = samples.iter().map(band_of).collect();
+    let outliers = samples.iter().zip(&bands).map(|(&s, &band)| is_outlier(s, band)).collect();
+    let solved = scores.iter().flatten().count();
+    Ok(Report { degree, solved, coefficients, errors, pruned, bands, outliers })
+}
+
+/// The band at one x and degree; 10 where the degree is unsolved, 12 where an inverse pivot fails.
+pub fn band(
+    samples: &[Sample],
+    sums: &[f64],
+    x: f64,
+    degree: usize,
+    confidence: Confidence,
+    tolerance: Tolerance,
+) -> Result<Band, u8> {
+    let coefficients = fit(samples, sums, degree)?;
+    let covariance = covariance(samples, sums, &coefficients).ok_or(12)?;
+    let deviation = deviation_of_y(samples);
+    Ok(confidence_band(&coefficients, &covariance, deviation, x, confidence, tolerance))
+}
+
+/// Folds of n / folds samples, the last takes the rest.
+pub fn fold_ranges(n: usize, folds: usize) -> Vec<std::ops::Range<usize>> {
+    let size = n / folds;
+    let end = |i| if i == folds - 1 { n } else { (i + 1) * size };
+    (0..folds).map(|i| i * size..end(i)).collect()
+}
+
+/// The score of one degree on one fold: solved from sums over the other samples, scored on its own;
+/// none if a pivot fails or y − fitted is not finite for any sample of the book.
+fn fold_score(
+    samples: &[Sample],
+    other_sums: &[f64],
+    own: &[Sample],
+    degree: usize,
+    criterion: Criterion,
+) -> Option<f64> {
+    let coefficients = solved(samples, other_sums, degree)?;
+    let residuals = residuals(own, &coefficients);
+    Some(score(criterion, &residuals, coefficient_count(degree)))
+}
+
+/// The sum of the solved folds' scores in fold order from +0, divided by their number; none without
+/// a solved fold.
+fn mean_score(fold_scores: &[Option<f64>]) -> Option<f64> {
+    let mut sum = 0.0;
+    let mut number = 0.0;
+    for score in fold_scores.iter().flatten() {
+        sum += score;
+        number += 1.0;
+    }
+    (number > 0.0).then(|| sum / number)
+}
+
+/// Validation: the mean scores of the degrees 0 to the bound.
+pub fn validation_scores(
+    samples: &[Sample],
+    folds: usize,
+    bound: usize,
+    criterion: Criterion,
+) -> Vec<Option<f64>> {
+    let ranges = fold_ranges(samples.len(), folds);
+    let mut sums_of_others = Vec::new();
+    for range in &ranges {
+        let others = [&samples[..range.start], &samples[range.end..]].concat();
+        sums_of_others.push(folded_afresh(&others));
+    }
+    let mean_of = |degree| {
+        let score_of = |(range, sums): (&std::ops::Range<usize>, &Vec<f64>)| {
+            fold_score(samples, sums, &samples[range.clone()], degree, criterion)
+        };
+        let fold_scores: Vec<Option<f64>> =
+            ranges.iter().zip(&sums_of_others).map(score_of).collect();
+        mean_score(&fold_scores)
+    };
+    (0..=bound).map(mean_of).collect()
+}
+
+/// Validation: the single fit at the chosen degree, from the sums as they are; 11 where none is
+/// chosen, 10 where the chosen one is unsolved.
+pub fn validate(
+    samples: &[Sample],
+    sums: &[f64],
+    folds: usize,
+    bound: DegreeBound,
+    criterion: Criterion,
+) -> Result<(usize, Vec<f64>), u8> {
+    let bound = max_degree(bound, samples.len());
+    let scores = validation_scores(samples, folds, bound, criterion);
+    let degree = chosen(&scores).ok_or(11)?;
+    Ok((degree, fit(samples, sums, degree)?))
+}
+
+#[cfg(test)]
+mod tests {
+    use super::*;
+
+    fn samples_of(pairs: &[(f64, f64)]) -> Vec<Sample> {
+        pairs.iter().map(|&(x, y)| Sample { x, y }).collect()
+    }
+
+    const T11_SETTINGS: Settings = Settings {
+        bound: DegreeBound::Custom(1),
+        criterion: Criterion::Aic,
+        confidence: Confidence::P95,
+        tolerance: Tolerance::None,
+    };
+
+    #[test]
+    fn t10_fit_of_three() {
+        let samples = samples_of(&[(0.0, 1.0), (1.0, 3.0), (2.0, 5.0)]);
+        assert_eq!(fit(&samples, &folded_afresh(&samples), 1), Ok(vec![1.0, 2.0]));
+    }
+
+    #[test]
+    fn t11_degree_0_is_exactly_2_above() {
+        let samples = samples_of(&[(0.0, 1.0), (1.0, 3.0), (2.0, 5.0)]);
+        let sums = folded_afresh(&samples);
+        let scores = scores(&samples, &sums, 1, Criterion::Aic);
+        assert_eq!(scores[0].unwrap() - scores[1].unwrap(), 2.0);
+        assert_eq!(least(&scores), scores[1].unwrap());
+        let report = report(&samples, &sums, T11_SETTINGS).unwrap();
+        assert_eq!((report.degree, report.solved), (0, 2));
+    }
+
+    #[test]
+    fn t12_degree_1_unsolved() {
+        let samples = samples_of(&[(2.0, 1.0), (2.0, 5.0)]);
+        let sums = folded_afresh(&samples);
+        assert_eq!(fit(&samples, &sums, 1), Err(10));
+        let report = report(&samples, &sums, T11_SETTINGS).unwrap();
+        assert_eq!((report.degree, report.solved), (0, 1));
+    }
+
+    #[test]
+    fn ten_samples_in_three_folds() {
+        assert_eq!(fold_ranges(10, 3), vec![0..3, 3..6, 6..10]);
+        assert_eq!(fold_ranges(4, 4), vec![0..1, 1..2, 2..3, 3..4]);
+    }
+
+    #[test]
+    fn choice_at_its_edges() {
+        assert_eq!(chosen(&[Some(f64::INFINITY), Some(f64::INFINITY)]), None);
+        assert_eq!(chosen(&[Some(f64::NEG_INFINITY)]), None);
+        assert_eq!(chosen(&[None, None]), None);
+        assert_eq!(chosen(&[None, Some(3.0), Some(1.0)]), Some(1));
+        assert_eq!(chosen(&[Some(3.5), None, Some(1.0)]), Some(2));
+        assert_eq!(chosen(&[Some(f64::NAN), Some(1.0)]), Some(1));
+    }
+
+    /// The two middle sizes add up to infinity, so every loss is half a square.
+    #[test]
+    fn infinite_median() {
+        let residuals = [1.5e308, -1.5e308];
+        assert_eq!(median_absolute_deviation(&residuals), f64::INFINITY);
+        assert_eq!(score(Criterion::Aic, &residuals, 1), f64::INFINITY);
+    }
+
+    #[test]
+    fn negative_terms_stay() {
+        assert_eq!(pruned(&[1.0, -1.0], &[10.0, 10.0], 3, Confidence::P95), vec![true, false]);
+        // At df 0 a −0 error makes t −infinity, and a +0 error makes it +infinity.
+        assert_eq!(pruned(&[1.0, 1.0], &[-0.0, 0.0], 2, Confidence::P95), vec![true, false]);
+    }
+}

@@ -1,0 +1,34 @@
+//! Document 01 transcribed in plain Rust, in the document's order and words.
+//!
+//! Every float step is written out, so that the order of rounding can be read off the text. Nothing
+//! is shared, cached or skipped; where a faster way exists, this is what it must agree with.
+//!
+//! `numbers`, `statistics`, `sums`, `solve`, `fit` and `frame` are definitions over samples and
+//! sums; `refusals` says which number a call is refused by; `book` has the calls on lent memory;
+//! `ledger` is the plain list of samples that the book must agree with; `listing` is the program.
+
+// Places are named by index, as the document names them.
+#![allow(clippy::needless_range_loop)]
+
+pub mod book;
+pub mod fit;
+pub mod frame;
+pub mod ledger;
+pub mod listing;
+pub mod numbers;
+pub mod refusals;
+pub mod solve;
+pub mod statistics;
+pub mod sums;
+
+/// A sample: finite x and y.
+#[derive(Debug, Clone, Copy, PartialEq)]
+pub struct Sample {
+    pub x: f64,
+    pub y: f64,
+}
+
+/// k is degree + 1; a degree is never taken for a coefficient count.
+pub fn coefficient_count(degree: usize) -> usize {
+    degree + 1
+}

@@ -1,0 +1,427 @@
+//! Each call on small lent memory: what it answers, what it writes, and by which number it is
+//! refused where several would do. The expected values are worked out by hand from document 01.
+
+use judge::book::{self, Memory, ReportAnswer, ReportMemory};
+use judge::fit::{Band, Criterion, Settings};
+use judge::frame::encode;
+use judge::numbers::bits;
+use judge::statistics::{Confidence, DegreeBound, Tolerance};
+use judge::sums::{folded_afresh, PLACES, TERMS};
+use judge::Sample;
+
+const NAN: f64 = f64::NAN;
+const INFINITY: f64 = f64::INFINITY;
+
+/// What stands in memory before anything is written.
+const MARK: f64 = 77.0;
+
+const AIC_1: Settings = Settings {
+    bound: DegreeBound::Custom(1),
+    criterion: Criterion::Aic,
+    confidence: Confidence::P95,
+    tolerance: Tolerance::None,
+};
+
+/// A book with memory of its own.
+struct Book {
+    count: usize,
+    x: Vec<f64>,
+    y: Vec<f64>,
+    sums: Vec<f64>,
+    scratch: Vec<f64>,
+    coefficients: Vec<f64>,
+    errors: Vec<f64>,
+    pruned: Vec<u8>,
+    lower: Vec<f64>,
+    upper: Vec<f64>,
+    outlier: Vec<u8>,
+}
+
+impl Book {
+    /// Opened, with the given samples added.
+    fn new(capacity: usize, samples: &[(f64, f64)]) -> Self {
+        let mut book = Self {
+            count: 0,
+            x: vec![MARK; capacity],
+            y: vec![MARK; capacity],
+            sums: vec![MARK; PLACES + 1],
+            scratch: vec![MARK; capacity + 1],
+            coefficients: vec![MARK; TERMS + 1],
+            errors: vec![MARK; TERMS + 1],
+            pruned: vec![77; TERMS + 1],
+            lower: vec![MARK; capacity + 1],
+            upper: vec![MARK; capacity + 1],
+            outlier: vec![77; capacity + 1],
+        };
+        book.count = book::open(&mut book.sums).unwrap();
+        for &(x, y) in samples {
+            assert!(book.add(x, y).is_ok());
+        }
+        book
+    }
+
+    fn memory(&mut self) -> Memory<'_> {
+        Memory { x: &mut self.x, y: &mut self.y, sums: &mut self.sums }
+    }
+
+    /// The answer; a new count is kept.
+    fn keep(&mut self, answer: Result<usize, u8>) -> Result<usize, u8> {
+        self.count = answer.unwrap_or(self.count);
+        answer
+    }
+
+    fn add(&mut self, x: f64, y: f64) -> Result<usize, u8> {
+        let count = self.count;
+        let answer = book::add(count, &mut self.memory(), x, y);
+        self.keep(answer)
+    }
+
+    fn correct(&mut self, index: usize, y: f64) -> Result<usize, u8> {
+        let count = self.count;
+        book::correct(count, &mut self.memory(), index, y)
+    }
+
+    fn withdraw(&mut self, index: usize) -> Result<usize, u8> {
+        let count = self.count;
+        let answer = book::withdraw(count, &mut self.memory(), index);
+        self.keep(answer)
+    }
+
+    fn add_frame(&mut self, bytes: &[u8]) -> Result<usize, u8> {
+        let count = self.count;
+        let answer = book::add_frame(count, &mut self.memory(), bytes);
+        self.keep(answer)
+    }
+
+    fn fit(&mut self, degree: usize) -> Result<usize, u8> {
+        let memory = Memory { x: &mut self.x, y: &mut self.y, sums: &mut self.sums };
+        book::fit(self.count, &memory, degree, &mut self.scratch, &mut self.coefficients)
+    }
+
+    fn report(&mut self, settings: Settings) -> Result<ReportAnswer, u8> {
+        let memory = Memory { x: &mut self.x, y: &mut self.y, sums: &mut self.sums };
+        let mut out = ReportMemory {
+            coefficients: &mut self.coefficients,
+            errors: &mut self.errors,
+            pruned: &mut self.pruned,
+            lower: &mut self.lower,
+            upper: &mut self.upper,
+            outlier: &mut self.outlier,
+        };
+        book::report(self.count, &memory, settings, &mut self.scratch, &mut out)
+    }
+
+    fn validate(&mut self, folds: usize, bound: usize) -> Result<usize, u8> {
+        let memory = Memory { x: &mut self.x, y: &mut self.y, sums: &mut self.sums };
+        let by = (DegreeBound::Custom(bound), Criterion::Aic);
+        let (scratch, coefficients) = (&mut self.scratch, &mut self.coefficients);
+        book::validate(self.count, &memory, folds, by, scratch, coefficients)
+    }
+
+    fn band(&mut self, x: f64, degree: usize) -> Result<Band, u8> {
+        let memory = Memory { x: &mut self.x, y: &mut self.y, sums: &mut self.sums };
+        let (confidence, tolerance) = (Confidence::P95, Tolerance::None);
+        book::band(self.count, &memory, (x, degree), confidence, tolerance, &mut self.scratch)
+    }
+
+    fn is_folded(&self, samples: &[(f64, f64)]) -> bool {
+        let samples: Vec<Sample> = samples.iter().map(|&(x, y)| Sample { x, y }).collect();
+        self.sums[..PLACES] == folded_afresh(&samples) && self.sums[PLACES] == MARK
+    }
+}
+
+const LINE: [(f64, f64); 3] = [(0.0, 1.0), (1.0, 3.0), (2.0, 5.0)];
+
+#[test]
+fn open_writes_272_places() {
+    let mut sums = vec![MARK; PLACES + 1];
+    assert_eq!(book::open(&mut sums[..PLACES - 1]), Err(1));
+    assert_eq!(sums, vec![MARK; PLACES + 1]);
+    assert_eq!(book::open(&mut sums), Ok(0));
+    assert!(sums[..PLACES].iter().all(|v| v.to_bits() == 0));
+    assert_eq!(sums[PLACES], MARK);
+}
+
+#[test]
+fn add_at_the_end() {
+    let mut book = Book::new(3, &LINE[..2]);
+    assert_eq!((book.count, book.x[2]), (2, MARK));
+    assert!(book.is_folded(&LINE[..2]));
+    assert_eq!(book.add(NAN, 1.0), Err(4));
+    assert_eq!(book.add(1.0, INFINITY), Err(4));
+    assert_eq!(book.add(2.0, 5.0), Ok(3));
+    assert_eq!(book.add(9.0, 9.0), Err(5));
+    assert_eq!(book.add(NAN, 9.0), Err(4));
+    book.sums.truncate(PLACES - 1);
+    assert_eq!(book.add(NAN, 9.0), Err(1));
+    assert_eq!(book.x, [0.0, 1.0, 2.0]);
+}
+
+#[test]
+fn correct_folds_g_alone() {
+    let mut book = Book::new(3, &LINE);
+    book.sums[0] = MARK;
+    assert_eq!(book.correct(3, NAN), Err(4));
+    assert_eq!(book.correct(3, 1.0), Err(6));
+    assert_eq!(book.correct(2, 8.0), Ok(3));
+    assert_eq!((book.sums[0], book.sums[256], book.y[2]), (MARK, 12.0, 8.0));
+    book.count = 4;
+    assert_eq!(book.correct(0, 1.0), Err(1));
+}
+
+#[test]
+fn withdraw_moves_down_and_folds() {
+    let mut book = Book::new(3, &LINE);
+    assert_eq!(book.withdraw(3), Err(6));
+    book.sums[0] = MARK;
+    assert_eq!(book.withdraw(0), Ok(2));
+    // The vacated last place keeps its value.
+    assert_eq!(book.x, [1.0, 2.0, 2.0]);
+    assert_eq!(book.y, [3.0, 5.0, 5.0]);
+    assert!(book.is_folded(&LINE[1..]));
+    assert_eq!(book.add(7.0, 8.0), Ok(3));
+    assert_eq!(book.x, [1.0, 2.0, 7.0]);
+}
+
+#[test]
+fn frame_is_that_many_adds() {
+    let samples = LINE.map(|(x, y)| Sample { x, y });
+    let mut book = Book::new(3, &[]);
+    assert_eq!(book.add_frame(&encode(&[])), Ok(0));
+    assert_eq!(book.add_frame(&encode(&samples)), Ok(3));
+    assert!(book.is_folded(&LINE));
+    assert_eq!(book.add_frame(&encode(&samples)), Err(5));
+    assert_eq!(book.add_frame(&encode(&[Sample { x: NAN, y: 0.0 }])), Err(4));
+    let mut wrong = encode(&[Sample { x: NAN, y: 0.0 }]);
+    wrong[2] = 2;
+    assert_eq!(book.add_frame(&wrong), Err(3));
+    wrong.push(0);
+    assert_eq!(book.add_frame(&wrong), Err(2));
+    book.sums.truncate(0);
+    assert_eq!(book.add_frame(&wrong), Err(1));
+}
+
+#[test]
+fn reader_hands_out_and_ends() {
+    let bytes = encode(&[Sample { x: 1.0, y: NAN }]);
+    let mut reader = book::reader(&bytes).unwrap();
+    let sample = reader.next_sample().unwrap();
+    assert!(sample.x == 1.0 && sample.y.is_nan());
+    assert_eq!(reader.next_sample(), None);
+    assert_eq!(book::reader(&bytes[1..]).err(), Some(2));
+    assert_eq!(book::reader(&[0, 1, 0]).err(), Some(3));
+}
+
+#[test]
+fn fit_writes_16_coefficients() {
+    let mut book = Book::new(4, &LINE);
+    assert_eq!(book.fit(1), Ok(1));
+    assert_eq!(book.coefficients[..3], [1.0, 2.0, 0.0]);
+    assert!(book.coefficients[2..TERMS].iter().all(|v| v.to_bits() == 0));
+    assert_eq!(book.coefficients[TERMS], MARK);
+    assert_eq!(book.scratch, [0.0, 0.0, 0.0, MARK, MARK]);
+}
+
+#[test]
+fn fit_is_refused_in_order() {
+    let mut book = Book::new(20, &[]);
+    assert_eq!(book.fit(0), Err(7));
+    for i in 0..17 {
+        book.add(f64::from(i), 1.0).unwrap();
+    }
+    assert_eq!(book.fit(16), Err(8));
+    assert_eq!(book.fit(17), Err(8));
+    book.y[16] = NAN;
+    assert_eq!(book.fit(usize::MAX), Err(4));
+    book.coefficients.truncate(TERMS - 1);
+    assert_eq!(book.fit(usize::MAX), Err(1));
+    assert_eq!(book.scratch, vec![MARK; 21]);
+}
+
+#[test]
+fn unsolved_fit_clears_scratch_only() {
+    let mut book = Book::new(2, &[(2.0, 1.0), (2.0, 5.0)]);
+    assert_eq!(book.fit(1), Err(10));
+    assert_eq!(book.scratch, [0.0, 0.0, MARK]);
+    assert_eq!(book.coefficients, vec![MARK; TERMS + 1]);
+}
+
+/// Degree 0 of the line: mean 3, residuals −2, 0, 2, variance 8 / 2, inverse 1 / (3 + 2⁻⁵²).
+#[test]
+fn report_of_t11() {
+    let mut book = Book::new(4, &LINE);
+    let answer = book.report(AIC_1).unwrap();
+    let expected = ReportAnswer { degree: 0, solved: 2, outliers: 0, pruned: 1 };
+    assert_eq!(answer, expected);
+    let variance = 1.0 / 3.0 * 4.0;
+    assert_eq!(book.coefficients[..2], [3.0, 0.0]);
+    assert_eq!(book.errors[..2], [f64::sqrt(variance), 0.0]);
+    // t is 3 / 1.15, below 4.303, the score at df 2.
+    assert_eq!(book.pruned[..2], [1, 0]);
+    assert_eq!(book.lower[..3], [3.0 - 1.959 * f64::sqrt(variance); 3]);
+    assert_eq!(book.upper[..3], [3.0 + 1.959 * f64::sqrt(variance); 3]);
+    assert_eq!(book.outlier[..3], [0, 0, 0]);
+    assert_eq!((book.errors[TERMS], book.pruned[TERMS], book.lower[3]), (MARK, 77, MARK));
+    assert_eq!((book.upper[3], book.outlier[3], book.scratch[3]), (MARK, 77, MARK));
+}
+
+#[test]
+fn report_is_refused_in_order() {
+    let mut book = Book::new(17, &[]);
+    let nan_score = Settings { confidence: Confidence::Custom(NAN), ..AIC_1 };
+    let nan_tolerance = Settings { tolerance: Tolerance::Variance(NAN), ..AIC_1 };
+    let wide = Settings { bound: DegreeBound::Custom(20), ..AIC_1 };
+    assert_eq!(book.report(AIC_1), Err(7));
+    assert_eq!(book.report(nan_score), Err(4));
+    assert_eq!(book.report(nan_tolerance), Err(4));
+    for i in 0..16 {
+        book.add(f64::from(i), 1.0).unwrap();
+    }
+    assert!(book.report(wide).is_ok(), "bounded by n - 1, which is 15");
+    book.add(16.0, 1.0).unwrap();
+    assert_eq!(book.report(wide), Err(8));
+    book.lower.truncate(16);
+    assert_eq!(book.report(wide), Err(1));
+}
+
+/// Each memory one place too short, also where the call would be refused later.
+#[test]
+fn report_on_short_memory() {
+    let shorten: [fn(&mut Book); 8] = [
+        |book| book.sums.truncate(PLACES - 1),
+        |book| book.scratch.truncate(2),
+        |book| book.coefficients.truncate(TERMS - 1),
+        |book| book.errors.truncate(TERMS - 1),
+        |book| book.pruned.truncate(TERMS - 1),
+        |book| book.lower.truncate(2),
+        |book| book.upper.truncate(2),
+        |book| book.outlier.truncate(2),
+    ];
+    for shorten in shorten {
+        let mut book = Book::new(3, &LINE);
+        shorten(&mut book);
+        assert_eq!(book.report(AIC_1), Err(1));
+        assert_eq!(book.report(Settings { tolerance: Tolerance::Absolute(NAN), ..AIC_1 }), Err(1));
+        assert!(book.scratch.iter().all(|v| *v == MARK));
+    }
+}
+
+#[test]
+fn report_without_a_choice() {
+    let mut book = Book::new(2, &[(0.0, f64::MAX), (0.0, f64::MAX)]);
+    assert_eq!(book.report(AIC_1), Err(11));
+    assert_eq!(book.scratch, [0.0, 0.0, MARK]);
+    assert_eq!(book.coefficients, vec![MARK; TERMS + 1]);
+    assert_eq!(book.outlier, [77, 77, 77]);
+}
+
+/// Sums as they are: a first pivot of 2⁻⁵², which the inverse doubles, so that its second fails.
+#[test]
+fn report_without_an_inverse() {
+    let mut book = Book::new(2, &LINE[..2]);
+    let (p, above) = (1.0 / (1u64 << 26) as f64, 1.0 + 1.0 / 1024.0);
+    (book.sums[0], book.sums[1]) = (f64::EPSILON, p);
+    (book.sums[16], book.sums[17]) = (-p * above, -1.0);
+    (book.sums[256], book.sums[257]) = (f64::EPSILON + 2.0 * p, -p * above - 2.0);
+    assert_eq!(book.report(AIC_1), Err(12));
+    assert_eq!(book.band(0.5, 1), Err(12));
+    assert_eq!(book.errors, vec![MARK; TERMS + 1]);
+    assert_eq!(book.fit(1), Ok(1));
+    assert_eq!(book.coefficients[..2], [1.0, 2.0]);
+}
+
+/// With n = k the variance is +0; a negative place of the inverse makes the error −0, t −infinity,
+/// and prunes a positive term at df 0.
+#[test]
+fn report_with_a_negative_zero_error() {
+    let mut book = Book::new(2, &LINE[..2]);
+    (book.sums[0], book.sums[1]) = (1.0, 1.0);
+    (book.sums[16], book.sums[17]) = (-2.0, -1.0);
+    (book.sums[256], book.sums[257]) = (3.0, -4.0);
+    let answer = book.report(AIC_1).unwrap();
+    assert_eq!((answer.degree, answer.pruned), (1, 1));
+    assert_eq!(book.errors[..2].iter().map(|v| bits(*v)).collect::<Vec<_>>(), [1 << 63, 0]);
+    assert_eq!(book.pruned[..2], [1, 0]);
+}
+
+#[test]
+fn validate_answers_the_single_fit() {
+    let mut book = Book::new(5, &[(0.0, 0.0), (1.0, 1.0), (2.0, 2.0), (3.0, 3.0), (4.0, 4.0)]);
+    assert_eq!(book.validate(2, 1), Ok(1));
+    assert_eq!(book.coefficients[..3], [0.0, 1.0, 0.0]);
+    // A fold of one sample has no deviation, so no loss at any degree: the lowest degree is chosen.
+    assert_eq!(book.validate(5, 1), Ok(0));
+    assert_eq!(book.scratch, [0.0, 0.0, 0.0, 0.0, 0.0, MARK]);
+    for folds in [0, 1, 6] {
+        assert_eq!(book.validate(folds, 1), Err(7));
+    }
+    // The folds solve from the columns, the answer from the lent sums.
+    book.sums[0] = 0.0;
+    assert_eq!(book.validate(2, 1), Err(10));
+    book.x[4] = INFINITY;
+    assert_eq!(book.validate(0, 1), Err(4));
+}
+
+/// A fold without the far x solves degree 2, the whole list does not: 10 from the ledger's own sums.
+#[test]
+fn validate_chooses_an_unsolved_degree() {
+    let near = [(0.0, 0.0), (1.0, 1.0), (2.0, 4.0), (3.0, 9.0), (4.0, 16.0)];
+    let mut book = Book::new(6, &near);
+    book.add(1e9, 0.0).unwrap();
+    assert_eq!(book.validate(2, 2), Err(10));
+    assert_eq!(book.fit(2), Err(10));
+}
+
+#[test]
+fn validate_without_a_choice() {
+    let mut book = Book::new(4, &[(0.0, f64::MAX); 4]);
+    assert_eq!(book.validate(2, 1), Err(11));
+    assert_eq!(book.coefficients, vec![MARK; TERMS + 1]);
+}
+
+#[test]
+fn band_is_refused_in_order() {
+    let mut book = Book::new(3, &[]);
+    assert_eq!(book.band(0.0, 0), Err(7));
+    assert_eq!(book.band(NAN, 0), Err(4));
+    for (x, y) in LINE {
+        book.add(x, y).unwrap();
+    }
+    assert_eq!(book.band(9.0, 3), Err(8));
+    assert_eq!(book.band(9.0, 2), Err(9));
+    assert_eq!(book.band(2.0f64.next_up(), 1), Err(9));
+    assert_eq!(book.scratch, vec![MARK; 4]);
+    // Zeros of both signs lie within each other.
+    let band = book.band(-0.0, 1).unwrap();
+    assert_eq!((band.value, band.lower, band.upper), (1.0, 1.0, 1.0));
+    assert_eq!(book.scratch, [0.0, 0.0, 0.0, MARK]);
+}
+
+#[test]
+fn count_above_capacity() {
+    let mut book = Book::new(3, &LINE);
+    book.y.truncate(2);
+    assert_eq!(book.add(0.0, 0.0), Err(1));
+    assert_eq!(book.withdraw(0), Err(1));
+    assert_eq!(book.fit(0), Err(1));
+    assert_eq!(book.report(AIC_1), Err(1));
+    assert_eq!(book.validate(2, 1), Err(1));
+    assert_eq!(book.band(0.0, 0), Err(1));
+    book.count = 2;
+    assert_eq!(book.add(0.0, 0.0), Err(5));
+}
+
+/// At most 4,096 samples, however long the columns.
+#[test]
+fn count_above_4096() {
+    let mut book = Book::new(4100, &[]);
+    book.count = 4096;
+    assert_eq!(book.add(0.0, 0.0), Err(5));
+    assert_eq!(book.add_frame(&encode(&[Sample { x: 0.0, y: 0.0 }])), Err(5));
+    book.sums[0] = 4096.0;
+    assert_eq!(book.fit(0), Ok(0));
+    book.count = 4097;
+    assert_eq!(book.add(0.0, 0.0), Err(1));
+    assert_eq!(book.fit(0), Err(1));
+    assert_eq!(book.withdraw(4096), Err(1));
+}

@@ -1,0 +1,10 @@
+//! Stub for src/basis/hermite.rs: the type names alone, for the aliases that name them. This basis is
+//! left out of the port.
+
+use std::marker::PhantomData;
+
+use crate::value::Value;
+
+pub struct PhysicistsHermiteBasis<T: Value = f64>(pub PhantomData<T>);
+
+pub struct ProbabilistsHermiteBasis<T: Value = f64>(pub PhantomData<T>);

@@ -1,0 +1,15 @@
+// Stub for src/lib.rs: the modules and the names that the text looks for at the root of the crate.
+// The bases other than the monomial one, and plotting, are left out of the port.
+
+pub mod basis;
+pub mod display;
+pub mod error;
+pub mod score;
+pub mod statistics;
+pub mod value;
+
+mod fit;
+mod polynomial;
+
+pub use fit::*;
+pub use polynomial::*;
