@@ -10,7 +10,7 @@ use lib.ListN.{length, drop, length-map}
 use lib.Ieee.{Float, binary64, fits}
 use lib.Ieee.Fits.{sub-fits}
 use Rattle.loops.specs.All.{All}
-use Rattle.loops.specs.Fold.{fold, allOf}
+use Rattle.loops.specs.Fold.{allOf, all-cons}
 use Rattle.loops.specs.Within.{within-itself, within-written, front-written}
 use Rattle.value.specs.Absolute.{absF}
 use Rattle.value.specs.Finite.{finite}
@@ -68,21 +68,12 @@ module _ (sums : List Float) (rows : List Row) (k n : ℕ) (t : List Float) (s :
 
 -- ---- the sizes of finite residuals
 
-stays : (l : List Float) → fold (λ b a. b && finite a) false l ≡ false
-unfolding fold
-stays [] = refl
-stays (x ∷ xs) = stays xs
-
 kept : (k : ℕ) (c : List Float) (rows : List Row) → allOf finite (residuals k c rows) ≡ true → All (λ x. T (finite x) × T (fits binary64 x)) (residuals k c rows)
-unfolding residuals residual fold
+unfolding residuals residual
 kept k c [] h = tt
-kept k c (r ∷ rows) h = go (finite (residual k c r)) refl h (kept k c rows)
-  where
-    go : (t : Bool) → finite (residual k c r) ≡ t → fold (λ b a. b && finite a) t (map (residual k c) rows) ≡ true
-        → (fold (λ b a. b && finite a) true (map (residual k c) rows) ≡ true → All (λ x. T (finite x) × T (fits binary64 x)) (map (residual k c) rows))
-        → All (λ x. T (finite x) × T (fits binary64 x)) (residual k c r ∷ map (residual k c) rows)
-    go true q h f = ((subst T (sym q) tt, sub-fits binary64 (r .y) _), f h)
-    go false q h f = absurd (false≢true (sym (stays (map (residual k c) rows)) ∙ h))
+kept k c (r ∷ rows) h =
+    let p = all-cons finite (residual k c r) (map (residual k c) rows) h in
+    ((subst T (sym (p .0)) tt, sub-fits binary64 (r .y) _), kept k c rows (p .1))
 
 and-second : (a b : Bool) → a && b ≡ true → b ≡ true
 and-second true b h = h

@@ -1,6 +1,6 @@
 -- A fold in index order. Assumes nothing.
-use mathlib.Core.Path.{_≡_, refl, ap, _∙_}
-use mathlib.Core.Bool.{Bool, true, _&&_}
+use mathlib.Core.Path.{_≡_, refl, sym, ap, _∙_}
+use mathlib.Core.Bool.{Bool, true, false, _&&_, false≢true}
 use mathlib.Core.List.{List, [], _∷_, _++_, map, map-append}
 use Prim.Native.Nat.{ℕ, _+_, _<_}
 use native.Mathlib.Numerals.{add-one}
@@ -24,6 +24,12 @@ unfolding fold
 fold-snoc f b [] a = refl
 fold-snoc f b (v ∷ vs) a = fold-snoc f (f b v) vs a
 
+-- one list behind another
+pub fold-append : {A B : Type 0} (f : B → A → B) (b : B) (l m : List A) → fold f b (l ++ m) ≡ fold f (fold f b l) m
+unfolding fold
+fold-append f b [] m = refl
+fold-append f b (v ∷ vs) m = fold-append f (f b v) vs m
+
 -- one turn of a loop that folds a list
 pub fold-again : {A B : Type 0} (f : B → A → B) (b : B) (l : List A) (d : A) (i : ℕ) → i < length l
     → fold f b (take (i + 1) l) ≡ f (fold f b (take i l)) (getD l i d)
@@ -45,3 +51,16 @@ pub fold-map : {A B C : Type 0} (f : C → B → C) (g : A → B) (v : C) (l : L
 unfolding fold
 fold-map f g v [] = refl
 fold-map f g v (a ∷ l) = fold-map f g (f v (g a)) l
+
+-- a test that passes at every element passes at the first, and at every later one
+pub all-cons : {A : Type 0} (f : A → Bool) (a : A) (l : List A) → allOf f (a ∷ l) ≡ true → (f a ≡ true) × (allOf f l ≡ true)
+unfolding fold
+all-cons {A} f a l h = go (f a) refl h
+  where
+    failed : (l : List A) → fold (λ b a. b && f a) false l ≡ false
+    failed [] = refl
+    failed (c ∷ l) = failed l
+
+    go : (t : Bool) → f a ≡ t → fold (λ b a. b && f a) t l ≡ true → (f a ≡ true) × (allOf f l ≡ true)
+    go true q e = (q, e)
+    go false q e = absurd (false≢true (sym (failed l) ∙ e))

@@ -5,3 +5,4 @@ pub mod Fold
 pub mod Within
 pub mod All
 pub mod Cases
+pub mod Digits

@@ -165,3 +165,9 @@ pub map-at : {A B : Type 0} (f : A → B) (l : List A) (i : ℕ) (a : A) (b : B)
 map-at f [] i a b h = absurd (omega arith)
 map-at f (x ∷ xs) zero a b h = refl
 map-at f (x ∷ xs) (suc i) a b h = map-at f xs i a b (omega arith)
+
+-- two tables whose functions agree below n
+pub table-same : {A : Type 0} (f g : ℕ → A) (n : ℕ) → ((k : ℕ) → k < n → f k ≡ g k) → table f n ≡ table g n
+unfolding table
+table-same f g zero h = refl
+table-same f g (suc n) h = rw (h 0 (omega arith)) (ap (λ l. g 0 ∷ l) (table-same (λ k. f (suc k)) (λ k. g (suc k)) n (λ k q. h (suc k) (omega arith))))
