@@ -5,7 +5,7 @@ use native.Mathlib.Nat.{le-trans, lt-of-not-le, lt-irrefl, lt-of-lt-of-le, not-s
 use native.Mathlib.Omega.{arith}
 use native.Mathlib.Numerals.{add-one}
 use lib.Dec.{lit<}
-use Rattle.statistics.specs.Degrees.{root, root-largest, leastOf}
+use Rattle.statistics.specs.Degrees.{root, root-largest, leastBound}
 
 -- one more factor
 pub more : (s i r : ℕ) → r ≡ s ^ i → r * s ≡ s ^ (i + 1)
@@ -38,7 +38,7 @@ root-one n =
     omega arith
 
 -- the root and the cap first
-pub capped : (smooth ratio cap n s : ℕ) → s ≡ min smooth cap → min (min s (n / ratio - 1)) (n - 1) ≡ leastOf smooth ratio cap n
+pub capped : (smooth ratio cap n s : ℕ) → s ≡ min smooth cap → min (min s (n / ratio - 1)) (n - 1) ≡ leastBound smooth ratio cap n
 capped smooth ratio cap n s e = order smooth cap (n / ratio - 1) (n - 1) s e
   where
     order : (a b c d s : ℕ) → s ≡ min a b → min (min s c) d ≡ min (min (min a c) b) d

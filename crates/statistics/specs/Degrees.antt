@@ -21,14 +21,14 @@ unfoldable pub root : ℕ → ℕ → ℕ
 root p n = rootUpTo p n n
 
 -- The least of four: the root, n / ratio less 1 (not below 0), the hard cap, and n − 1 (0 where n is 0).
-abbrev pub leastOf : ℕ → ℕ → ℕ → ℕ → ℕ
-leastOf smooth ratio cap n = min (min (min smooth (n / ratio - 1)) cap) (n - 1)
+abbrev pub leastBound : ℕ → ℕ → ℕ → ℕ → ℕ
+leastBound smooth ratio cap n = min (min (min smooth (n / ratio - 1)) cap) (n - 1)
 
 -- `max_degree`: Conservative has r⁵, 15 samples a coefficient and the cap 8; Relaxed r³, 8 and 15; Aggressive r, 8 and n − 1. Custom is capped by n − 1 alone.
 unfoldable pub maxDegree : DegreeBound → ℕ → ℕ
-maxDegree Conservative n = leastOf (root 5 n) 15 8 n
-maxDegree Relaxed n = leastOf (root 3 n) 8 15 n
-maxDegree Aggressive n = leastOf (root 1 n) 8 (n - 1) n
+maxDegree Conservative n = leastBound (root 5 n) 15 8 n
+maxDegree Relaxed n = leastBound (root 3 n) 8 15 n
+maxDegree Aggressive n = leastBound (root 1 n) 8 (n - 1) n
 maxDegree (Custom d) n = min (d .0) (n - 1)
 
 -- ---- laws
