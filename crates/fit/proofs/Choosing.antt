@@ -5,28 +5,22 @@ use mathlib.Core.List.{List}
 use Prim.Native.Nat.{ℕ, _+_, _≤_, _<_}
 use native.Mathlib.Omega.{arith}
 use lib.ListN.{replicate}
-use lib.Ieee.{Float, nan}
+use lib.Ieee.{Float}
 use Rattle.loops.specs.Fold.{fold}
-use Rattle.loops.specs.Places.{each, each-at, table, table-at, length-table, map-table}
+use Rattle.loops.specs.Places.{each, table, table-at, length-table, map-table}
 use Rattle.value.specs.Numbers.{zeroF}
 use Rattle.basis.specs.declared.OptionDegree.{OptionDegree}
 use Rattle.monomial.specs.Rows.{Row}
 use Rattle.score.specs.declared.Criterion.{Criterion}
 use Rattle.choice.specs.Choice.{chosenOf, solvedCount, scoredAt, chosen-same, count-same}
 use Rattle.choice.specs.declared.Scored.{Scored}
-use Rattle.fit.specs.Chosen.{curveCounts, tried, testsOf, choiceOf}
+use Rattle.fit.specs.Chosen.{curveCounts, tried, testsOf, choiceOf, scores-at}
 use Rattle.fit.specs.Solved.{scoredBy, pivotTests}
 
 -- no more pivots are tested than there are
 pub tests-at-most : (sums : List Float) (k : ℕ) → pivotTests sums k ≤ k
 unfolding pivotTests
 tests-at-most sums k = omega arith
-
--- two arrays that hold what is known of the degrees below b
-scores-at : (S : ℕ → Scored) (b : ℕ) (u : List Bool) (v : List Float) → b ≤ 16 → u ≡ each (λ e _. S e .solved) b (replicate 16 false)
-    → v ≡ each (λ e _. S e .score) b (replicate 16 zeroF) → (d : ℕ) → d < b → scoredAt u v d ≡ S d
-scores-at S b u v l p q d h =
-    rw (p, q, each-at (λ e _. S e .solved) b (replicate 16 false) d false h (omega arith), each-at (λ e _. S e .score) b (replicate 16 zeroF) d nan h (omega arith))
 
 module _ (criterion : Criterion) (sums : List Float) (rows : List Row) where
   -- degree e has e + 1 coefficients

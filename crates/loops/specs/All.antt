@@ -2,7 +2,7 @@
 use mathlib.Core.List.{List, [], _∷_, map}
 use Prim.Native.Nat.{ℕ, zero, suc, _<_}
 use native.Mathlib.Nat.{not-suc-le-zero, le-of-suc-le-suc}
-use lib.ListN.{length, getD}
+use lib.ListN.{length, getD, take, drop}
 
 abbrev pub All : {A : Type 0} → (A → Type 0) → List A → Type 0
 All P [] = Unit {0}
@@ -20,3 +20,12 @@ all-at P (x ∷ xs) (suc i) d a h = all-at P xs i d (a .1) (le-of-suc-le-suc h)
 pub all-map : {A B : Type 0} (P : A → Type 0) (Q : B → Type 0) (f : A → B) (l : List A) → ((x : A) → P x → Q (f x)) → All P l → All Q (map f l)
 all-map P Q f [] g a = tt
 all-map P Q f (x ∷ xs) g a = (g x (a .0), all-map P Q f xs g (a .1))
+
+-- of every element of a part
+pub all-part : {A : Type 0} (P : A → Type 0) (a m : ℕ) (l : List A) → All P l → All P (take m (drop a l))
+all-part P zero zero l h = tt
+all-part P zero (suc m) [] h = tt
+all-part P zero (suc m) (x ∷ xs) h = (h .0, all-part P zero m xs (h .1))
+all-part P (suc a) zero l h = tt
+all-part P (suc a) (suc m) [] h = tt
+all-part P (suc a) (suc m) (x ∷ xs) h = all-part P a (suc m) xs (h .1)

@@ -1,8 +1,7 @@
 -- Numbers and their digits in a base b, the highest first: bytes are digits in base 256. Assumes nothing.
 use mathlib.Core.Path.{_≡_, refl, sym, ap, subst, _∙_}
 use mathlib.Core.List.{List, [], _∷_, _++_}
-use mathlib.Core.Logic.{_↔_}
-use Prim.Native.Nat.{ℕ, zero, suc, _+_, _-_, _*_, _/_, _%_, _^_, _≤_, _<_}
+use Prim.Native.Nat.{ℕ, zero, suc, _+_, _-_, _*_, _/_, _%_, _^_, _<_}
 use native.Mathlib.Nat.{zero-add, add-zero, mul-one, add-mul, mul-assoc, add-assoc, zero-mul, div-one, div-add-mod', div-lt-iff-lt-mul, div-div-eq-div-mul, pow-zero, pow-suc, pow-succ'}
 use native.Mathlib.Omega.{arith}
 use lib.ListN.{length, getD, length-append}

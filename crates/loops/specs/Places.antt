@@ -1,8 +1,7 @@
 -- Lists, place by place: `each` puts the first places through a function, `table` makes a list of n places. Assumes nothing.
-use mathlib.Core.Path.{_≡_, refl, sym, ap, fun-ext, _∙_}
+use mathlib.Core.Path.{_≡_, refl, ap, fun-ext, _∙_}
 use mathlib.Core.List.{List, [], _∷_, _++_, append-nil, map}
 use Prim.Native.Nat.{ℕ, zero, suc, _+_, _-_, _≤_, _<_}
-use native.Mathlib.Nat.{le-of-suc-le-suc}
 use native.Mathlib.Numerals.{add-one}
 use native.Mathlib.Omega.{arith}
 use lib.ListN.{length, getD, set, take, drop, replicate, length-drop, drop-of-length-le}
@@ -171,3 +170,18 @@ pub table-same : {A : Type 0} (f g : ℕ → A) (n : ℕ) → ((k : ℕ) → k <
 unfolding table
 table-same f g zero h = refl
 table-same f g (suc n) h = rw (h 0 (omega arith)) (ap (λ l. g 0 ∷ l) (table-same (λ k. f (suc k)) (λ k. g (suc k)) n (λ k q. h (suc k) (omega arith))))
+
+-- a part of the first n places, and a part of a mapped list
+pub part-take : {A : Type 0} (a m n : ℕ) (l : List A) → a + m ≤ n → take m (drop a (take n l)) ≡ take m (drop a l)
+part-take a zero n l h = refl
+part-take a (suc m) zero l h = absurd (omega arith)
+part-take a (suc m) (suc n) [] h = refl
+part-take zero (suc m) (suc n) (x ∷ xs) h = ap (λ s. x ∷ s) (part-take zero m n xs (omega arith))
+part-take (suc a) (suc m) (suc n) (x ∷ xs) h = part-take a (suc m) n xs (omega arith)
+
+pub map-part : {A B : Type 0} (f : A → B) (a m : ℕ) (l : List A) → map f (take m (drop a l)) ≡ take m (drop a (map f l))
+map-part f a zero l = refl
+map-part f zero (suc m) [] = refl
+map-part f zero (suc m) (x ∷ xs) = ap (λ s. f x ∷ s) (map-part f zero m xs)
+map-part f (suc a) (suc m) [] = refl
+map-part f (suc a) (suc m) (x ∷ xs) = map-part f a (suc m) xs

@@ -6,14 +6,14 @@ use Prim.Native.Nat.{ℕ, _+_, _-_, _*_, _/_, _%_, _≤_, _<_}
 use native.Mathlib.Omega.{arith}
 use borrow.Author.Tests.{lt-ltb, le-ltb}
 use lib.Dec.{ltb, lit≤}
-use lib.ListN.{length, getD, take, drop, replicate, take-append-drop}
+use lib.ListN.{length, getD, take, drop, replicate, take-append-drop, length-map}
 use lib.Ieee.{Float, nan, binary64, add, mul}
 use Rattle.loops.specs.Fold.{fold, fold-snoc}
 use Rattle.loops.specs.Places.{each, table, table-at}
 use Rattle.value.specs.Numbers.{zeroF}
 use Rattle.value.specs.Power.{powerF}
 use Rattle.value.specs.Total.{totalF}
-use Rattle.monomial.specs.Samples.{Sample}
+use Rattle.monomial.specs.Samples.{Sample, samplesOf, length-samples}
 use Rattle.monomial.specs.Rows.{Row, rowOf, rowsOf}
 use Rattle.monomial.specs.Adding.{addOne, sums, length-add-one, add-one-append, sums-afresh, sums-length, sums-place, sums-same, sums-take, sums-drop}
 
@@ -130,6 +130,9 @@ terms-same ps qs e = powers-of ps ∙ ap (λ l. map (λ x. table (powerF x) 16) 
   where
     powers-of : (ps : List Sample) → termsOf (rowsOf ps) ≡ map (λ x. table (powerF x) 16) (xsOf ps)
     powers-of ps = map-map (λ (r : Row). r .terms) rowOf ps ∙ sym (map-map (λ x. table (powerF x) 16) (λ (p : Sample). p .x) ps)
+
+pub length-rows : (n : ℕ) (xs ys : List Float) → length (rowsOf (samplesOf n xs ys)) ≡ n
+length-rows n xs ys = length-map (samplesOf n xs ys) rowOf ∙ length-samples n xs ys
 
 -- one sample more at the end
 pub rows-again : (ps : List Sample) (p : Sample) → rowsOf (ps ++ (p ∷ [])) ≡ rowsOf ps ++ (rowOf p ∷ [])

@@ -1,7 +1,8 @@
 -- `fit::attempt` meets its contract. Assumes nothing.
 use Prim.Native.Nat.{_-_}
 use borrow.Author.Needs.{needs}
-use Rattle.fit.proofs.Trials.{pivot-fails, pivots-hold, length-rows}
+use Rattle.monomial.specs.Sums.{length-rows}
+use Rattle.fit.proofs.Trials.{pivot-fails, pivots-hold}
 use Rattle.fit.proofs.attempt.Statement.{statement}
 use Rattle.fit.proofs.attempt.Tie as tie
 

@@ -1,0 +1,4 @@
+pub mod Covariance
+pub mod Marks
+pub mod Bands
+pub mod Pruning

@@ -1,0 +1,214 @@
+// Covariance, errors, confidence bands, outliers and pruning: polyfit's `CurveFitCovariance`, `confidence_band`, `outliers` and
+// `prune_insignificant`.
+use basis::CoefficientCount;
+use statistics::Tolerance;
+ghost use mathlib.Core.Path.{_≡_};
+ghost use mathlib.Core.List.{_++_};
+ghost use Prim.Native.Nat.{_≤_, _<_};
+ghost use lib.ListN.{length, drop};
+ghost use Rattle.loops.specs.Places.{table};
+ghost use Rattle.value.specs.Power.{powerF};
+ghost use Rattle.monomial.specs.Samples.{samplesOf};
+ghost use Rattle.monomial.specs.Rows.{rowsOf};
+ghost use Rattle.covariance.specs.Covariance.{covarianceOf, errorsOf, columnOf, predictionVariance};
+ghost use Rattle.covariance.specs.Marks.{mark as markF, ones};
+ghost use Rattle.covariance.specs.Bands.{widened, widthOf, bandOf, bandAt, outlies as outliesF, lowersOf, uppersOf, outliersOf};
+ghost use Rattle.covariance.specs.Pruning.{prunes as prunesF, prunedBytes};
+
+// 2 to the power −52.
+const EPSILON: f64 = f64::from_bits(0x3CB0_0000_0000_0000);
+
+// The inverse × residual variance, place by place.
+pub fn covariance(inverse: &[f64; 256], variance: f64) -> [f64; 256]
+    ensures { λ r. ⌜ r ≡ covarianceOf (now (inverse .entry)) variance ⌝ }
+{
+    let mut v = [0.0; 256];
+    for t in 0..256 {
+        v[t] = inverse[t] * variance;
+    }
+    v
+}
+
+// The roots of the first k diagonal places, then +0.
+pub fn errors(k: CoefficientCount, covariance: &[f64; 256]) -> [f64; 16]
+    requires { ⌜ k .0 ≤ 16 ⌝ }
+    ensures { λ r. ⌜ r ≡ errorsOf (k .0) (now (covariance .entry)) ⌝ }
+{
+    let n = k.0;
+    let mut e = [0.0; 16];
+    for i in 0..n {
+        e[i] = value::sqrt(covariance[16 * i + i]);
+    }
+    e
+}
+
+// Term value × place, down column j.
+fn column(k: CoefficientCount, terms: &[f64; 16], covariance: &[f64; 256], j: usize) -> f64
+    requires { ⌜ (k .0 ≤ 16) × (j < 16) ⌝ }
+    ensures { λ r. ⌜ r ≡ columnOf (k .0) (now (terms .entry)) (now (covariance .entry)) j ⌝ }
+{
+    let n = k.0;
+    let mut v = 0.0;
+    for i in 0..n {
+        v = v + terms[i] * covariance[16 * i + j];
+    }
+    v
+}
+
+// The variance of the fitted value at a row of term values.
+pub fn prediction_variance(k: CoefficientCount, terms: &[f64; 16], covariance: &[f64; 256]) -> f64
+    requires { ⌜ k .0 ≤ 16 ⌝ }
+    ensures { λ r. ⌜ r ≡ predictionVariance (k .0) (now (terms .entry)) (now (covariance .entry)) ⌝ }
+{
+    let n = k.0;
+    let mut v = 0.0;
+    for j in 0..n {
+        v = v + column(k, terms, covariance, j) * terms[j];
+    }
+    v
+}
+
+// A band is value, lower and upper.
+pub struct Band {
+    pub value: f64,
+    pub lower: f64,
+    pub upper: f64,
+}
+
+// What a tolerance allows: what stands under the root, and the width.
+struct Allowance(f64, f64);
+
+// Tolerance variance adds the square of sd × p to the prediction variance, sd that of all y's, and no width.
+fn allowed(tolerance: Tolerance, sd: f64, value: f64, variance: f64) -> Allowance
+    ensures { λ r. ⌜ (r .0 ≡ widened tolerance sd variance) × (r .1 ≡ widthOf tolerance value) ⌝ }
+{
+    match tolerance {
+        Tolerance::None => Allowance(variance, 0.0),
+        Tolerance::Absolute(a) => Allowance(variance, a),
+        Tolerance::Variance(p) => {
+            let w = sd * p;
+            Allowance(variance + w * w, 0.0)
+        }
+        Tolerance::Measurement(p) => Allowance(variance, value::abs(value) * p),
+    }
+}
+
+// The band about a value with its prediction variance, z the z score.
+pub fn confidence_band(tolerance: Tolerance, z: f64, sd: f64, value: f64, variance: f64) -> Band
+    ensures { λ r. ⌜ r ≡ bandOf tolerance z sd value variance ⌝ }
+{
+    let a = allowed(tolerance, sd, value, variance);
+    let e = z * value::sqrt(a.0);
+    let w = a.1;
+    Band {
+        value,
+        lower: value - e - w,
+        upper: value + e + w,
+    }
+}
+
+// The band at x.
+pub fn band_at(
+    k: CoefficientCount,
+    c: &[f64; 16],
+    covariance: &[f64; 256],
+    tolerance: Tolerance,
+    z: f64,
+    sd: f64,
+    x: f64,
+) -> Band
+    requires { ⌜ k .0 ≤ 16 ⌝ }
+    ensures { λ r. ⌜ r ≡ bandAt (k .0) (now (c .entry)) (now (covariance .entry)) tolerance z sd (table (powerF x) 16) ⌝ }
+{
+    let terms = value::powers(x);
+    let value = monomial::fitted(k, c, &terms);
+    let variance = prediction_variance(k, &terms, covariance);
+    confidence_band(tolerance, z, sd, value, variance)
+}
+
+// Whether y is below the band or above it.
+pub fn outlies(band: Band, y: f64) -> bool
+    ensures { λ r. ⌜ r ≡ outliesF band y ⌝ }
+{
+    (y < band.lower) | (y > band.upper)
+}
+
+// Whether a coefficient c is pruned, t the t score: only c > 2⁻⁵², so that negative terms stay.
+pub fn prunes(t: f64, c: f64, error: f64) -> bool
+    ensures { λ r. ⌜ r ≡ prunesF t c error ⌝ }
+{
+    let a = value::abs(c);
+    (c > EPSILON) & (a / error < t)
+}
+
+// 1 where a test passes, else 0.
+fn mark(b: bool) -> u8
+    ensures { λ r. ⌜ (r ≡ markF b) × (r ≤ 1) ⌝ }
+{
+    if b { 1 } else { 0 }
+}
+
+// The first 16 places become the values.
+pub fn put_terms(values: [f64; 16], out: &mut [f64])
+    requires { ⌜ 16 ≤ length (now out) ⌝ }
+    ensures { λ _. ⌜ now (out .exit) ≡ values ++ drop 16 (now (out .entry)) ⌝ }
+{
+    for i in 0..16 {
+        out[i] = values[i];
+    }
+}
+
+// The first 16 places become the pruning bytes of k coefficients. Answers how many are pruned.
+pub fn put_pruned(
+    k: CoefficientCount,
+    c: &[f64; 16],
+    errors: &[f64; 16],
+    t: f64,
+    out: &mut [u8],
+) -> usize
+    requires { ⌜ 16 ≤ length (now out) ⌝ }
+    ensures counted { λ r. ⌜ r ≡ ones (prunedBytes (k .0) (now (c .entry)) (now (errors .entry)) t) ⌝ }
+    ensures written { λ _. ⌜ now (out .exit) ≡ prunedBytes (k .0) (now (c .entry)) (now (errors .entry)) t ++ drop 16 (now (out .entry)) ⌝ }
+{
+    let n = k.0;
+    let mut count: usize = 0;
+    for i in 0..16 {
+        let b = mark((i < n) & prunes(t, c[i], errors[i]));
+        out[i] = b;
+        count = count + b as usize;
+    }
+    count
+}
+
+// The first n places become lower, upper and the outlier byte of each sample. Answers how many are outliers.
+pub fn put_bands(
+    k: CoefficientCount,
+    c: &[f64; 16],
+    covariance: &[f64; 256],
+    tolerance: Tolerance,
+    z: f64,
+    sd: f64,
+    xs: &[f64],
+    ys: &[f64],
+    n: usize,
+    lower: &mut [f64],
+    upper: &mut [f64],
+    outlier: &mut [u8],
+) -> usize
+    requires { ⌜ (k .0 ≤ 16) × (n ≤ length (now xs)) × (n ≤ length (now ys)) × (n ≤ length (now lower)) × (n ≤ length (now upper)) × (n ≤ length (now outlier)) ⌝ }
+    ensures counted { λ r. ⌜ r ≡ ones (outliersOf (k .0) (now (c .entry)) (now (covariance .entry)) tolerance z sd (rowsOf (samplesOf n (now (xs .entry)) (now (ys .entry))))) ⌝ }
+    ensures lowers { λ _. ⌜ now (lower .exit) ≡ lowersOf (k .0) (now (c .entry)) (now (covariance .entry)) tolerance z sd (rowsOf (samplesOf n (now (xs .entry)) (now (ys .entry)))) ++ drop n (now (lower .entry)) ⌝ }
+    ensures uppers { λ _. ⌜ now (upper .exit) ≡ uppersOf (k .0) (now (c .entry)) (now (covariance .entry)) tolerance z sd (rowsOf (samplesOf n (now (xs .entry)) (now (ys .entry)))) ++ drop n (now (upper .entry)) ⌝ }
+    ensures bytes { λ _. ⌜ now (outlier .exit) ≡ outliersOf (k .0) (now (c .entry)) (now (covariance .entry)) tolerance z sd (rowsOf (samplesOf n (now (xs .entry)) (now (ys .entry)))) ++ drop n (now (outlier .entry)) ⌝ }
+{
+    let mut count: usize = 0;
+    for i in 0..n {
+        let band = band_at(k, c, covariance, tolerance, z, sd, xs[i]);
+        let b = mark(outlies(band, ys[i]));
+        lower[i] = band.lower;
+        upper[i] = band.upper;
+        outlier[i] = b;
+        count = count + b as usize;
+    }
+    count
+}

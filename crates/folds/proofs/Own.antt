@@ -1,0 +1,47 @@
+-- A fold's own part of the sizes in scratch, and its score. Assumes nothing.
+use mathlib.Core.Path.{_≡_, sym, ap, subst, _∙_}
+use mathlib.Core.List.{List, map}
+use Prim.Native.Nat.{ℕ, _-_, _≤_}
+use native.Mathlib.Omega.{arith}
+use lib.ListN.{length, take, drop, length-take, length-drop}
+use lib.Seq.{take-all}
+use lib.Ieee.{Float}
+use Rattle.loops.specs.All.{All, all-part}
+use Rattle.loops.specs.Places.{part-take, map-part}
+use Rattle.value.specs.Absolute.{absF}
+use Rattle.statistics.specs.Medians.{Size}
+use Rattle.monomial.specs.Rows.{Row}
+use Rattle.monomial.specs.Sums.{sumsOf}
+use Rattle.score.specs.declared.Criterion.{Criterion}
+use Rattle.choice.specs.declared.Scored.{Scored}
+use Rattle.fit.specs.Residuals.{residual, residuals}
+use Rattle.fit.specs.Solved.{scoredBy}
+use Rattle.folds.specs.Folds.{startOf, endOf, ownOf, othersOf, foldScored}
+
+pub length-own : (start end : ℕ) (rows : List Row) → end ≤ length rows → length (ownOf start end rows) ≡ end - start
+unfolding ownOf
+length-own start end rows h = simp (length-take, length-drop) (omega arith)
+
+-- scratch is lent from start on
+module _ (start end n : ℕ) (s : List Float) (h : start ≤ end) (g : end ≤ n) where
+  part-is : (l : List Float) → take n s ≡ l → take (end - start) (take (length s - start) (drop start s)) ≡ take (end - start) (drop start l)
+  part-is l e =
+      ap (λ r. take (end - start) r) (take-all (length s - start) (drop start s) (omega (arith, length-drop start s)))
+      ∙ sym (part-take start (end - start) n s (omega arith)) ∙ ap (λ r. take (end - start) (drop start r)) e
+
+  pub own-fine : (l : List Float) → take n s ≡ l → All Size l → All Size (take (end - start) (take (length s - start) (drop start s)))
+  own-fine l e a = subst (All Size) (sym (part-is l e)) (all-part Size start (end - start) l a)
+
+  pub own-sizes : (k : ℕ) (c : List Float) (rows : List Row) → take n s ≡ map absF (residuals k c rows)
+      → take (end - start) (take (length s - start) (drop start s)) ≡ map absF (residuals k c (ownOf start end rows))
+  unfolding residuals ownOf
+  own-sizes k c rows e =
+      part-is (map absF (residuals k c rows)) e
+      ∙ sym (ap (map absF) (map-part (residual k c) start (end - start) rows) ∙ map-part absF start (end - start) (map (residual k c) rows))
+
+-- what a fold says of k coefficients
+pub fold-scored : (criterion : Criterion) (rows : List Row) (n folds k f start end : ℕ) (sums : List Float) (r : Scored) → length rows ≡ n
+    → start ≡ startOf n folds f → end ≡ endOf n folds f → sums ≡ sumsOf (othersOf start end rows) → r ≡ scoredBy criterion sums rows (ownOf start end rows) k
+    → r ≡ foldScored criterion rows folds k f
+unfolding foldScored
+fold-scored criterion rows n folds k f start end sums r l a b u h = rw (l, ← a, ← b, ← u) h

@@ -1,0 +1,60 @@
+-- `folds::choose_by_folds` meets its contract. Assumes nothing.
+use mathlib.Core.Path.{_≡_}
+use Prim.Native.Nat.{_-_, _≤_}
+use native.Mathlib.Omega.{arith}
+use borrow.Author.Needs.{needs}
+use Rattle.loops.specs.Within.{Within, within-itself, within-then}
+use Rattle.monomial.specs.Samples.{samplesOf}
+use Rattle.monomial.specs.Rows.{rowsOf}
+use Rattle.folds.specs.Folds.{degreeScored}
+use Rattle.folds.specs.Tallies.{Tallied, tallied-none}
+use Rattle.folds.proofs.Means.{validated-is}
+use Rattle.folds.proofs.choose_by_folds.Statement.{statement}
+use Rattle.folds.proofs.choose_by_folds.Tie as tie
+
+abbrev Inv-loop : tie.InvT-loop
+Inv-loop xs ys n folds criterion scratch₀ b totals₀ counts₀ f₀ scratch totals counts f =
+    (f ≤ folds) × Within n scratch₀ scratch × Tallied (degreeScored criterion (rowsOf (samplesOf n xs ys)) folds) f b totals counts
+
+abbrev μ-loop : tie.MeasureT-loop
+μ-loop xs ys n folds criterion scratch₀ b totals₀ counts₀ f₀ scratch totals counts f = folds - f
+
+loop-holds : tie.Need-loop-holds Inv-loop μ-loop
+loop-holds c = (search needs, within-itself _ _, tallied-none _ _ (search needs))
+
+add-fold-requires : tie.Need-add-fold-requires Inv-loop μ-loop
+add-fold-requires c κs =
+    let at-loop = c .before .before .before .before .loop in
+    let at-pre = c .before .before .before .before .before .before .before .before .before .pre in
+    ((search needs, search needs, omega (arith, at-loop .inv .1 .long, at-pre), search needs, search needs), at-loop .inv .2)
+
+loop-again : tie.Need-loop-again Inv-loop μ-loop
+loop-again c =
+    let at-loop = c .before .before .before .before .before .before .before .before .before .loop in
+    let at-add-fold = c .before .before .before .before .add-fold in
+    (search needs, within-then (at-loop .inv .1) (at-add-fold .ensures .1), at-add-fold .ensures .0)
+
+returns : tie.Need-returns Inv-loop μ-loop
+returns c =
+    let at-loop = c .before .before .before .before .loop in
+    let at-args = c .before .before .before .before .before .before .before .before .before .args in
+    let z : at-loop .f ≡ at-args .folds = omega arith in
+    (validated-is (at-args .criterion) (rowsOf (samplesOf (at-args .n) (at-args .xs .now) (at-args .ys .now))) (at-args .folds) (at-args .bound .0) _ _ _ (rw z at (at-loop .inv .2)) (c .choose-by-means .ensures), at-loop .inv .1)
+
+pub choose-by-folds-spec : {M : Type 1} → statement M
+choose-by-folds-spec =
+    tie.close
+    (tie.spec
+    Inv-loop
+    μ-loop
+    (λ c. search needs)
+    loop-holds
+    (λ c. search needs)
+    (λ c. search needs)
+    add-fold-requires
+    (λ c. search needs)
+    (λ c. search needs)
+    loop-again
+    (λ c κs. search needs)
+    (λ c. search needs)
+    returns)

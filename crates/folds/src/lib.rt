@@ -1,0 +1,196 @@
+// k-fold cross-validation: polyfit's `new_kfold_cross_validated`.
+use basis::CoefficientCount;
+use basis::Degree;
+use basis::OptionDegree;
+use choice::Scored;
+use score::Criterion;
+ghost use mathlib.Core.Path.{_≡_};
+ghost use Prim.Native.Nat.{_+_, _≤_, _<_};
+ghost use lib.Ieee.{nan};
+ghost use lib.ListN.{length, getD};
+ghost use Rattle.loops.specs.Within.{Within};
+ghost use Rattle.monomial.specs.Samples.{samplesOf};
+ghost use Rattle.monomial.specs.Rows.{rowsOf};
+ghost use Rattle.monomial.specs.Sums.{sumsOf};
+ghost use Rattle.choice.specs.Choice.{chosenOf};
+ghost use Rattle.fit.specs.Solved.{scoredBy};
+ghost use Rattle.folds.specs.Folds.{startOf, endOf, ownOf, othersOf, degreeScored, meanOf, validatedChoice};
+ghost use Rattle.folds.specs.Tallies.{plus as plusF, more as moreF, Tallied};
+
+// Where fold f begins.
+fn start_of(n: usize, folds: usize, f: usize) -> usize
+    requires { ⌜ f < folds ⌝ }
+    ensures { λ r. ⌜ r ≡ startOf n folds f ⌝ }
+{
+    f * (n / folds)
+}
+
+// Where it ends: the last takes the rest.
+fn end_of(n: usize, folds: usize, f: usize) -> usize
+    requires { ⌜ f < folds ⌝ }
+    ensures { λ r. ⌜ r ≡ endOf n folds f ⌝ }
+{
+    let next = f + 1;
+    if next == folds {
+        return n;
+    }
+    next * (n / folds)
+}
+
+// The 272 places become the sums over the samples before start and from end on.
+fn fold_others(xs: &[f64], ys: &[f64], n: usize, start: usize, end: usize, sums: &mut [f64])
+    requires { ⌜ (n ≤ length (now xs)) × (n ≤ length (now ys)) × (start ≤ end) × (end ≤ n) × (length (now sums) ≡ 272) ⌝ }
+    ensures { λ _. ⌜ now (sums .exit) ≡ sumsOf (othersOf start end (rowsOf (samplesOf n (now (xs .entry)) (now (ys .entry))))) ⌝ }
+{
+    monomial::fold_sums(xs, ys, start, &mut *sums);
+    for t in end..n {
+        monomial::add_sample(&mut *sums, xs[t], ys[t]);
+    }
+}
+
+// k coefficients solved from the sums, and scored on the samples from start to end.
+fn score_fold(
+    xs: &[f64],
+    ys: &[f64],
+    n: usize,
+    start: usize,
+    end: usize,
+    sums: &[f64],
+    k: CoefficientCount,
+    criterion: Criterion,
+    scratch: &mut [f64],
+) -> Scored
+    requires { ⌜ (n ≤ length (now xs)) × (n ≤ length (now ys)) × (n ≤ length (now scratch)) × (start ≤ end) × (end ≤ n) × (272 ≤ length (now sums)) × (k .0 ≤ 16) ⌝ }
+    ensures scored { λ r. ⌜ r ≡ scoredBy criterion (now (sums .entry)) (rowsOf (samplesOf n (now (xs .entry)) (now (ys .entry)))) (ownOf start end (rowsOf (samplesOf n (now (xs .entry)) (now (ys .entry))))) (k .0) ⌝ }
+    ensures within { λ _. ⌜ Within n (now (scratch .entry)) (now (scratch .exit)) ⌝ }
+{
+    let a = fit::attempt(xs, ys, n, sums, k, &mut *scratch);
+    if !a.solved {
+        return Scored {
+            solved: false,
+            score: 0.0,
+        };
+    }
+    let score = fit::score_on(criterion, &scratch[start..], end - start, k);
+    Scored {
+        solved: true,
+        score,
+    }
+}
+
+// A solved fold's score is added to the total,
+fn plus(s: Scored, total: f64) -> f64
+    ensures { λ r. ⌜ r ≡ plusF s total ⌝ }
+{
+    if s.solved {
+        return total + s.score;
+    }
+    total
+}
+
+// and counted.
+fn more(s: Scored, m: usize) -> usize
+    requires { ⌜ m < 18446744073709551615 ⌝ }
+    ensures { λ r. ⌜ r ≡ moreF s m ⌝ }
+{
+    let next = m + 1;
+    if !s.solved {
+        return m;
+    }
+    next
+}
+
+// One fold more. Its sums are folded once and serve every degree.
+fn add_fold(
+    xs: &[f64],
+    ys: &[f64],
+    n: usize,
+    folds: usize,
+    f: usize,
+    b: usize,
+    criterion: Criterion,
+    scratch: &mut [f64],
+    totals: &mut [f64],
+    counts: &mut [usize],
+)
+    requires { ⌜ (n ≤ length (now xs)) × (n ≤ length (now ys)) × (n ≤ length (now scratch)) × (f < folds) × (b ≤ 16) ⌝ }
+    requires { ⌜ Tallied (degreeScored criterion (rowsOf (samplesOf n (now xs) (now ys))) folds) f b (now totals) (now counts) ⌝ }
+    ensures tallied { λ _. ⌜ Tallied (degreeScored criterion (rowsOf (samplesOf n (now (xs .entry)) (now (ys .entry)))) folds) (f + 1) b (now (totals .exit)) (now (counts .exit)) ⌝ }
+    ensures within { λ _. ⌜ Within n (now (scratch .entry)) (now (scratch .exit)) ⌝ }
+{
+    let start = start_of(n, folds, f);
+    let end = end_of(n, folds, f);
+    let mut sums = [0.0; 272];
+    fold_others(xs, ys, n, start, end, &mut sums);
+    for d in 0..b {
+        let k = CoefficientCount(d + 1);
+        let s = score_fold(xs, ys, n, start, end, &sums, k, criterion, &mut *scratch);
+        totals[d] = plus(s, totals[d]);
+        counts[d] = more(s, counts[d]);
+    }
+}
+
+// The mean of m solved folds whose scores add up to total.
+fn mean(total: f64, m: usize) -> Scored
+    ensures { λ r. ⌜ r ≡ meanOf total m ⌝ }
+{
+    if 0 < m {
+        return Scored {
+            solved: true,
+            score: total / std::num::nearest_u64_to_f64(m as u64),
+        };
+    }
+    Scored {
+        solved: false,
+        score: 0.0,
+    }
+}
+
+// The choice among the degrees below b by their means.
+fn choose_by_means(totals: &[f64; 16], counts: &[usize; 16], b: usize) -> OptionDegree
+    requires { ⌜ b ≤ 16 ⌝ }
+    ensures { λ r. ⌜ r ≡ chosenOf (λ d. meanOf (getD (now (totals .entry)) d nan) (getD (now (counts .entry)) d 0)) b ⌝ }
+{
+    let mut solved = [false; 16];
+    let mut score = [0.0; 16];
+    for d in 0..b {
+        let s = mean(totals[d], counts[d]);
+        solved[d] = s.solved;
+        score[d] = s.score;
+    }
+    choice::lowest(&solved, &score, b)
+}
+
+// The choice among the degrees 0 to the bound by k-fold cross-validation: folds outside, degrees inside.
+pub fn choose_by_folds(
+    xs: &[f64],
+    ys: &[f64],
+    n: usize,
+    folds: usize,
+    bound: Degree,
+    criterion: Criterion,
+    scratch: &mut [f64],
+) -> OptionDegree
+    requires { ⌜ (n ≤ length (now xs)) × (n ≤ length (now ys)) × (n ≤ length (now scratch)) × (bound .0 ≤ 15) ⌝ }
+    ensures is { λ r. ⌜ r ≡ validatedChoice criterion (rowsOf (samplesOf n (now (xs .entry)) (now (ys .entry)))) folds (bound .0) ⌝ }
+    ensures within { λ _. ⌜ Within n (now (scratch .entry)) (now (scratch .exit)) ⌝ }
+{
+    let b = bound.0 + 1;
+    let mut totals = [0.0; 16];
+    let mut counts: [usize; 16] = [0; 16];
+    for f in 0..folds {
+        add_fold(
+            xs,
+            ys,
+            n,
+            folds,
+            f,
+            b,
+            criterion,
+            &mut *scratch,
+            &mut totals,
+            &mut counts,
+        );
+    }
+    choose_by_means(&totals, &counts, b)
+}

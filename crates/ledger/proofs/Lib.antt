@@ -1,0 +1,4 @@
+-- The theorem over a list of calls.
+pub mod Lists
+pub mod Steps
+pub mod Whole

@@ -1,0 +1,172 @@
+-- Columns that hold a ledger's samples, and the sums of the ledger, as each call changes them. Assumes nothing.
+use mathlib.Core.Path.{_≡_, refl, sym, ap, ap₂, _∙_}
+use mathlib.Core.List.{List, [], _∷_, _++_, map, map-append, append-assoc}
+use Prim.Native.Nat.{ℕ, zero, suc, _+_, _-_, _≤_, _<_}
+use native.Mathlib.Numerals.{add-one}
+use native.Mathlib.Omega.{arith}
+use lib.Dec.{lit≤}
+use lib.ListN.{length, getD, set, take, drop, length-append, length-drop, take-append-drop}
+use lib.Seq.{take-suc-set, take-take, take-at, drop-at, drop-drop, getD-drop, paste, length-paste, take-nil, take-paste, drop-paste, length-take-le}
+use lib.Ieee.{Float, nan}
+use Rattle.loops.specs.Places.{table}
+use Rattle.monomial.specs.Samples.{Sample, samplesOf}
+use Rattle.monomial.specs.Rows.{rowOf, rowsOf}
+use Rattle.monomial.specs.Sums.{addRow, sumsOf, length-sums, add-row-append, sums-again, corrected, xsOf, terms-same, rows-again}
+use Rattle.book.specs.Calls.{withoutAt}
+use Rattle.book.specs.Many.{ysOf}
+use Rattle.ledger.specs.Ledger.{newY, seen}
+
+-- ---- a list of samples
+
+pub length-snoc : (l : List Sample) (p : Sample) → length (l ++ (p ∷ [])) ≡ suc (length l)
+length-snoc l p = length-append l (p ∷ []) ∙ add-one (length l)
+
+pub length-new : (l : List Sample) (i : ℕ) (y : Float) → length (newY l i y) ≡ length l
+unfolding newY
+length-new [] i y = refl
+length-new (p ∷ l) zero y = refl
+length-new (p ∷ l) (suc i) y = ap suc (length-new l i y)
+
+pub new-x : (l : List Sample) (i : ℕ) (y : Float) → xsOf (newY l i y) ≡ xsOf l
+unfolding newY
+new-x [] i y = refl
+new-x (p ∷ l) zero y = refl
+new-x (p ∷ l) (suc i) y = ap (λ r. p .x ∷ r) (new-x l i y)
+
+pub new-y : (l : List Sample) (i : ℕ) (y : Float) → ysOf (newY l i y) ≡ set (ysOf l) i y
+unfolding newY
+new-y [] i y = refl
+new-y (p ∷ l) zero y = refl
+new-y (p ∷ l) (suc i) y = ap (λ r. p .y ∷ r) (new-y l i y)
+
+pub length-less : (l : List Sample) (i : ℕ) → i < length l → length (take i l ++ drop (i + 1) l) ≡ length l - 1
+length-less l i h =
+    let a = length-take-le i l (omega arith) in
+    let b = length-drop (i + 1) l in
+    length-append (take i l) (drop (i + 1) l) ∙ omega arith
+
+-- ---- a column whose first places hold f of each sample
+
+map-take : {A B : Type 0} (f : A → B) (n : ℕ) (l : List A) → map f (take n l) ≡ take n (map f l)
+map-take f zero l = refl
+map-take f (suc n) [] = refl
+map-take f (suc n) (a ∷ l) = ap (λ r. f a ∷ r) (map-take f n l)
+
+map-drop : {A B : Type 0} (f : A → B) (n : ℕ) (l : List A) → map f (drop n l) ≡ drop n (map f l)
+map-drop f zero l = refl
+map-drop f (suc n) [] = refl
+map-drop f (suc n) (a ∷ l) = map-drop f n l
+
+drop-take : {A : Type 0} (a n : ℕ) (l : List A) → drop a (take n l) ≡ take (n - a) (drop a l)
+drop-take zero n l = let e : n ≡ n - 0 = omega arith in ap (λ m. take m l) e
+drop-take (suc a) zero l = let e : 0 ≡ 0 - suc a = omega arith in ap (λ m. take m (drop (suc a) l)) e
+drop-take (suc a) (suc n) [] = sym (take-nil (suc n - suc a))
+drop-take (suc a) (suc n) (u ∷ l) = let e : suc n - suc a ≡ n - a = omega arith in rw e (drop-take a n l)
+
+module _ (f : Sample → Float) (l : List Sample) (n : ℕ) (c : List Float) (is : take n c ≡ map f l) where
+  -- one sample at the end
+  pub column-add : (p : Sample) → n < length c → take (n + 1) (set c n (f p)) ≡ map f (l ++ (p ∷ []))
+  column-add p h = rw (add-one n, map-append f l (p ∷ [])) (take-suc-set c n (f p) h ∙ ap (λ r. r ++ (f p ∷ [])) is)
+
+  -- a place goes, and later ones move down one
+  pub column-without : (i : ℕ) → i < n → n ≤ length c → take (n - 1) (withoutAt i n c) ≡ map f (take i l ++ drop (i + 1) l)
+  unfolding withoutAt
+  column-without i h k =
+      let m = n - 1 - i in
+      let e : n - 1 ≡ i + m = omega arith in
+      let g : n - (i + 1) ≡ m = omega arith in
+      let first : take i c ≡ map f (take i l) = sym (take-take i n c (omega arith)) ∙ ap (take i) is ∙ sym (map-take f i l) in
+      let later : take m (drop (i + 1) c) ≡ map f (drop (i + 1) l) =
+      ap (λ j. take j (drop (i + 1) c)) (sym g) ∙ sym (drop-take (i + 1) n c) ∙ ap (drop (i + 1)) is ∙ sym (map-drop f (i + 1) l) in
+      ap (λ j. take j (paste c i (drop (i + 1) c) m)) e
+      ∙ take-paste c i (drop (i + 1) c) m (omega arith) (rw length-drop (omega arith))
+      ∙ ap₂ (λ u v. u ++ v) first later
+      ∙ sym (map-append f (take i l) (drop (i + 1) l))
+
+module _ (i n : ℕ) (c : List Float) (h : i < n) (k : n ≤ length c) where
+  pub length-without : length (withoutAt i n c) ≡ length c
+  unfolding withoutAt
+  length-without = length-paste c i (drop (i + 1) c) (n - 1 - i) (omega arith) (rw length-drop (omega arith))
+
+  pub without-rest : drop (n - 1) (withoutAt i n c) ≡ drop (n - 1) c
+  unfolding withoutAt
+  without-rest =
+      let m = n - 1 - i in
+      let e : n - 1 ≡ i + m = omega arith in
+      ap (λ j. drop j (paste c i (drop (i + 1) c) m)) e
+      ∙ drop-paste c i (drop (i + 1) c) m (omega arith) (rw length-drop (omega arith))
+      ∙ ap (λ j. drop j c) (sym e)
+
+-- the samples that two columns hold
+holding : (l : List Sample) (a b : List Float) → take (length l) a ≡ xsOf l → take (length l) b ≡ ysOf l → samplesOf (length l) a b ≡ l
+unfolding samplesOf table
+holding [] a b e f = refl
+holding (p ∷ l) [] b e f = absurd (omega (arith, ap length e))
+holding (p ∷ l) (u ∷ a) [] e f = absurd (omega (arith, ap length f))
+holding (p ∷ l) (u ∷ a) (v ∷ b) e f =
+    let x : u ≡ p .x = ap (λ r. getD r 0 nan) e in
+    let y : v ≡ p .y = ap (λ r. getD r 0 nan) f in
+    ap₂ (λ q r. q ∷ r) (λ i. record { x = x i; y = y i }) (holding l a b (ap (drop 1) e) (ap (drop 1) f))
+
+pub samples-are : (l : List Sample) (n : ℕ) (a b : List Float) → n ≡ length l → take n a ≡ xsOf l → take n b ≡ ysOf l → samplesOf n a b ≡ l
+samples-are l n a b q e f = rw q (holding l a b (rw q at e) (rw q at f))
+
+-- ---- the sums, in memory that may have more places
+
+-- the first 272 places are the ledger's, the others are left as they were
+module _ (l : List Sample) (t u : List Float) (long : 272 ≤ length t) (is : u ≡ sumsOf (rowsOf l) ++ drop 272 t) where
+  pub sums-length : length u ≡ length t
+  sums-length = ap length is ∙ length-append (sumsOf (rowsOf l)) (drop 272 t) ∙ omega (arith, length-drop 272 t, length-sums (rowsOf l))
+
+  pub sums-first : take 272 u ≡ sumsOf (rowsOf l)
+  sums-first = ap (take 272) is ∙ take-at (sumsOf (rowsOf l)) (drop 272 t) 272 (length-sums (rowsOf l))
+
+  pub sums-rest : drop 272 u ≡ drop 272 t
+  sums-rest = ap (drop 272) is ∙ drop-at (sumsOf (rowsOf l)) (drop 272 t) 272 (length-sums (rowsOf l))
+
+module _ (l : List Sample) (t : List Float) (long : 272 ≤ length t) (is : take 272 t ≡ sumsOf (rowsOf l)) where
+  -- an add adds its products
+  pub sums-add : (p : Sample) → addRow t (rowOf p) ≡ sumsOf (rowsOf (l ++ (p ∷ []))) ++ drop 272 t
+  sums-add p =
+      ap (λ u. addRow u (rowOf p)) (sym (take-append-drop 272 t) ∙ ap (λ u. u ++ drop 272 t) is)
+      ∙ add-row-append (sumsOf (rowsOf l)) (drop 272 t) (rowOf p) (length-sums (rowsOf l))
+      ∙ ap (λ u. u ++ drop 272 t) (sym (sums-again (rowsOf l) (rowOf p)) ∙ ap sumsOf (sym (rows-again l p)))
+
+  -- a correction leaves A and folds g afresh
+  pub sums-correct : (i : ℕ) (y : Float)
+      → take 256 t ++ (drop 256 (sumsOf (rowsOf (newY l i y))) ++ drop 272 t) ≡ sumsOf (rowsOf (newY l i y)) ++ drop 272 t
+  sums-correct i y =
+      let g = drop 256 (sumsOf (rowsOf (newY l i y))) in
+      sym (append-assoc (take 256 t) g (drop 272 t))
+      ∙ ap (λ u. u ++ g ++ drop 272 t) (sym (take-take 256 272 t (lit≤ tt)) ∙ ap (take 256) is)
+      ∙ ap (λ u. u ++ drop 272 t) (corrected (rowsOf l) (rowsOf (newY l i y)) (terms-same l (newY l i y) (sym (new-x l i y))))
+
+-- ---- what a place holds
+
+seen-same : (v w : Float) (vs : List Float) (p : ℕ) → (length vs ≤ p → v ≡ w) → seen v vs p ≡ seen w vs p
+seen-same v w [] p h = h (omega arith)
+seen-same v w (u ∷ vs) zero h = refl
+seen-same v w (u ∷ vs) (suc p) h = seen-same v w vs p (λ q. h (omega arith))
+
+pub seen-is : (vs a : List Float) (p : ℕ) → take (length vs) a ≡ vs → getD a p nan ≡ seen (getD a p nan) vs p
+seen-is [] a p e = refl
+seen-is (v ∷ vs) [] p e = absurd (omega (arith, ap length e))
+seen-is (v ∷ vs) (u ∷ a) zero e = ap (λ r. getD r 0 nan) e
+seen-is (v ∷ vs) (u ∷ a) (suc p) e = seen-is vs a p (ap (drop 1) e)
+
+-- two columns that are equal from the count on
+pub seen-kept : (vs a b : List Float) (p : ℕ) → drop (length vs) a ≡ drop (length vs) b → seen (getD a p nan) vs p ≡ seen (getD b p nan) vs p
+seen-kept vs a b p e = seen-same (getD a p nan) (getD b p nan) vs p (λ h.
+    let n = length vs in
+    let q : n + (p - n) ≡ p = omega arith in
+    ap (λ j. getD a j nan) (sym q)
+    ∙ sym (getD-drop n a (p - n) nan)
+    ∙ ap (λ r. getD r (p - n) nan) e
+    ∙ getD-drop n b (p - n) nan
+    ∙ ap (λ j. getD b j nan) q)
+
+-- equal from a place on, so from a later one on
+pub drop-later : {A : Type 0} (m n : ℕ) (a b : List A) → m ≤ n → drop m a ≡ drop m b → drop n a ≡ drop n b
+drop-later m n a b h e =
+    let q : m + (n - m) ≡ n = omega arith in
+    ap (λ j. drop j a) (sym q) ∙ sym (drop-drop (n - m) m a) ∙ ap (drop (n - m)) e ∙ drop-drop (n - m) m b ∙ ap (λ j. drop j b) q

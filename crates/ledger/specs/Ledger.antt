@@ -1,0 +1,155 @@
+-- Demand 3: a list of calls run by the definitions that the contracts promise, the plain ledger of the same calls, and what it is that they
+-- agree. The theorem, `whole-list`, is proved in proofs/Whole.antt. Definitions only.
+use mathlib.Core.Path.{_≡_}
+use mathlib.Core.List.{List, [], _∷_, _++_, map}
+use Prim.Native.Nat.{ℕ, zero, suc, _+_}
+use lib.ListN.{length, getD, take, drop}
+use lib.Ieee.{Float, nan}
+use Rattle.monomial.specs.Samples.{Sample, samplesOf}
+use Rattle.monomial.specs.Rows.{rowsOf}
+use Rattle.monomial.specs.Sums.{sumsOf, xsOf}
+use Rattle.frame.specs.Frame.{decode}
+use Rattle.book.specs.declared.Answer.{Answer}
+use Rattle.book.specs.declared.Answer.the-variants as answers
+use Rattle.book.specs.Refusals.{addRefusal, correctRefusal, withdrawRefusal, frameAddRefusal}
+use Rattle.book.specs.Calls.{Out, State, after, bookOf, bookAfter, settle, openOut, addOut, correctOut, withdrawOut, addFrameOut}
+use Rattle.book.specs.Many.{ysOf}
+
+-- ---- calls
+
+-- a call that changes a book, with its arguments
+pub data Change : Type 0 where
+  adds : Sample → Change
+  corrects : ℕ → Float → Change
+  withdraws : ℕ → Change
+  frames : List ℕ → Change
+
+-- A call of a list. R is the type of the calls that only read (fit, report, validate, band), each with its arguments and the lengths of the memory
+-- lent to it alone.
+pub data Call (R : Type 0) : Type 0 where
+  changes : Change → Call R
+  reads : R → Call R
+
+-- what comes back: the answer, or of a call that reads, W: its answer and the values that it writes
+pub data Reply (W : Type 0) : Type 0 where
+  said : Answer → Reply W
+  told : W → Reply W
+
+-- what a call that reads answers and writes, from the count, the samples, the 272 sums, and the lengths of the columns and of the sums
+abbrev pub Reading : Type 0 → Type 0 → Type 0
+Reading R W = R → ℕ → List Sample → List Float → List ℕ → ℕ → W
+
+-- the lengths of the lent memory that is the same in every call: the columns' and the sums'
+pub record Lent : Type 0 where
+  pub columns : List ℕ
+  pub sums : ℕ
+
+abbrev pub lentOf : List Float → List Float → List Float → Lent
+lentOf xs ys sums = record { columns = length xs ∷ length ys ∷ []; sums = length sums }
+
+-- ---- the program: each call gets the book last returned, and the columns and sums as the call before left them
+
+-- what a call that changes a book answers and leaves: the definition that its contract promises
+unfoldable pub outOf : State → Change → Out
+outOf s (adds p) = addOut (s .count) p (s .xs) (s .ys) (s .sums)
+outOf s (corrects i y) = correctOut (s .count) i y (s .xs) (s .ys) (s .sums)
+outOf s (withdraws i) = withdrawOut (s .count) i (s .xs) (s .ys) (s .sums)
+outOf s (frames f) = addFrameOut (s .count) f (s .xs) (s .ys) (s .sums)
+
+unfoldable pub next : {R : Type 0} → State → Call R → State
+next s (changes c) = after (s .count) (outOf s c)
+next s (reads q) = s
+
+unfoldable pub reply : {R W : Type 0} → Reading R W → State → Call R → Reply W
+reply readOn s (changes c) = said (outOf s c .answer)
+reply readOn s (reads q) =
+    told (readOn q (s .count) (samplesOf (s .count) (s .xs) (s .ys)) (take 272 (s .sums)) (length (s .xs) ∷ length (s .ys) ∷ []) (length (s .sums)))
+
+unfoldable pub final : {R : Type 0} → State → List (Call R) → State
+final s [] = s
+final s (c ∷ cs) = final (next s c) cs
+
+unfoldable pub replies : {R W : Type 0} → Reading R W → State → List (Call R) → List (Reply W)
+replies readOn s [] = []
+replies readOn s (c ∷ cs) = reply readOn s c ∷ replies readOn (next s c) cs
+
+-- a book just opened, over columns that hold anything
+abbrev pub opened : List Float → List Float → List Float → State
+opened xs ys sums = record { count = bookAfter 0 (openOut sums .answer); xs = xs; ys = ys; sums = openOut sums .sums }
+
+-- ---- the plain ledger: a list of samples, fed the calls' arguments and the lengths of the lent memory
+
+-- Correct i: sample i gets a new y.
+unfoldable pub newY : List Sample → ℕ → Float → List Sample
+newY [] i y = []
+newY (p ∷ l) zero y = record { x = p .x; y = y } ∷ l
+newY (p ∷ l) (suc i) y = p ∷ newY l i y
+
+-- Add: one sample at the end. Withdraw i: it goes, later ones move down one. A frame equals that many adds.
+unfoldable pub changed : List Sample → Change → List Sample
+changed l (adds p) = l ++ (p ∷ [])
+changed l (corrects i y) = newY l i y
+changed l (withdraws i) = take i l ++ drop (i + 1) l
+changed l (frames f) = l ++ decode f
+
+-- A call is refused exactly when the refusals, read with the ledger's length as the count, give it a number; 0 is none.
+unfoldable pub refusalOf : Lent → List Sample → Change → ℕ
+refusalOf m l (adds p) = addRefusal (length l) p (m .columns) (m .sums)
+refusalOf m l (corrects i y) = correctRefusal (length l) i y (m .columns) (m .sums)
+refusalOf m l (withdraws i) = withdrawRefusal (length l) i (m .columns) (m .sums)
+refusalOf m l (frames f) = frameAddRefusal (length l) f (m .columns) (m .sums)
+
+-- A refusal changes nothing. A report, or any other call that reads, changes nothing.
+unfoldable pub ledgerNext : {R : Type 0} → Lent → List Sample → Call R → List Sample
+ledgerNext m l (changes c) = settle (refusalOf m l c) (changed l c) l
+ledgerNext m l (reads q) = l
+
+-- The refusal's number is then the answer. Any other add, correction or withdrawal answers the book, which is the ledger's length; a call that
+-- reads answers and writes what is defined, from the ledger's samples and sums. The ledger's sums are always those over its whole list.
+unfoldable pub ledgerReply : {R W : Type 0} → Reading R W → Lent → List Sample → Call R → Reply W
+ledgerReply readOn m l (changes c) = said (settle (refusalOf m l c) (bookOf (length (changed l c))) (answers.Refused (refusalOf m l c)))
+ledgerReply readOn m l (reads q) = told (readOn q (length l) l (sumsOf (rowsOf l)) (m .columns) (m .sums))
+
+unfoldable pub ledgerEnd : {R : Type 0} → Lent → List Sample → List (Call R) → List Sample
+ledgerEnd m l [] = l
+ledgerEnd m l (c ∷ cs) = ledgerEnd m (ledgerNext m l c) cs
+
+unfoldable pub ledgerReplies : {R W : Type 0} → Reading R W → Lent → List Sample → List (Call R) → List (Reply W)
+ledgerReplies readOn m l [] = []
+ledgerReplies readOn m l (c ∷ cs) = ledgerReply readOn m l c ∷ ledgerReplies readOn m (ledgerNext m l c) cs
+
+-- what a place of a column holds while the values of the ledger's samples are vs, if it held v before: theirs where it is below the count, else v
+abbrev pub seen : Float → List Float → ℕ → Float
+seen v vs p = getD vs p v
+
+-- what a place holds after the calls, if it held v at first and f takes a sample's value for this column: what it held when it was last below
+-- the count, or else v
+unfoldable pub held : {R : Type 0} → (Sample → Float) → Float → Lent → List Sample → List (Call R) → ℕ → Float
+held f v m l [] p = seen v (map f l) p
+held f v m l (c ∷ cs) p = held f (seen v (map f l) p) m (ledgerNext m l c) cs p
+
+-- ---- the claim, about the whole list of calls cs: the program from the state s and the ledger from the list l agree, where the lent memory held
+-- xs₀, ys₀ and sums₀ at opening
+
+pub record Agrees {R W : Type 0} (readOn : Reading R W) (xs₀ ys₀ sums₀ : List Float) (s : State) (l : List Sample) (cs : List (Call R)) : Type 0 where
+  -- Each call's answer, and each place that a report writes, is the ledger's.
+  pub answered : replies readOn s cs ≡ ledgerReplies readOn (lentOf xs₀ ys₀ sums₀) l cs
+  -- After the list, the book is the ledger's length,
+  pub book : final s cs .count ≡ length (ledgerEnd (lentOf xs₀ ys₀ sums₀) l cs)
+  -- the column places below it hold the ledger's samples,
+  pub below-x : take (final s cs .count) (final s cs .xs) ≡ xsOf (ledgerEnd (lentOf xs₀ ys₀ sums₀) l cs)
+  pub below-y : take (final s cs .count) (final s cs .ys) ≡ ysOf (ledgerEnd (lentOf xs₀ ys₀ sums₀) l cs)
+  -- and the 272 sums are the ledger's, bit for bit, NaNs as one value.
+  pub sums : take 272 (final s cs .sums) ≡ sumsOf (rowsOf (ledgerEnd (lentOf xs₀ ys₀ sums₀) l cs))
+  -- A column place at or past the count keeps what it held when it was last below the count, or else what it held at opening.
+  pub places-x : (p : ℕ) → getD (final s cs .xs) p nan ≡ held (λ (q : Sample). q .x) (getD xs₀ p nan) (lentOf xs₀ ys₀ sums₀) l cs p
+  pub places-y : (p : ℕ) → getD (final s cs .ys) p nan ≡ held (λ (q : Sample). q .y) (getD ys₀ p nan) (lentOf xs₀ ys₀ sums₀) l cs p
+  -- Places past the 272 are not the book's: they are left as they were.
+  pub past : drop 272 (final s cs .sums) ≡ drop 272 sums₀
+  -- The columns and the sums are the same lent memory in every call.
+  pub lent : lentOf (final s cs .xs) (final s cs .ys) (final s cs .sums) ≡ lentOf xs₀ ys₀ sums₀
+
+-- Take any list of calls, refused ones included, in any order, from a book just opened, whatever the columns held at opening.
+abbrev pub WholeList : {R W : Type 0} → Reading R W → Type 0
+WholeList {R} readOn =
+    (xs ys sums : List Float) → openOut sums .answer ≡ bookOf 0 → (cs : List (Call R)) → Agrees readOn xs ys sums (opened xs ys sums) [] cs

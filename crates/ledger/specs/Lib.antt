@@ -1,0 +1,3 @@
+-- Document 01's plain ledger, lists of calls, and what demand 3 says of them.
+pub mod Ledger
+pub mod Laws

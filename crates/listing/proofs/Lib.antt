@@ -1,0 +1,3 @@
+-- Helper laws of the proofs.
+pub mod Parts
+pub mod Spelled

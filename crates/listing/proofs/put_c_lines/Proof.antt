@@ -1,0 +1,51 @@
+-- `listing::put_c_lines` meets its contract. The loop's invariant: the first i lines were written. Assumes nothing.
+use mathlib.Core.Path.{_≡_, refl, ap}
+use Prim.Native.Nat.{_-_, _≤_}
+use native.Mathlib.Omega.{arith}
+use borrow.Author.Needs.{needs}
+use lib.ListN.{length}
+use Rattle.listing.specs.Listing.{cLines, c-none, c-again}
+use Rattle.listing.specs.Writing.{Wrote, wrote-none, wrote-same, length-wrote, then}
+use Rattle.listing.proofs.put_c_lines.Statement.{statement}
+use Rattle.listing.proofs.put_c_lines.Tie as tie
+
+abbrev Inv-loop : tie.InvT-loop
+Inv-loop out₀ at k coefficients errors here₀ i₀ out here i = (i ≤ k) × (length out ≡ length out₀) × Wrote out₀ at (cLines i coefficients errors) out here
+
+abbrev μ-loop : tie.MeasureT-loop
+μ-loop out₀ at k coefficients errors here₀ i₀ out here i = k - i
+
+loop-holds : tie.Need-loop-holds Inv-loop μ-loop
+loop-holds c =
+    let at-args = c .before .before .before .args in
+    (omega arith, refl, wrote-same (c-none (at-args .coefficients .now) (at-args .errors .now)) (wrote-none (at-args .out .now) (at-args .at) (omega arith)))
+
+loop-again : tie.Need-loop-again Inv-loop μ-loop
+loop-again c =
+    let at-loop = c .before .before .before .before .before .before .before .loop in
+    let at-args = c .before .before .before .before .before .before .before .before .before .before .before .args in
+    let w = then (omega arith) (at-loop .inv .2) (λ _. c .before .before .put-c-line .ensures) in
+    (omega arith, length-wrote w, wrote-same (c-again (at-loop .i) (at-args .coefficients .now) (at-args .errors .now)) w)
+
+returns : tie.Need-returns Inv-loop μ-loop
+returns c =
+    let at-args = c .before .before .before .before .before .args in
+    wrote-same (ap (λ z. cLines z (at-args .coefficients .now) (at-args .errors .now)) (omega arith)) (c .before .loop .inv .2)
+
+pub put-c-lines-spec : {M : Type 1} → statement M
+put-c-lines-spec =
+    tie.close
+    (tie.spec
+    Inv-loop
+    μ-loop
+    loop-holds
+    (λ c. search needs)
+    (λ c. search needs)
+    (λ c. search needs)
+    (λ c. search needs)
+    (λ c κs. search needs)
+    (λ c. search needs)
+    (λ c. search needs)
+    loop-again
+    (λ c. search needs)
+    returns)
