@@ -144,7 +144,7 @@ pub struct Choice {
     pub tests: usize,
 }
 
-// The choice among the degrees 0 to the bound.
+// The choice among the degrees 0 to the bound. Only scores are kept; `attempt` solves the chosen degree again.
 pub fn choose(
     xs: &[f64],
     ys: &[f64],
