@@ -1,14 +1,13 @@
 -- Document 01's "Refused, in checking order", for the calls that read a book: refusals 1 to 9, one definition a call, over its arguments, the
 -- count, the samples and the lengths of the lent memory. Assumes nothing.
-use mathlib.Core.Path.{_≡_, refl}
-use mathlib.Core.Bool.{Bool, true, false, not, _||_}
+use mathlib.Core.Path.{_≡_}
+use mathlib.Core.Bool.{Bool, not, _||_}
 use mathlib.Core.List.{List, [], _∷_, List·Memᴰ}
 use Prim.Native.Nat.{ℕ, _≤_, _<_}
-use native.Mathlib.Omega.{arith}
 use borrow.Author.Tests.{ltb-false, leb-false}
 use lib.Dec.{leb, ltb, eqb}
 use Rattle.monomial.specs.Samples.{Sample}
-use Rattle.book.specs.Refusals.{by, firstOf, tooShort, allFinite, numbered, first-none, Room, long-enough}
+use Rattle.book.specs.Refusals.{by, firstOf, tooShort, allFinite, numbered, first-none, Room, long-enough, or-false}
 
 -- 8: an asked degree is at or above the count, or above 15
 abbrev pub degreeTooHigh : ℕ → ℕ → Bool
@@ -29,10 +28,6 @@ pub fit-numbers : (n degree : ℕ) (samples : List Sample) (columns : List ℕ) 
 unfolding fitRefusal
 fit-numbers n degree samples columns sums scratch coefficients = numbered _
 
-pub or-none : (s t : Bool) → (s || t) ≡ false → (s ≡ false) × (t ≡ false)
-or-none true t e = absurd (let z : _≡_ {A = ℕ} 0 1 = cc in omega arith)
-or-none false t e = (refl, e)
-
 -- what a fit that these let through may count on
 pub record FitRoom (n degree a b s t c : ℕ) : Type 0 where
   pub room : Room n a b s
@@ -49,9 +44,9 @@ fit-room n degree samples a b sums scratch coefficients e =
     let p4 = first-none _ 3 _ (p1 .1) in
     let p7 = first-none _ 6 _ (p4 .1) in
     let p8 = first-none _ 7 _ (p7 .1) in
-    let s = or-none (tooShort n (a ∷ b ∷ []) sums) _ (p1 .0) in
-    let t = or-none (ltb scratch n) _ (s .1) in
-    let d = or-none (leb n degree) _ (p8 .0) in
+    let s = or-false (tooShort n (a ∷ b ∷ []) sums) _ (p1 .0) in
+    let t = or-false (ltb scratch n) _ (s .1) in
+    let d = or-false (leb n degree) _ (p8 .0) in
     record {
       room = long-enough n a b sums (s .0);
       scratch = ltb-false _ _ (t .0);

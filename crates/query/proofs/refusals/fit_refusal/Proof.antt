@@ -6,8 +6,8 @@ use Prim.Native.Nat.{_-_}
 use borrow.Author.Needs.{needs}
 use lib.ListN.{length}
 use lib.Dec.{ltb, eqb}
-use Rattle.book.specs.Refusals.{tooShort, first-of, first-end, long-enough}
-use Rattle.query.specs.Refusals.{fitRefusal, or-none}
+use Rattle.book.specs.Refusals.{tooShort, first-of, first-end, long-enough, or-false}
+use Rattle.query.specs.Refusals.{fitRefusal}
 use Rattle.query.proofs.Short.{short-first, rest-first}
 use Rattle.query.proofs.refusals.fit_refusal.Statement.{statement}
 use Rattle.query.proofs.refusals.fit_refusal.Tie as tie
@@ -22,7 +22,7 @@ returns c =
 samples-finite-requires : tie.Need-samples-finite-requires
 samples-finite-requires c κs =
     let at-args = c .before .before .before .before .args in
-    let h = or-none _ _ (c .if1 .left) .0 in
+    let h = or-false _ _ (c .if1 .left) .0 in
     let r = long-enough (at-args .n) (length (at-args .xs .now)) (length (at-args .ys .now)) (at-args .sums) (sym (c .before .too-short .ensures) ∙ h) in
     (r .xs, r .ys)
 
