@@ -33,6 +33,11 @@ fn one_nan(bits: u64) -> u64 {
     }
 }
 
+/// The number of these bits, with one number for all NaNs.
+pub fn one_value(pattern: u64) -> f64 {
+    f64::from_bits(one_nan(pattern))
+}
+
 /// The sign bit cleared.
 pub fn abs(v: f64) -> f64 {
     f64::from_bits(v.to_bits() & !SIGN)

@@ -1,0 +1,549 @@
+//! One line of a journal, read and written: the text form of docs/JOURNAL.md.
+//!
+//! Fields are read from left to right, and reading stops at the first that does not fit.
+
+use std::fmt;
+
+use crate::fit::{Criterion, Settings};
+use crate::frame;
+use crate::numbers::{bits, one_value};
+use crate::statistics::{Confidence, DegreeBound, Tolerance};
+use crate::Sample;
+
+/// The places of each memory, lent or not.
+pub const MEMORY: usize = 4200;
+
+/// The most bytes of a line.
+pub const LONGEST_LINE: usize = 131_100;
+
+/// The most digits of a whole number.
+const DIGITS: usize = 9;
+
+/// The digits of the longest frame: its length has two bytes and counts what follows.
+const FRAME_DIGITS: usize = 2 * (2 + 65_535);
+
+/// The memory of a journal, by name; the last two hold bytes.
+#[derive(Debug, Clone, Copy, PartialEq, Eq)]
+pub enum Name {
+    Xs,
+    Ys,
+    Sums,
+    Scratch,
+    Coefficients,
+    Errors,
+    Lower,
+    Upper,
+    Pruned,
+    Outliers,
+}
+
+/// All names, with their words.
+pub const NAMES: [(Name, &str); 10] = [
+    (Name::Xs, "xs"),
+    (Name::Ys, "ys"),
+    (Name::Sums, "sums"),
+    (Name::Scratch, "scratch"),
+    (Name::Coefficients, "coefficients"),
+    (Name::Errors, "errors"),
+    (Name::Lower, "lower"),
+    (Name::Upper, "upper"),
+    (Name::Pruned, "pruned"),
+    (Name::Outliers, "outliers"),
+];
+
+/// What a line asks for.
+#[derive(Debug, Clone, PartialEq)]
+pub enum Request {
+    Lent { name: Name, length: usize },
+    Put { name: Name, index: usize, value: f64 },
+    Count(usize),
+    Show { name: Name, from: usize, to: usize },
+    Open,
+    Add(Sample),
+    Correct { index: usize, y: f64 },
+    Withdraw { index: usize },
+    Frame(Vec<u8>),
+    Fit { degree: usize },
+    Report(Settings),
+    Validate { folds: usize, bound: DegreeBound, criterion: Criterion },
+    Band { x: f64, degree: usize, confidence: Confidence, tolerance: Tolerance },
+}
+
+/// Why a field does not fit.
+#[derive(Debug, Clone, Copy, PartialEq, Eq)]
+pub enum Message {
+    NotACall,
+    NotAName,
+    NotANumber,
+    NotAFloat,
+    NotHexadecimal,
+    TooLarge,
+    Missing,
+    OneTooMany,
+}
+
+/// The first field that does not fit, counted from 1.
+#[derive(Debug, Clone, Copy, PartialEq, Eq)]
+pub struct Malformed {
+    pub field: usize,
+    pub message: Message,
+}
+
+type Read<T> = Result<T, Malformed>;
+
+/// The fields of a line, from left to right.
+struct Fields<'a> {
+    /// What follows the field read last; none after the last field.
+    rest: Option<&'a [u8]>,
+    /// The number of the field read last.
+    field: usize,
+}
+
+/// What the line asks for; none for a line that is skipped.
+pub fn read(line: &[u8]) -> Read<Option<Request>> {
+    if line.len() > LONGEST_LINE {
+        return Err(Malformed { field: 1, message: Message::TooLarge });
+    }
+    if line.is_empty() || line[0] == b'#' {
+        return Ok(None);
+    }
+    let mut fields = Fields { rest: Some(line), field: 0 };
+    let request = request(&mut fields)?;
+    fields.end()?;
+    Ok(Some(request))
+}
+
+fn request(fields: &mut Fields) -> Read<Request> {
+    Ok(match fields.next()? {
+        b"lent" => Request::Lent { name: fields.name()?, length: fields.at_most(MEMORY)? },
+        b"put" => Request::Put {
+            name: fields.float_name()?,
+            index: fields.at_most(MEMORY - 1)?,
+            value: fields.float()?,
+        },
+        b"count" => Request::Count(fields.number()?),
+        b"show" => show(fields)?,
+        b"open" => Request::Open,
+        b"add" => Request::Add(Sample { x: fields.float()?, y: fields.float()? }),
+        b"correct" => Request::Correct { index: fields.number()?, y: fields.float()? },
+        b"withdraw" => Request::Withdraw { index: fields.number()? },
+        b"frame" => Request::Frame(fields.frame()?),
+        b"fit" => Request::Fit { degree: fields.number()? },
+        b"report" => Request::Report(Settings {
+            bound: fields.bound()?,
+            criterion: fields.criterion()?,
+            confidence: fields.confidence()?,
+            tolerance: fields.tolerance()?,
+        }),
+        b"validate" => Request::Validate {
+            folds: fields.number()?,
+            bound: fields.bound()?,
+            criterion: fields.criterion()?,
+        },
+        b"band" => Request::Band {
+            x: fields.float()?,
+            degree: fields.number()?,
+            confidence: fields.confidence()?,
+            tolerance: fields.tolerance()?,
+        },
+        _ => return fields.malformed(Message::NotACall),
+    })
+}
+
+/// FROM is judged again once TO is read.
+fn show(fields: &mut Fields) -> Read<Request> {
+    let name = fields.name()?;
+    let from = fields.at_most(MEMORY)?;
+    let to = fields.at_most(MEMORY)?;
+    if from > to {
+        return Err(Malformed { field: fields.field - 1, message: Message::TooLarge });
+    }
+    Ok(Request::Show { name, from, to })
+}
+
+impl<'a> Fields<'a> {
+    /// The field read last does not fit.
+    fn malformed<T>(&self, message: Message) -> Read<T> {
+        Err(Malformed { field: self.field, message })
+    }
+
+    fn next(&mut self) -> Read<&'a [u8]> {
+        self.field += 1;
+        let Some(rest) = self.rest else { return self.malformed(Message::Missing) };
+        match rest.iter().position(|&byte| byte == b' ') {
+            Some(space) => {
+                self.rest = Some(&rest[space + 1..]);
+                Ok(&rest[..space])
+            }
+            None => {
+                self.rest = None;
+                Ok(rest)
+            }
+        }
+    }
+
+    fn end(&mut self) -> Read<()> {
+        self.field += 1;
+        match self.rest {
+            Some(_) => self.malformed(Message::OneTooMany),
+            None => Ok(()),
+        }
+    }
+
+    fn name(&mut self) -> Read<Name> {
+        let word = self.next()?;
+        match NAMES.iter().find(|(_, text)| text.as_bytes() == word) {
+            Some((name, _)) => Ok(*name),
+            None => self.malformed(Message::NotAName),
+        }
+    }
+
+    fn float_name(&mut self) -> Read<Name> {
+        let name = self.name()?;
+        if name.holds_bytes() {
+            return self.malformed(Message::NotAName);
+        }
+        Ok(name)
+    }
+
+    /// One to nine decimal digits.
+    fn number(&mut self) -> Read<usize> {
+        let word = self.next()?;
+        if word.is_empty() || word.len() > DIGITS || !word.iter().all(u8::is_ascii_digit) {
+            return self.malformed(Message::NotANumber);
+        }
+        Ok(word.iter().fold(0, |number, digit| 10 * number + usize::from(digit - b'0')))
+    }
+
+    fn at_most(&mut self, most: usize) -> Read<usize> {
+        let number = self.number()?;
+        if number > most {
+            return self.malformed(Message::TooLarge);
+        }
+        Ok(number)
+    }
+
+    /// Exactly 16 hexadecimal digits; every NaN is the one NaN.
+    fn float(&mut self) -> Read<f64> {
+        let word = self.next()?;
+        let mut pattern = 0u64;
+        for &byte in word {
+            let Some(digit) = hexadecimal(byte) else { return self.malformed(Message::NotAFloat) };
+            pattern = pattern << 4 | u64::from(digit);
+        }
+        if word.len() != 16 {
+            return self.malformed(Message::NotAFloat);
+        }
+        Ok(one_value(pattern))
+    }
+
+    /// An even number of hexadecimal digits; no field at all is the empty frame.
+    fn frame(&mut self) -> Read<Vec<u8>> {
+        if self.rest.is_none() {
+            return Ok(Vec::new());
+        }
+        let word = self.next()?;
+        let digits: Vec<u8> = word.iter().filter_map(|&byte| hexadecimal(byte)).collect();
+        if word.is_empty() || digits.len() < word.len() || word.len() % 2 == 1 {
+            return self.malformed(Message::NotHexadecimal);
+        }
+        if word.len() > FRAME_DIGITS {
+            return self.malformed(Message::TooLarge);
+        }
+        Ok(digits.chunks(2).map(|pair| 16 * pair[0] + pair[1]).collect())
+    }
+
+    fn bound(&mut self) -> Read<DegreeBound> {
+        let of: fn(usize) -> DegreeBound = match self.next()? {
+            b"conservative" => |_| DegreeBound::Conservative,
+            b"relaxed" => |_| DegreeBound::Relaxed,
+            b"aggressive" => |_| DegreeBound::Aggressive,
+            b"custom" => DegreeBound::Custom,
+            _ => return self.malformed(Message::NotAName),
+        };
+        Ok(of(self.number()?))
+    }
+
+    fn criterion(&mut self) -> Read<Criterion> {
+        match self.next()? {
+            b"aic" => Ok(Criterion::Aic),
+            b"bic" => Ok(Criterion::Bic),
+            _ => self.malformed(Message::NotAName),
+        }
+    }
+
+    fn confidence(&mut self) -> Read<Confidence> {
+        let of: fn(f64) -> Confidence = match self.next()? {
+            b"p80" => |_| Confidence::P80,
+            b"p90" => |_| Confidence::P90,
+            b"p95" => |_| Confidence::P95,
+            b"p98" => |_| Confidence::P98,
+            b"p99" => |_| Confidence::P99,
+            b"p999" => |_| Confidence::P999,
+            b"custom" => Confidence::Custom,
+            _ => return self.malformed(Message::NotAName),
+        };
+        Ok(of(self.float()?))
+    }
+
+    fn tolerance(&mut self) -> Read<Tolerance> {
+        let of: fn(f64) -> Tolerance = match self.next()? {
+            b"none" => |_| Tolerance::None,
+            b"absolute" => Tolerance::Absolute,
+            b"variance" => Tolerance::Variance,
+            b"measurement" => Tolerance::Measurement,
+            _ => return self.malformed(Message::NotAName),
+        };
+        Ok(of(self.float()?))
+    }
+}
+
+fn hexadecimal(byte: u8) -> Option<u8> {
+    match byte {
+        b'0'..=b'9' => Some(byte - b'0'),
+        b'A'..=b'F' => Some(byte - b'A' + 10),
+        b'a'..=b'f' => Some(byte - b'a' + 10),
+        _ => None,
+    }
+}
+
+impl Name {
+    pub fn word(self) -> &'static str {
+        NAMES[self as usize].1
+    }
+
+    pub fn holds_bytes(self) -> bool {
+        matches!(self, Name::Pruned | Name::Outliers)
+    }
+}
+
+/// A float as a field: its bits.
+pub fn float_field(value: f64) -> String {
+    format!("{:016X}", bits(value))
+}
+
+fn bound_fields(bound: DegreeBound) -> String {
+    match bound {
+        DegreeBound::Conservative => "conservative 0".to_string(),
+        DegreeBound::Relaxed => "relaxed 0".to_string(),
+        DegreeBound::Aggressive => "aggressive 0".to_string(),
+        DegreeBound::Custom(degree) => format!("custom {degree}"),
+    }
+}
+
+fn criterion_field(criterion: Criterion) -> &'static str {
+    match criterion {
+        Criterion::Aic => "aic",
+        Criterion::Bic => "bic",
+    }
+}
+
+fn confidence_fields(confidence: Confidence) -> String {
+    let (word, value) = match confidence {
+        Confidence::P80 => ("p80", 0.0),
+        Confidence::P90 => ("p90", 0.0),
+        Confidence::P95 => ("p95", 0.0),
+        Confidence::P98 => ("p98", 0.0),
+        Confidence::P99 => ("p99", 0.0),
+        Confidence::P999 => ("p999", 0.0),
+        Confidence::Custom(z) => ("custom", z),
+    };
+    format!("{word} {}", float_field(value))
+}
+
+fn tolerance_fields(tolerance: Tolerance) -> String {
+    let (word, value) = match tolerance {
+        Tolerance::None => ("none", 0.0),
+        Tolerance::Absolute(v) => ("absolute", v),
+        Tolerance::Variance(v) => ("variance", v),
+        Tolerance::Measurement(v) => ("measurement", v),
+    };
+    format!("{word} {}", float_field(value))
+}
+
+fn frame_line(bytes: &[u8]) -> String {
+    let digits: String = bytes.iter().map(|byte| format!("{byte:02X}")).collect();
+    if digits.is_empty() {
+        "frame".to_string()
+    } else {
+        format!("frame {digits}")
+    }
+}
+
+/// The line that asks for this.
+impl fmt::Display for Request {
+    fn fmt(&self, f: &mut fmt::Formatter<'_>) -> fmt::Result {
+        match self {
+            Request::Lent { name, length } => write!(f, "lent {} {length}", name.word()),
+            Request::Put { name, index, value } => {
+                write!(f, "put {} {index} {}", name.word(), float_field(*value))
+            }
+            Request::Count(count) => write!(f, "count {count}"),
+            Request::Show { name, from, to } => write!(f, "show {} {from} {to}", name.word()),
+            Request::Open => write!(f, "open"),
+            Request::Add(Sample { x, y }) => {
+                write!(f, "add {} {}", float_field(*x), float_field(*y))
+            }
+            Request::Correct { index, y } => write!(f, "correct {index} {}", float_field(*y)),
+            Request::Withdraw { index } => write!(f, "withdraw {index}"),
+            Request::Frame(bytes) => write!(f, "{}", frame_line(bytes)),
+            Request::Fit { degree } => write!(f, "fit {degree}"),
+            Request::Report(settings) => write!(
+                f,
+                "report {} {} {} {}",
+                bound_fields(settings.bound),
+                criterion_field(settings.criterion),
+                confidence_fields(settings.confidence),
+                tolerance_fields(settings.tolerance)
+            ),
+            Request::Validate { folds, bound, criterion } => {
+                let criterion = criterion_field(*criterion);
+                write!(f, "validate {folds} {} {criterion}", bound_fields(*bound))
+            }
+            Request::Band { x, degree, confidence, tolerance } => write!(
+                f,
+                "band {} {degree} {} {}",
+                float_field(*x),
+                confidence_fields(*confidence),
+                tolerance_fields(*tolerance)
+            ),
+        }
+    }
+}
+
+impl fmt::Display for Malformed {
+    fn fmt(&self, f: &mut fmt::Formatter<'_>) -> fmt::Result {
+        let message = match self.message {
+            Message::NotACall => "not a call",
+            Message::NotAName => "not a name",
+            Message::NotANumber => "not a number",
+            Message::NotAFloat => "not a float",
+            Message::NotHexadecimal => "not hexadecimal",
+            Message::TooLarge => "too large",
+            Message::Missing => "missing",
+            Message::OneTooMany => "one too many",
+        };
+        write!(f, "field {}: {message}", self.field)
+    }
+}
+
+/// The frame of some samples, as a request.
+pub fn frame_of(samples: &[Sample]) -> Request {
+    Request::Frame(frame::encode(samples))
+}
+
+#[cfg(test)]
+mod tests {
+    use super::*;
+
+    /// What is said of a malformed line.
+    fn said(line: &str) -> String {
+        match read(line.as_bytes()) {
+            Ok(_) => "fits".to_string(),
+            Err(malformed) => malformed.to_string(),
+        }
+    }
+
+    const ONE: &str = "3FF0000000000000";
+
+    #[test]
+    fn first_field_that_does_not_fit() {
+        let cases = [
+            ("opened", "field 1: not a call"),
+            (" open", "field 1: not a call"),
+            (" ", "field 1: not a call"),
+            ("open\r", "field 1: not a call"),
+            ("Open", "field 1: not a call"),
+            ("open ", "field 2: one too many"),
+            ("open now please", "field 2: one too many"),
+            ("lent x 3", "field 2: not a name"),
+            ("lent xs 4200", "fits"),
+            ("lent xs 4201", "field 3: too large"),
+            ("lent xs", "field 3: missing"),
+            ("lent xs ", "field 3: not a number"),
+            ("put pruned 0 x", "field 2: not a name"),
+            ("put outliers", "field 2: not a name"),
+            ("put xs 4200 x", "field 3: too large"),
+            ("put xs 4199 x", "field 4: not a float"),
+            ("count 999999999", "fits"),
+            ("count 0000000001", "field 2: not a number"),
+            ("count -1", "field 2: not a number"),
+            ("show xs 4200 4200", "fits"),
+            ("show xs 4201 x", "field 3: too large"),
+            ("show xs 5 x", "field 4: not a number"),
+            ("show xs 5 4201", "field 4: too large"),
+            ("show xs 5 4 7", "field 3: too large"),
+            ("show xs 5 5 7", "field 5: one too many"),
+            ("add  x", "field 2: not a float"),
+            ("add ", "field 2: not a float"),
+            ("add", "field 2: missing"),
+            ("add 3FF000000000000", "field 2: not a float"),
+            ("add 3FF00000000000000", "field 2: not a float"),
+            ("add 3ff000000000000g", "field 2: not a float"),
+            ("frame", "fits"),
+            ("frame ", "field 2: not hexadecimal"),
+            ("frame 0", "field 2: not hexadecimal"),
+            ("frame 0x", "field 2: not hexadecimal"),
+            ("frame 00 00", "field 3: one too many"),
+            ("report tight 0", "field 2: not a name"),
+            ("report custom one", "field 3: not a number"),
+            ("report relaxed", "field 3: missing"),
+            ("report relaxed 0 mse", "field 4: not a name"),
+            ("report relaxed 0 aic p96", "field 5: not a name"),
+            ("report relaxed 0 aic p95 none", "field 6: not a float"),
+            ("validate 3 custom 2 bic", "fits"),
+            ("validate 3 custom 2 bic 0", "field 6: one too many"),
+        ];
+        for (line, expected) in cases {
+            assert_eq!(said(line), expected, "{line}");
+        }
+        assert_eq!(said(&format!("band {ONE} 1 p95 {ONE} some")), "field 6: not a name");
+        assert_eq!(said(&format!("band {ONE} 1 p95 {ONE} none")), "field 7: missing");
+        assert_eq!(said(&format!("correct 4294967296 {ONE}")), "field 2: not a number");
+    }
+
+    #[test]
+    fn long_lines() {
+        let line = |word: &str, length: usize| format!("{word}{}", "0".repeat(length - word.len()));
+        assert_eq!(said(&line("frame ", 6 + 131_074)), "fits");
+        assert_eq!(said(&line("frame ", 6 + 131_075)), "field 2: not hexadecimal");
+        assert_eq!(said(&line("frame ", 6 + 131_076)), "field 2: too large");
+        assert_eq!(said(&line("frame x", 6 + 131_076)), "field 2: not hexadecimal");
+        assert_eq!(said(&line("frame ", 131_100)), "field 2: too large");
+        assert_eq!(said(&line("frame ", 131_101)), "field 1: too large");
+        assert_eq!(said(&line("#", 131_100)), "fits");
+        assert_eq!(said(&line("#", 131_101)), "field 1: too large");
+    }
+
+    #[test]
+    fn one_nan_is_read() {
+        let line = "add fff0000000000001 FFF0000000000000";
+        let Ok(Some(Request::Add(sample))) = read(line.as_bytes()) else { panic!() };
+        assert_eq!((sample.x.to_bits(), sample.y), (crate::numbers::NAN_BITS, f64::NEG_INFINITY));
+    }
+
+    /// What is written is read as the same.
+    #[test]
+    fn written_and_read() {
+        let lines = [
+            "lent outliers 17".to_string(),
+            format!("put upper 3 {ONE}"),
+            "count 5000".to_string(),
+            "show errors 0 16".to_string(),
+            "open".to_string(),
+            format!("add {ONE} 8000000000000000"),
+            format!("correct 12 {ONE}"),
+            "withdraw 0".to_string(),
+            "frame".to_string(),
+            "frame 000101".to_string(),
+            "fit 15".to_string(),
+            format!("report custom 7 bic p999 0000000000000000 measurement {ONE}"),
+            "validate 10 aggressive 0 aic".to_string(),
+            format!("band {ONE} 2 custom {ONE} none 0000000000000000"),
+        ];
+        for line in lines {
+            let request = read(line.as_bytes()).unwrap().unwrap();
+            assert_eq!(request.to_string(), line);
+        }
+    }
+}
