@@ -1,6 +1,8 @@
 //! Document 01, "Choice", "Covariance, bands, report" and "Validation, single fit, band": what a
 //! fit is, over samples and sums.
 
+use std::ops::Range;
+
 use crate::coefficient_count;
 use crate::numbers::{abs, is_finite, ln, maximum, power, square_root, EPSILON};
 use crate::solve::{inverse, solve, Matrix};
@@ -239,7 +241,7 @@ pub fn band(
 }
 
 /// Folds of n / folds samples, the last takes the rest.
-pub fn fold_ranges(n: usize, folds: usize) -> Vec<std::ops::Range<usize>> {
+pub fn fold_ranges(n: usize, folds: usize) -> Vec<Range<usize>> {
     let size = n / folds;
     let end = |i| if i == folds - 1 { n } else { (i + 1) * size };
     (0..folds).map(|i| i * size..end(i)).collect()
@@ -271,6 +273,29 @@ fn mean_score(fold_scores: &[Option<f64>]) -> Option<f64> {
     (number > 0.0).then(|| sum / number)
 }
 
+/// The mean scores of the degrees 0 to the bound, over the given folds.
+pub fn scores_over(
+    folds: &[Range<usize>],
+    samples: &[Sample],
+    bound: usize,
+    criterion: Criterion,
+) -> Vec<Option<f64>> {
+    let mut sums_of_others = Vec::new();
+    for own in folds {
+        let others = [&samples[..own.start], &samples[own.end..]].concat();
+        sums_of_others.push(folded_afresh(&others));
+    }
+    let mean_of = |degree| {
+        let score_of = |(own, sums): (&Range<usize>, &Vec<f64>)| {
+            fold_score(samples, sums, &samples[own.clone()], degree, criterion)
+        };
+        let fold_scores: Vec<Option<f64>> =
+            folds.iter().zip(&sums_of_others).map(score_of).collect();
+        mean_score(&fold_scores)
+    };
+    (0..=bound).map(mean_of).collect()
+}
+
 /// Validation: the mean scores of the degrees 0 to the bound.
 pub fn validation_scores(
     samples: &[Sample],
@@ -278,21 +303,7 @@ pub fn validation_scores(
     bound: usize,
     criterion: Criterion,
 ) -> Vec<Option<f64>> {
-    let ranges = fold_ranges(samples.len(), folds);
-    let mut sums_of_others = Vec::new();
-    for range in &ranges {
-        let others = [&samples[..range.start], &samples[range.end..]].concat();
-        sums_of_others.push(folded_afresh(&others));
-    }
-    let mean_of = |degree| {
-        let score_of = |(range, sums): (&std::ops::Range<usize>, &Vec<f64>)| {
-            fold_score(samples, sums, &samples[range.clone()], degree, criterion)
-        };
-        let fold_scores: Vec<Option<f64>> =
-            ranges.iter().zip(&sums_of_others).map(score_of).collect();
-        mean_score(&fold_scores)
-    };
-    (0..=bound).map(mean_of).collect()
+    scores_over(&fold_ranges(samples.len(), folds), samples, bound, criterion)
 }
 
 /// Validation: the single fit at the chosen degree, from the sums as they are; 11 where none is

@@ -1,0 +1,410 @@
+//! The lists of tests/ at the top of the repository: their answers are the judge's, and the list of
+//! edges meets the edges that its comments name.
+
+use std::path::PathBuf;
+use std::process::Command;
+
+use judge::fit::{self, Criterion};
+use judge::journal::{lines, run, Journal};
+use judge::numbers::NAN_BITS;
+use judge::request::{read, Request};
+use judge::sums::folded_afresh;
+use judge::Sample;
+
+const NEGATIVE_ZERO: u64 = 1 << 63;
+
+fn file(name: &str) -> Vec<u8> {
+    let path = PathBuf::from(env!("CARGO_MANIFEST_DIR")).join("../tests").join(name);
+    std::fs::read(&path).unwrap_or_else(|error| panic!("{}: {error}", path.display()))
+}
+
+#[test]
+fn answers_are_the_judges() {
+    for name in ["edges", "season"] {
+        let answers = String::from_utf8(file(&format!("{name}.answers"))).unwrap();
+        let printed = run(&file(&format!("{name}.calls")));
+        for (number, (kept, new)) in answers.lines().zip(printed.lines()).enumerate() {
+            assert_eq!(kept, new, "{name}.answers, line {}", number + 1);
+        }
+        assert_eq!(answers.len(), printed.len(), "{name}.answers");
+    }
+}
+
+#[test]
+fn lists_are_as_made() {
+    for name in ["edges", "season"] {
+        let made = Command::new(env!("CARGO_BIN_EXE_lists")).arg(name).output().unwrap();
+        assert!(made.stdout == file(&format!("{name}.calls")), "{name}.calls");
+    }
+}
+
+/// What stands below one comment: lines, with what was printed for each.
+struct Edge(Vec<(String, String)>);
+
+/// The part of the list whose comment, after an empty line, begins so.
+fn edge(comment: &str) -> Edge {
+    let input = file("edges.calls");
+    let mut journal = Journal::default();
+    let (mut inside, mut after_empty, mut part) = (false, false, Vec::new());
+    for (number, line) in lines(&input).into_iter().enumerate() {
+        let text = String::from_utf8(line.to_vec()).unwrap();
+        if after_empty && text.starts_with('#') {
+            assert!(!inside || !part.is_empty());
+            inside = text.starts_with(&format!("# {comment}"));
+        }
+        after_empty = text.is_empty();
+        let printed = journal.line(number + 1, line).unwrap_or_default();
+        if inside && !text.is_empty() && !text.starts_with('#') {
+            part.push((text, printed));
+        }
+    }
+    assert!(!part.is_empty(), "no edge {comment}");
+    Edge(part)
+}
+
+impl Edge {
+    /// What was printed for the lines of this word.
+    fn of(&self, word: &str) -> Vec<&str> {
+        let begins = |line: &str| line.split(' ').next() == Some(word);
+        let printed = self.0.iter().filter(|(line, _)| begins(line));
+        printed.map(|(_, printed)| printed.as_str()).collect()
+    }
+
+    /// What was shown of a memory, time after time.
+    fn shown(&self, name: &str) -> Vec<Vec<u64>> {
+        let radix = if matches!(name, "pruned" | "outliers") { 10 } else { 16 };
+        let number = |field: &str| u64::from_str_radix(field, radix).unwrap();
+        let fields = |line: &str| line.split(' ').skip(1).map(number).collect();
+        let shows = self.of("show").into_iter().filter(|line| line.split(' ').next() == Some(name));
+        shows.map(fields).collect()
+    }
+
+    fn requests(&self) -> Vec<Request> {
+        self.0.iter().filter_map(|(line, _)| read(line.as_bytes()).ok().flatten()).collect()
+    }
+
+    /// The samples added one by one.
+    fn samples(&self) -> Vec<Sample> {
+        let added = |request| match request {
+            Request::Add(sample) => Some(sample),
+            _ => None,
+        };
+        self.requests().into_iter().filter_map(added).collect()
+    }
+}
+
+fn bits_of(values: &[f64]) -> Vec<u64> {
+    values.iter().map(|v| v.to_bits()).collect()
+}
+
+const CRITERIA: [Criterion; 2] = [Criterion::Aic, Criterion::Bic];
+
+/// The choice if each fold were solved from its own samples too.
+fn chosen_by_own(samples: &[Sample], criterion: Criterion) -> Option<usize> {
+    let sums = folded_afresh(samples);
+    let score_of = |degree| {
+        let coefficients = fit::solved(samples, &sums, degree)?;
+        let own = |own: std::ops::Range<usize>| {
+            fit::score(criterion, &fit::residuals(&samples[own], &coefficients), degree + 1)
+        };
+        Some((own(0..3) + own(3..6) + own(6..10)) / 3.0)
+    };
+    fit::chosen(&(0..=3).map(score_of).collect::<Vec<_>>())
+}
+
+#[test]
+fn ten_in_three_folds() {
+    let edge = edge("folds: 10 samples in 3 folds");
+    let samples = edge.samples();
+    assert_eq!((samples.len(), edge.of("validate")), (10, vec!["fit 1", "fit 1"]));
+    for criterion in CRITERIA {
+        let chosen = |folds: &[std::ops::Range<usize>], samples: &[Sample]| {
+            fit::chosen(&fit::scores_over(folds, samples, 3, criterion))
+        };
+        assert_eq!(chosen(&[0..3, 3..6, 6..10], &samples), Some(1));
+        let others = [
+            chosen(&[0..3, 3..6, 6..9], &samples),
+            chosen(&[0..3, 3..6, 6..9], &samples[..9]),
+            chosen(&[0..4, 4..7, 7..10], &samples),
+            chosen(&[0..3, 3..7, 7..10], &samples),
+            chosen(&[0..4, 4..8, 8..10], &samples),
+            chosen(&[0..3, 3..6, 6..9, 9..10], &samples),
+            chosen_by_own(&samples, criterion),
+        ];
+        assert!(!others.contains(&Some(1)), "{others:?}");
+    }
+}
+
+#[test]
+fn unsolved_folds_are_skipped() {
+    let edge = edge("folds: an unsolved fold");
+    let samples = edge.samples();
+    assert_eq!(edge.of("validate"), ["fit 2", "fit 2"]);
+    for criterion in CRITERIA {
+        // The scores of the solved folds, degree by degree.
+        let solved: Vec<Vec<f64>> = (0..=3)
+            .map(|degree| {
+                let score = |own| fit::scores_over(&[own], &samples, degree, criterion)[degree];
+                fit::fold_ranges(samples.len(), 4).into_iter().filter_map(score).collect()
+            })
+            .collect();
+        assert!(solved[2].len() < 4 && !solved[2].is_empty());
+        let over_four = |scores: &Vec<f64>| scores.iter().sum::<f64>() / 4.0;
+        let all: Vec<_> = solved.iter().map(|s| (!s.is_empty()).then(|| over_four(s))).collect();
+        let whole: Vec<_> = solved.iter().map(|s| (s.len() == 4).then(|| over_four(s))).collect();
+        assert!(fit::chosen(&all) != Some(2) && fit::chosen(&whole) != Some(2));
+    }
+}
+
+#[test]
+fn leave_one_out() {
+    let edge = edge("folds: leave one out");
+    let folds = edge.samples().len();
+    for request in edge.requests() {
+        if let Request::Validate { folds: asked, .. } = request {
+            assert_eq!(asked, folds);
+        }
+    }
+    assert_eq!(edge.of("validate").len(), 2);
+}
+
+#[test]
+fn unsolved_degrees() {
+    let twice = edge("unsolved: two different x's");
+    assert_eq!(twice.of("fit"), ["fit 0", "fit 1", "refused 10", "refused 10"]);
+    assert!(twice.of("report")[0].starts_with("report 0 2 "));
+    let years = edge("unsolved: years");
+    assert!(years.samples().iter().all(|sample| (1990.0..2010.0).contains(&sample.x)));
+    assert_eq!(years.of("fit")[2..], ["fit 2", "refused 10", "refused 10", "refused 10"]);
+    assert!(years.of("report")[0].starts_with("report 1 3 "));
+    let overflow = edge("unsolved: degree 0");
+    assert_eq!(overflow.of("fit"), ["refused 10", "fit 1"]);
+    assert!(overflow.of("report")[0].starts_with("report 1 1 "));
+    let own = edge("unsolved: validation's chosen degree, by the book's own");
+    assert_eq!(own.of("validate"), ["refused 10"; 2]);
+    let lent = edge("unsolved: validation's chosen degree, by lent");
+    assert_eq!(lent.of("validate"), ["fit 1", "fit 1", "refused 10", "refused 10"]);
+}
+
+#[test]
+fn errors() {
+    let nan = edge("errors: NaN");
+    assert_eq!(nan.shown("errors")[0][0], NAN_BITS);
+    let negative = edge("errors: -0");
+    assert_eq!(negative.samples().len(), 2);
+    assert!(negative.of("report")[0].starts_with("report 1 "));
+    assert_eq!(negative.shown("errors")[0][..2], [NEGATIVE_ZERO, 0]);
+    assert_eq!(negative.shown("pruned")[0][..2], [1, 0]);
+    let twelve = edge("errors: 12");
+    assert_eq!((twelve.of("fit"), twelve.of("report")), (vec!["fit 1"], vec!["refused 12"]));
+    assert_eq!(twelve.of("band"), ["refused 12"]);
+    assert!(edge("errors: sums that are not symmetric").of("report")[0].starts_with("report 1 "));
+    let not_finite = edge("errors: sums that are not finite");
+    assert_eq!(not_finite.of("report")[1], "refused 11");
+}
+
+#[test]
+fn no_freedom() {
+    let one = edge("freedom: df 0 at degree 0");
+    assert_eq!((one.samples().len(), one.of("report")), (1, vec!["report 0 1 0 0"]));
+    let four = edge("freedom: df 0 at degree 3");
+    assert_eq!((four.samples().len(), four.of("report")), (4, vec!["report 3 4 4 0"; 7]));
+    assert!(four.shown("errors").iter().all(|errors| errors[..4] == [0; 4]));
+    assert!(four.shown("pruned").iter().all(|pruned| pruned[..16] == [0; 16]));
+}
+
+#[test]
+fn every_confidence_and_tolerance() {
+    let edge = edge("settings: every confidence");
+    // The last fields of the reports and bands: confidence, its number, tolerance, its number.
+    let mut asked = Vec::new();
+    for (line, _) in &edge.0 {
+        let fields: Vec<&str> = line.split(' ').collect();
+        if let ["report" | "band", .., confidence, _, tolerance, number] = fields[..] {
+            asked.push((fields[0], confidence, tolerance, number.starts_with(['B', 'C'])));
+        }
+    }
+    for confidence in ["p80", "p90", "p95", "p98", "p99", "p999", "custom"] {
+        for tolerance in ["none", "absolute", "variance", "measurement"] {
+            for word in ["report", "band"] {
+                assert!(asked.contains(&(word, confidence, tolerance, false)));
+                let negative = asked.contains(&(word, confidence, tolerance, true));
+                assert_eq!(negative, tolerance != "none");
+            }
+        }
+    }
+    let reports = edge.of("report");
+    assert!(reports.iter().all(|answer| answer.starts_with("report 1 3 ")));
+    for pruned in ["0", "1", "2"] {
+        assert!(reports.iter().any(|answer| answer.ends_with(pruned)), "{pruned} pruned");
+    }
+}
+
+#[test]
+fn pruning() {
+    let report = |comment: &str| edge(comment).of("report")[0].to_string();
+    assert!(report("pruning: a small term").ends_with(" 1"));
+    assert!(report("pruning: the same term below zero").ends_with(" 0"));
+    let (above, below) = (edge("pruning: a small term"), edge("pruning: the same term"));
+    assert_eq!(above.shown("errors"), below.shown("errors"));
+    let flipped = above.shown("coefficients")[0][0] ^ NEGATIVE_ZERO;
+    assert_eq!(flipped, below.shown("coefficients")[0][0]);
+    assert!(report("pruning: P95 at df 8").ends_with(" 0"));
+    assert!(report("pruning: P95 at df 29").ends_with(" 1"));
+    assert!(report("pruning: at df 30").ends_with(" 0"));
+    let beside = edge("pruning: just below");
+    assert_eq!(beside.of("report").len(), 2 * 6 * 4);
+    for (at, answer) in beside.of("report").into_iter().enumerate() {
+        assert!(answer.ends_with(if at % 2 == 0 { " 1" } else { " 0" }), "{at}: {answer}");
+    }
+}
+
+#[test]
+fn outliers_at_the_edge() {
+    let none = edge("outliers: none");
+    assert_eq!(none.shown("lower")[0][0], 1.0f64.to_bits());
+    assert_eq!(none.shown("upper")[0][0], 3.0f64.to_bits());
+    assert_eq!(none.of("report"), ["report 0 1 0 0"]);
+    assert_eq!(edge("outliers: both").of("report"), ["report 0 1 2 0"]);
+    for end in ["lower", "upper"] {
+        let edge = edge(&format!("outliers: sample 3 on the {end} end"));
+        let y = edge.samples()[3].y.to_bits();
+        assert_eq!((edge.shown(end)[0][3], edge.shown("outliers")[0][3]), (y, 0));
+        assert!(edge.shown(end)[1][3] != y && edge.shown("outliers")[1][3] == 1);
+    }
+}
+
+/// Outputs hold what was put there, and the marks of the report before.
+fn assert_outputs_unchanged(edge: &Edge, n: usize) {
+    let marks = |from: usize, count: usize| -> Vec<u64> {
+        bits_of(&(from..from + count).map(|v| v as f64).collect::<Vec<_>>())
+    };
+    for (name, from, count) in [
+        ("coefficients", 100, 17),
+        ("errors", 200, 17),
+        ("lower", 300, n + 1),
+        ("upper", 400, n + 1),
+    ] {
+        let shown = edge.shown(name);
+        assert!(shown.iter().any(|places| places.len() == count));
+        assert!(shown.iter().all(|places| places[..] == marks(from, count)[..places.len()]));
+    }
+    for (pruned, outliers) in edge.shown("pruned").iter().zip(edge.shown("outliers")) {
+        assert_eq!((pruned[0], &pruned[1..]), (1, &[0; 16][..]));
+        assert_eq!(outliers, vec![1; n + 1]);
+    }
+}
+
+#[test]
+fn late_refusals() {
+    for (comment, number, n, calls) in [
+        ("late: 10 of a fit", 10, 2, ["fit", "band"]),
+        ("late: 10 of a validation", 10, 6, ["validate", "validate"]),
+        ("late: 11", 11, 4, ["report", "validate"]),
+        ("late: 12", 12, 3, ["report", "band"]),
+    ] {
+        let edge = edge(comment);
+        for call in calls {
+            let refused = format!("refused {number}");
+            assert!(edge.of(call).iter().all(|answer| **answer == refused), "{comment}");
+            assert!(!edge.of(call).is_empty());
+        }
+        assert_outputs_unchanged(&edge, n);
+        let mut scratch = vec![0; n];
+        scratch.push((500.0 + n as f64).to_bits());
+        assert!(edge.shown("scratch").iter().all(|places| *places == scratch), "{comment}");
+    }
+}
+
+#[test]
+fn early_refusals() {
+    let early = edge("early: 9, 8, 7, 4 and 1");
+    assert_eq!(early.of("band"), ["refused 9", "refused 9", "refused 8"]);
+    assert_eq!(early.of("fit"), ["refused 8"]);
+    assert_eq!(early.of("validate"), ["refused 7"; 2]);
+    assert_eq!(early.of("report"), ["refused 4", "refused 1"]);
+    assert_outputs_unchanged(&early, 3);
+    assert_eq!(early.shown("scratch"), [bits_of(&[500.0, 501.0, 502.0, 503.0])]);
+    let zeros = edge("early: 9 compares");
+    assert!(zeros.of("band")[0].starts_with("band "));
+    assert_eq!(zeros.of("band")[1], "refused 9");
+}
+
+#[test]
+fn choices_and_bounds() {
+    let line = bits_of(&[1.0, 2.0, 0.0]);
+    assert_eq!(edge("choice: T10").shown("coefficients")[0][..3], line);
+    assert_eq!(edge("choice: T11").of("report"), ["report 0 2 0 1"]);
+    assert_eq!(edge("choice: T12").of("report"), ["report 0 1 0 1"]);
+    let solved = edge("choice: 11 with a solved");
+    assert_eq!((solved.of("fit"), solved.of("report")), (vec!["fit 0"], vec!["refused 11"]));
+    let none = edge("choice: 11 with no");
+    assert_eq!((none.of("fit"), none.of("report")), (vec!["refused 10"], vec!["refused 11"]));
+    let custom = edge("bounds: Custom 20");
+    assert!(custom.of("report")[0].starts_with("report 15 16 "));
+    assert_eq!(custom.of("report")[1], "refused 8");
+    assert_eq!(custom.of("fit"), ["fit 15", "refused 8"]);
+    let bounds = edge("bounds: Conservative 44");
+    let solved: Vec<Option<&str>> =
+        bounds.of("report").iter().map(|answer| answer.split(' ').nth(2)).collect();
+    let degrees = [Some("2"), Some("3"), Some("4"), Some("5"), Some("16"), None];
+    assert_eq!(solved, degrees);
+}
+
+#[test]
+fn bands_at_their_ends() {
+    let infinite = edge("bands: infinite");
+    assert_eq!(infinite.shown("lower")[0][0], f64::NEG_INFINITY.to_bits());
+    assert_eq!(infinite.shown("upper")[0][0], f64::INFINITY.to_bits());
+    let nan = edge("bands: NaN");
+    assert_eq!((nan.shown("lower")[0][0], nan.shown("upper")[0][0]), (NAN_BITS, NAN_BITS));
+    assert!(edge("bands: at").of("band").iter().all(|answer| answer.starts_with("band ")));
+}
+
+#[test]
+fn books_and_columns() {
+    let withdrawn = edge("book: a withdrawal");
+    assert_eq!(withdrawn.shown("xs")[0][..3], bits_of(&[0.1, 0.3, 0.3]));
+    assert_eq!(edge("book: its room").shown("xs")[0][..3], bits_of(&[0.1, 0.3, 0.4]));
+    let corrected = edge("book: a correction").shown("sums").remove(0);
+    assert_eq!((corrected[0], corrected[255]), (77.0f64.to_bits(), NEGATIVE_ZERO));
+    assert!(corrected[256] != 78.0f64.to_bits() && corrected[272] == 79.0f64.to_bits());
+    let sums = edge("book: an add adds").shown("sums");
+    assert_eq!((sums[0][0], sums[1][0]), (78.0f64.to_bits(), 3.0f64.to_bits()));
+    assert_eq!(sums[1][272], 79.0f64.to_bits());
+    let frames = edge("columns: a NaN");
+    let answers = ["refused 4", "refused 5", "refused 2", "book 1", "book 2"];
+    assert_eq!(frames.of("frame"), answers);
+    let most = edge("columns: at most");
+    assert_eq!(most.of("add"), ["refused 5", "book 4096", "refused 1"]);
+    assert_eq!(most.of("withdraw"), ["book 4095", "refused 1"]);
+    let long = edge("lines: the longest frame");
+    let frames = long.of("frame");
+    assert_eq!(frames[0], "refused 2");
+    assert!(frames[1].ends_with(": field 2: too large"));
+    assert!(frames[2].ends_with(": field 1: too large"));
+    assert_eq!((long.of("add"), file("edges.calls").last()), (vec!["book 1"], Some(&b'0')));
+}
+
+#[test]
+fn season_has_every_message_and_refusal() {
+    let answers = run(&file("season.calls"));
+    let messages = [
+        "not a call",
+        "not a name",
+        "not a number",
+        "not a float",
+        "not hexadecimal",
+        "too large",
+        "missing",
+        "one too many",
+    ];
+    for message in messages {
+        let ending = format!(": {message}");
+        assert!(answers.lines().any(|line| line.ends_with(&ending)), "{message}");
+    }
+    for number in 1..=12 {
+        let refusal = format!("refused {number}");
+        assert!(answers.lines().any(|line| line == refusal), "{refusal}");
+    }
+}
