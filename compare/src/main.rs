@@ -3,6 +3,8 @@
 //!
 //! `compare [--seed N] [--calls N]`: runs until so many calls were judged by polyfit. The seed is
 //! printed; `--seed clock` takes one from the clock. `--list N` runs one list only and prints it.
+//! `--write N` runs nothing and prints lists of N calls in the text form of docs/JOURNAL.md;
+//! `--journal FILE` runs the calls of such a text as one list.
 //!
 //! Fails on a difference, which it shrinks and prints, and where something that the runs must make
 //! never happened.
@@ -11,6 +13,7 @@ mod arguments;
 mod call;
 mod coverage;
 mod generate;
+mod journal;
 mod memory;
 mod random;
 mod reference;
@@ -33,10 +36,12 @@ struct Options {
     seed: u64,
     calls: u64,
     list: Option<u64>,
+    write: Option<u64>,
+    journal: Option<String>,
 }
 
 fn options() -> Result<Options, String> {
-    let mut options = Options { seed: 1, calls: 100_000, list: None };
+    let mut options = Options { seed: 1, calls: 100_000, list: None, write: None, journal: None };
     let mut arguments = std::env::args().skip(1);
     while let Some(name) = arguments.next() {
         let value = arguments.next().ok_or(format!("{name} needs a value"))?;
@@ -46,6 +51,8 @@ fn options() -> Result<Options, String> {
             "--seed" => options.seed = number()?,
             "--calls" => options.calls = number()?,
             "--list" => options.list = Some(number()?),
+            "--write" => options.write = Some(number()?),
+            "--journal" => options.journal = Some(value),
             _ => return Err(format!("{name} is not known")),
         }
     }
@@ -97,6 +104,29 @@ fn run_all(options: &Options, sides: &[&dyn Side], coverage: &mut Coverage) -> b
     true
 }
 
+/// Runs one list.
+fn run_list(list: &List, sides: &[&dyn Side]) -> ExitCode {
+    let mut coverage = Coverage::default();
+    if let Err(difference) = run(list, sides, &mut coverage) {
+        print_failure(list, &difference, sides);
+        return ExitCode::FAILURE;
+    }
+    let (calls, by_reference) = (coverage.calls, coverage.by_reference);
+    println!("{calls} calls, {by_reference} of them judged by polyfit: no difference");
+    ExitCode::SUCCESS
+}
+
+/// Runs the calls of a text.
+fn run_journal(path: &str, sides: &[&dyn Side]) -> ExitCode {
+    match std::fs::read(path) {
+        Ok(text) => run_list(&journal::list_of(&text), sides),
+        Err(error) => {
+            eprintln!("{path}: {error}");
+            ExitCode::FAILURE
+        }
+    }
+}
+
 fn main() -> ExitCode {
     let options = match options() {
         Ok(options) => options,
@@ -105,21 +135,22 @@ fn main() -> ExitCode {
             return ExitCode::FAILURE;
         }
     };
-    println!("seed {}", options.seed);
+    if let Some(calls) = options.write {
+        print!("{}", journal::write(options.seed, calls));
+        return ExitCode::SUCCESS;
+    }
     let sides = further_sides();
     let sides: Vec<&dyn Side> = sides.iter().map(AsRef::as_ref).collect();
-    let mut coverage = Coverage::default();
+    if let Some(path) = &options.journal {
+        return run_journal(path, &sides);
+    }
+    println!("seed {}", options.seed);
     if let Some(number) = options.list {
         let list = generate::list(options.seed, number);
         print_list(&list);
-        return match run(&list, &sides, &mut coverage) {
-            Ok(()) => ExitCode::SUCCESS,
-            Err(difference) => {
-                print_failure(&list, &difference, &sides);
-                ExitCode::FAILURE
-            }
-        };
+        return run_list(&list, &sides);
     }
+    let mut coverage = Coverage::default();
     let start = Instant::now();
     let same = run_all(&options, &sides, &mut coverage);
     finish(&coverage, same, start)

@@ -7,6 +7,7 @@ use judge::Sample;
 use crate::call::{Answer, Call, List};
 use crate::coverage::Coverage;
 use crate::generate;
+use crate::journal;
 use crate::memory::Lent;
 use crate::run::run;
 use crate::shrink::shrink;
@@ -173,4 +174,43 @@ fn lists_are_made_again() {
             format!("{:?}", generate::list(5, number))
         );
     }
+}
+
+/// A list of tests/ at the top of the repository.
+fn text(name: &str) -> Vec<u8> {
+    let path = std::path::PathBuf::from(env!("CARGO_MANIFEST_DIR")).join("../tests").join(name);
+    std::fs::read(&path).unwrap_or_else(|error| panic!("{}: {error}", path.display()))
+}
+
+/// Runs a text's calls, beside the ledger and polyfit, and answers what never happened of what is
+/// asked for.
+fn missing_in(name: &str, asked: fn(&str) -> bool) -> Vec<String> {
+    let mut coverage = Coverage::default();
+    let outcome = run(&journal::list_of(&text(name)), &[], &mut coverage);
+    assert!(outcome.is_ok(), "{name}: {outcome:?}");
+    assert!(coverage.by_reference > 0);
+    coverage.missing().into_iter().filter(|key| asked(key)).collect()
+}
+
+#[test]
+fn texts_are_judged() {
+    missing_in("edges.calls", |_| false);
+    // Every refusal of every call, and every pair in order. A text has no reader.
+    let missing = missing_in("season.calls", |key| {
+        let refusal = key.contains(" before ") || key.contains(": refused by ");
+        refusal && !key.starts_with("reader") && !key.contains("by polyfit")
+    });
+    assert!(missing.is_empty(), "{missing:?}");
+    // Every call and refusal, by polyfit too, every setting and event; the pairs are the season's.
+    let missing = missing_in("fixed.calls", |key| {
+        let call = key.contains(": answered") || key.contains(": refused by ");
+        let setting = ["report: ", "validate: ", "band: "].iter().any(|call| key.starts_with(call));
+        (call || setting) && !key.starts_with("reader") && !key.contains(": 1 before ")
+    });
+    assert!(missing.is_empty(), "{missing:?}");
+}
+
+#[test]
+fn fixed_list_is_as_made() {
+    assert!(journal::write(55, 3000).as_bytes() == text("fixed.calls"));
 }

@@ -20,7 +20,7 @@ fn file(name: &str) -> Vec<u8> {
 
 #[test]
 fn answers_are_the_judges() {
-    for name in ["edges", "season"] {
+    for name in ["edges", "season", "fixed"] {
         let answers = String::from_utf8(file(&format!("{name}.answers"))).unwrap();
         let printed = run(&file(&format!("{name}.calls")));
         for (number, (kept, new)) in answers.lines().zip(printed.lines()).enumerate() {
