@@ -144,7 +144,8 @@ fn power_of_two(exponent: i32) -> f64 {
 }
 
 fn wild(random: &mut Random) -> f64 {
-    random.sign() * 10f64.powf(random.within(-20.0, 20.0))
+    let exponent = random.between(0, 132) as i32 - 66;
+    random.sign() * random.within(1.0, 2.0) * power_of_two(exponent)
 }
 
 fn any_finite(random: &mut Random) -> f64 {
@@ -162,7 +163,8 @@ fn huge(random: &mut Random) -> f64 {
 
 /// Powers of it overflow from some exponent on.
 fn huge_x(random: &mut Random) -> f64 {
-    random.sign() * 10f64.powf(308.0 / random.between(1, 32) as f64) * random.within(0.5, 1.5)
+    let exponent = 1023 / random.between(1, 32) as i32;
+    random.sign() * random.within(0.5, 1.5) * power_of_two(exponent)
 }
 
 fn tiny(random: &mut Random) -> f64 {

@@ -156,6 +156,31 @@ fn unsolved_folds_are_skipped() {
     }
 }
 
+/// The choice if a fold were solved by finite residuals of its own samples alone.
+fn chosen_by_own_residuals(samples: &[Sample], criterion: Criterion) -> Option<usize> {
+    let mean_of = |degree| {
+        let score = |own: std::ops::Range<usize>| {
+            let others = [&samples[..own.start], &samples[own.end..]].concat();
+            let own = &samples[own];
+            let coefficients = fit::solved(own, &folded_afresh(&others), degree)?;
+            Some(fit::score(criterion, &fit::residuals(own, &coefficients), degree + 1))
+        };
+        let solved: Vec<f64> =
+            fit::fold_ranges(samples.len(), 2).into_iter().filter_map(score).collect();
+        (!solved.is_empty()).then(|| solved.iter().sum::<f64>() / solved.len() as f64)
+    };
+    fit::chosen(&(0..=1).map(mean_of).collect::<Vec<_>>())
+}
+
+#[test]
+fn folds_look_at_every_sample() {
+    let edge = edge("folds: solved only if");
+    assert_eq!(edge.of("validate"), ["fit 0", "fit 0"]);
+    for criterion in CRITERIA {
+        assert_eq!(chosen_by_own_residuals(&edge.samples(), criterion), Some(1));
+    }
+}
+
 #[test]
 fn leave_one_out() {
     let edge = edge("folds: leave one out");
@@ -184,6 +209,13 @@ fn unsolved_degrees() {
     assert_eq!(own.of("validate"), ["refused 10"; 2]);
     let lent = edge("unsolved: validation's chosen degree, by lent");
     assert_eq!(lent.of("validate"), ["fit 1", "fit 1", "refused 10", "refused 10"]);
+}
+
+#[test]
+fn pivots() {
+    assert_eq!(edge("pivots: one of 2^-48").of("fit"), ["refused 10", "fit 1"]);
+    assert_eq!(edge("pivots: one that is a NaN").of("fit"), ["refused 10"]);
+    assert_eq!(edge("pivots: a negative starting value").of("fit"), ["fit 1"]);
 }
 
 #[test]
@@ -237,6 +269,16 @@ fn every_confidence_and_tolerance() {
     assert!(reports.iter().all(|answer| answer.starts_with("report 1 3 ")));
     for pruned in ["0", "1", "2"] {
         assert!(reports.iter().any(|answer| answer.ends_with(pruned)), "{pruned} pruned");
+    }
+}
+
+#[test]
+fn measurement_of_values_below_zero() {
+    let edge = edge("settings: a measurement tolerance");
+    let number = |field| f64::from_bits(u64::from_str_radix(field, 16).unwrap());
+    for (band, wider) in edge.of("band").into_iter().zip([true, false]) {
+        let [value, lower, upper] = [1, 2, 3].map(|at| number(band.split(' ').nth(at).unwrap()));
+        assert!(value < 0.0 && (lower < upper) == wider, "{band}");
     }
 }
 

@@ -54,6 +54,7 @@ pub fn edges() -> String {
     let mut list = List::new("The edges of document 01. Made by `lists edges`.");
     folds(&mut list);
     unsolved(&mut list);
+    pivots(&mut list);
     errors(&mut list);
     freedom(&mut list);
     settings(&mut list);
@@ -90,6 +91,14 @@ fn folds(list: &mut List) {
     ]);
     list.validate(4, 3);
 
+    list.head("folds: solved only if every sample of the book has a finite residual");
+    list.line(
+        "# found by search: a fold that looks at its own samples alone chooses another degree",
+    );
+    let u = power_of_two(1020);
+    list.book(&at_whole_x(&[5.0, 0.0, 9.0 * u, -15.0 * u, 9.0 * u]));
+    list.validate(2, 1);
+
     list.head("folds: leave one out");
     list.book(&PIT);
     list.validate(8, 2);
@@ -97,6 +106,11 @@ fn folds(list: &mut List) {
     list.head("folds: two, of 4 and 4, and seven, of 1 and a last one of 2");
     list.validate(2, 2);
     list.validate(7, 2);
+}
+
+/// 2 to a power from −1022 to 1023.
+fn power_of_two(exponent: i32) -> f64 {
+    f64::from_bits(((1023 + exponent) as u64) << 52)
 }
 
 fn unsolved(list: &mut List) {
@@ -117,7 +131,7 @@ fn unsolved(list: &mut List) {
     list.whole_report(up_to(5), 11);
 
     list.head("unsolved: degree 0 by a residual that overflows, and 1 is chosen");
-    let u = f64::from_bits((1023 + 1020) << 52);
+    let u = power_of_two(1020);
     list.book(&[(-0.75, 15.0 * u), (0.0, -15.0 * u), (0.75, -6.0 * u)]);
     list.fit(0);
     list.fit(1);
@@ -135,6 +149,31 @@ fn unsolved(list: &mut List) {
     list.validate(2, 1);
     list.put(Name::Sums, 0, 0.0);
     list.validate(2, 1);
+}
+
+/// Sums with 1 for the starting value of the second pivot, which is the given.
+fn with_pivot(pivot: f64) -> [(usize, f64); 6] {
+    [(0, 1.0), (1, 1.0), (16, 1.0 - pivot), (17, 1.0), (256, 1.0), (257, 1.0)]
+}
+
+fn pivots(list: &mut List) {
+    let least = power_of_two(-48);
+    list.head("pivots: one of 2^-48 times its starting value fails, with 2^-53 more it holds");
+    list.book(&LINE);
+    list.put_sums(&with_pivot(least));
+    list.fit(1);
+    list.put_sums(&with_pivot(least + f64::EPSILON / 2.0));
+    list.fit(1);
+    list.show(Name::Coefficients, 3);
+
+    list.head("pivots: one that is a NaN fails");
+    list.put_sums(&[(0, NAN)]);
+    list.fit(0);
+
+    list.head("pivots: a negative starting value lets one below zero pass");
+    list.put_sums(&[(0, 1.0), (1, 1.0), (16, -1.0), (17, -1.0 - least), (256, 1.0), (257, 1.0)]);
+    list.fit(1);
+    list.show(Name::Coefficients, 3);
 }
 
 fn errors(list: &mut List) {
@@ -216,6 +255,14 @@ fn settings(list: &mut List) {
     }
     list.show(Name::Coefficients, TERMS);
     list.show(Name::Errors, TERMS);
+
+    list.head("settings: a measurement tolerance takes the size of a value below zero");
+    list.book(&PIT.map(|(x, y)| (x, -y)));
+    for value in [0.25, -0.25] {
+        let settings = Settings { tolerance: Tolerance::Measurement(value), ..up_to(2) };
+        list.whole_report(settings, 8);
+        list.band_by(0.875, 1, settings);
+    }
 }
 
 /// df + 1 samples whose mean over its error is the given t, nearly: the mean, with 1 and −1 by turns
@@ -226,7 +273,7 @@ fn with_t(df: usize, t: f64) -> Vec<(f64, f64)> {
     let error = (turned / df as f64 / n as f64).sqrt();
     let turn = |i: usize| match i {
         _ if i + 1 == n && n % 2 == 1 => 0.0,
-        _ if i % 2 == 0 => 1.0,
+        _ if i.is_multiple_of(2) => 1.0,
         _ => -1.0,
     };
     (0..n).map(|i| (i as f64, t * error + turn(i))).collect()
