@@ -8,6 +8,7 @@ use judge::fit::{self, Criterion};
 use judge::journal::{lines, run, Journal};
 use judge::numbers::NAN_BITS;
 use judge::request::{read, Request};
+use judge::statistics::{huber_loss, median_absolute_deviation, HUBER_CONST};
 use judge::sums::folded_afresh;
 use judge::Sample;
 
@@ -295,7 +296,7 @@ fn pruning() {
     assert!(report("pruning: P95 at df 29").ends_with(" 1"));
     assert!(report("pruning: at df 30").ends_with(" 0"));
     let beside = edge("pruning: just below");
-    assert_eq!(beside.of("report").len(), 2 * 6 * 4);
+    assert_eq!(beside.of("report").len(), 2 * 6 * 30);
     for (at, answer) in beside.of("report").into_iter().enumerate() {
         assert!(answer.ends_with(if at % 2 == 0 { " 1" } else { " 0" }), "{at}: {answer}");
     }
@@ -391,6 +392,33 @@ fn choices_and_bounds() {
         bounds.of("report").iter().map(|answer| answer.split(' ').nth(2)).collect();
     let degrees = [Some("2"), Some("3"), Some("4"), Some("5"), Some("16"), None];
     assert_eq!(solved, degrees);
+}
+
+/// The choice up to degree 2 by AIC, if Huber's constant were another.
+fn chosen_with(constant: f64, samples: &[Sample]) -> Option<usize> {
+    let sums = folded_afresh(samples);
+    let score_of = |degree| {
+        let coefficients = fit::solved(samples, &sums, degree)?;
+        let residuals = fit::residuals(samples, &coefficients);
+        let deviation = median_absolute_deviation(&residuals) * (constant / HUBER_CONST);
+        let total: f64 = residuals.iter().map(|&r| huber_loss(r, deviation)).sum();
+        let (n, k) = (samples.len() as f64, degree as f64 + 1.0);
+        let correction = if n < 4.0 * k { 2.0 * k * (k + 1.0) / (n - k - 1.0) } else { 0.0 };
+        Some(n * (total / n).ln() + 2.0 * k + correction)
+    };
+    fit::chosen(&(0..=2).map(score_of).collect::<Vec<_>>())
+}
+
+#[test]
+fn huber_constant() {
+    let edge = edge("choice: Huber's 1.345");
+    let samples = edge.samples();
+    let degrees: Vec<&str> =
+        edge.of("report").iter().filter_map(|answer| answer.split(' ').nth(1)).collect();
+    assert_eq!(degrees, ["0", "2"]);
+    let chosen = |constant, half: usize| chosen_with(constant, &samples[12 * half..][..12]);
+    assert_eq!([chosen(1.344, 0), chosen(1.345, 0)], [Some(2), Some(0)]);
+    assert_eq!([chosen(1.345, 1), chosen(1.346, 1)], [Some(2), Some(0)]);
 }
 
 #[test]

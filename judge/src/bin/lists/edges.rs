@@ -303,8 +303,8 @@ fn pruning(list: &mut List) {
     list.framed_book(&with_t(30, 2.0));
     list.whole_report(up_to(0), 31);
 
-    list.head("pruning: just below the score, pruned, and just above it, kept, at df 1, 8, 29, 30");
-    for df in [1, 8, 29, 30] {
+    list.head("pruning: just below the score, pruned, and just above it, kept, at df 1 to 30");
+    for df in 1..=30 {
         for confidence in LEVELS {
             for part in [1.0 - 2e-6, 1.0 + 2e-6] {
                 list.framed_book(&with_t(df, part * t_score(confidence, df)));
@@ -415,6 +415,12 @@ fn choice(list: &mut List) {
     list.head("choice: T12, degree 1 unsolved and 0 chosen");
     list.book(&[(2.0, 1.0), (2.0, 5.0)]);
     list.whole_report(AIC_1, 2);
+
+    list.head("choice: Huber's 1.345, found by search: 1.344 and 1.346 choose another degree");
+    list.book(&at_whole_x(&[29.0, 16.0, 23.0, 9.0, 11.0, 19.0, 39.0, 39.0, 34.0, 3.0, 4.0, 9.0]));
+    list.report(up_to(2));
+    list.book(&at_whole_x(&[3.0, 19.0, 26.0, 9.0, 29.0, 19.0, 11.0, 26.0, 13.0, 15.0, 6.0, 24.0]));
+    list.report(up_to(2));
 
     list.head("choice: 11 with a solved degree, whose score is +infinity");
     list.book(&[(0.0, 1.5e308), (1.0, -1.5e308)]);
