@@ -1,31 +1,53 @@
--- What a fit comes to: refused by 1 to 9, unsolved, or solved. Assumes nothing.
-use mathlib.Core.Path.{_≡_, refl}
+-- What a fit or a validation comes to: refused by 1 to 9, unsolved, or solved. Assumes nothing.
+use mathlib.Core.Path.{_≡_, refl, sym, ap, _∙_}
 use mathlib.Core.Bool.{true, false}
-use mathlib.Core.List.{List, _++_}
+use mathlib.Core.List.{List}
 use Prim.Native.Nat.{ℕ, zero, suc, _+_}
-use lib.ListN.{length, drop}
 use lib.Ieee.{Float}
+use Rattle.loops.specs.Within.{Within}
+use Rattle.basis.specs.declared.OptionDegree.{OptionDegree}
+use Rattle.basis.specs.declared.OptionDegree.the-variants.{Some, None}
 use Rattle.monomial.specs.Samples.{Sample}
 use Rattle.monomial.specs.Rows.{rowsOf}
 use Rattle.solve.specs.Solve.{solve}
 use Rattle.fit.specs.Solved.{isSolved}
+use Rattle.book.specs.Calls.{settle}
+use Rattle.measure.specs.Written.{over, zeros, over-within}
+use Rattle.query.specs.declared.FitAnswer.{FitAnswer}
 use Rattle.query.specs.declared.FitAnswer.the-variants as answers
-use Rattle.query.specs.Fits.{FitIs, cleared, fitPast, fitOn}
-use Rattle.query.specs.Refusals.{fitRefusal}
+use Rattle.query.specs.Fits.{FitOut, FitIs, fitRefused, fitPast, validatePast, past-scratch}
 
-module _ (n degree : ℕ) (samples : List Sample) (sums : List Float) (columns : List ℕ) (places : ℕ) (s c : List Float) where
-  pub fit-refused : (r : ℕ) → r ≡ fitRefusal n degree samples columns places (length s) (length c) → (r ≡ 0 → ⊥)
-      → FitIs (fitOn n degree samples sums columns places s c) (answers.Refused r) s c
-  unfolding fitOn
-  fit-refused zero e h = absurd (h refl)
-  fit-refused (suc k) e h = rw (← e) (record { answer = refl; scratch = refl; coefficients = refl })
+-- refused by r, one of 1 to 9
+pub refused-early : (r q : ℕ) (past : FitOut) (s c : List Float) → r ≡ q → (r ≡ 0 → ⊥) → FitIs (settle q past (fitRefused q)) (answers.Refused r) s s c c
+refused-early zero q past s c e h = absurd (h refl)
+refused-early (suc k) q past s c e h = rw (← e) (record { answer = refl; scratch = refl; coefficients = refl })
 
-  module _ (e : fitRefusal n degree samples columns places (length s) (length c) ≡ 0) (t : List Float) (et : t ≡ cleared n s) where
-    pub fit-unsolved : isSolved sums (rowsOf samples) (degree + 1) ≡ false → FitIs (fitOn n degree samples sums columns places s c) (answers.Refused 10) t c
-    unfolding fitOn fitPast
-    fit-unsolved h = rw (e, h) (record { answer = refl; scratch = et; coefficients = refl })
+-- let through by 1 to 9
+pub let-through : (q : ℕ) (past : FitOut) (r : FitAnswer) (s s′ c c′ : List Float) → q ≡ 0 → FitIs past r s s′ c c′ → FitIs (settle q past (fitRefused q)) r s s′ c c′
+let-through q past r s s′ c c′ e f = rw e f
 
-    pub fit-solved : isSolved sums (rowsOf samples) (degree + 1) ≡ true → (d : List Float) → d ≡ solve sums (degree + 1) .c ++ drop 16 c
-        → FitIs (fitOn n degree samples sums columns places s c) (answers.Fit (record { 0 = degree })) t d
-    unfolding fitOn fitPast
-    fit-solved h d ed = rw (e, h) (record { answer = refl; scratch = et; coefficients = ed })
+module _ (n degree : ℕ) (samples : List Sample) (sums s s′ c : List Float) (es : s′ ≡ over (zeros n) s) where
+  pub fit-unsolved : isSolved sums (rowsOf samples) (degree + 1) ≡ false → FitIs (fitPast n degree samples sums) (answers.Refused 10) s s′ c c
+  unfolding fitPast
+  fit-unsolved h = rw h (record { answer = refl; scratch = es; coefficients = refl })
+
+  pub fit-solved : isSolved sums (rowsOf samples) (degree + 1) ≡ true → (c′ : List Float) → c′ ≡ over (solve sums (degree + 1) .c) c
+      → FitIs (fitPast n degree samples sums) (answers.Fit (record { 0 = degree })) s s′ c c′
+  unfolding fitPast
+  fit-solved h c′ ec = rw h (record { answer = refl; scratch = es; coefficients = ec })
+
+-- validation: none is chosen, or the single fit at the chosen degree, from scratch that the folds have used
+module _ (n : ℕ) (o : OptionDegree) (samples : List Sample) (sums s c : List Float) where
+  pub none-validated : o ≡ None → (s′ : List Float) → s′ ≡ over (zeros n) s → FitIs (validatePast n o samples sums) (answers.Refused 11) s s′ c c
+  unfolding validatePast
+  none-validated h s′ es = rw h (record { answer = refl; scratch = es; coefficients = refl })
+
+  pub one-validated : (d : ℕ) → o ≡ Some (record { 0 = d }) → (r : FitAnswer) (u s′ c′ : List Float) → Within n s u
+      → FitIs (fitPast n d samples sums) r u s′ c c′ → FitIs (validatePast n o samples sums) r s s′ c c′
+  unfolding validatePast
+  one-validated d h r u s′ c′ w f =
+      rw h (record {
+        answer = f .answer;
+        scratch = f .scratch ∙ ap (λ z. over z u) (past-scratch n d samples sums) ∙ over-within n s u w ∙ ap (λ z. over z s) (sym (past-scratch n d samples sums));
+        coefficients = f .coefficients;
+      })

@@ -1,21 +1,27 @@
--- Document 01's single fit: what it answers and writes, from samples, sums and lengths. Assumes nothing.
-use mathlib.Core.Path.{_≡_}
-use mathlib.Core.Bool.{cond}
-use mathlib.Core.List.{List, [], _∷_, _++_}
+-- Document 01's single fit and validation: what they answer and write, from samples, sums and lengths. Assumes nothing.
+use mathlib.Core.Path.{_≡_, refl}
+use mathlib.Core.Bool.{Bool, true, false, cond}
+use mathlib.Core.List.{List, [], _∷_}
 use Prim.Native.Nat.{ℕ, _+_}
-use lib.ListN.{length, take, drop, replicate}
+use lib.ListN.{length, take}
 use lib.Ieee.{Float}
-use Rattle.value.specs.Numbers.{zeroF}
+use Rattle.basis.specs.declared.OptionDegree.{OptionDegree}
+use Rattle.basis.specs.declared.OptionDegree.the-variants.{Some, None}
+use Rattle.statistics.specs.Degrees.{maxDegree}
+use Rattle.statistics.specs.declared.DegreeBound.{DegreeBound}
 use Rattle.monomial.specs.Samples.{Sample, samplesOf}
 use Rattle.monomial.specs.Rows.{rowsOf}
 use Rattle.solve.specs.Solve.{solve}
+use Rattle.score.specs.declared.Criterion.{Criterion}
 use Rattle.fit.specs.Solved.{isSolved}
+use Rattle.folds.specs.Folds.{validatedChoice}
 use Rattle.book.specs.Calls.{settle}
+use Rattle.measure.specs.Written.{over, zeros}
 use Rattle.query.specs.declared.FitAnswer.{FitAnswer}
 use Rattle.query.specs.declared.FitAnswer.the-variants as answers
-use Rattle.query.specs.Refusals.{fitRefusal}
+use Rattle.query.specs.Refusals.{fitRefusal, validateRefusal}
 
--- the answer, and the lent memory afterwards
+-- the answer, and the values written to scratch and to the coefficients
 pub record FitOut : Type 0 where
   pub answer : FitAnswer
   pub scratch : List Float
@@ -26,32 +32,56 @@ abbrev pub fitNumber : FitAnswer → ℕ
 fitNumber (answers.Fit d) = 0
 fitNumber (answers.Refused k) = k
 
--- Scratch: its first n places end as +0.
-abbrev pub cleared : ℕ → List Float → List Float
-cleared n scratch = replicate n zeroF ++ drop n scratch
+-- refused by r, one of 1 to 9: nothing is written
+abbrev pub fitRefused : ℕ → FitOut
+fitRefused r = record { answer = answers.Refused r; scratch = []; coefficients = [] }
 
 -- past refusals 1 to 9: 10 if the asked degree is unsolved, else the degree and its 16 coefficients, +0 from k on
-unfoldable pub fitPast : ℕ → ℕ → List Sample → List Float → List Float → List Float → FitOut
-fitPast n degree samples sums scratch coefficients =
+unfoldable pub fitPast : ℕ → ℕ → List Sample → List Float → FitOut
+fitPast n degree samples sums =
     cond (isSolved sums (rowsOf samples) (degree + 1))
-    (record { answer = answers.Fit (record { 0 = degree }); scratch = cleared n scratch; coefficients = solve sums (degree + 1) .c ++ drop 16 coefficients })
-    (record { answer = answers.Refused 10; scratch = cleared n scratch; coefficients = coefficients })
+    (record { answer = answers.Fit (record { 0 = degree }); scratch = zeros n; coefficients = solve sums (degree + 1) .c })
+    (record { answer = answers.Refused 10; scratch = zeros n; coefficients = [] })
 
--- a fit of a book of n samples with these sums: what the ledger says
-unfoldable pub fitOn : ℕ → ℕ → List Sample → List Float → List ℕ → ℕ → List Float → List Float → FitOut
+-- a fit of a book of n samples with these sums, columns, sums, scratch and coefficients of these lengths
+unfoldable pub fitOn : ℕ → ℕ → List Sample → List Float → List ℕ → ℕ → ℕ → ℕ → FitOut
 fitOn n degree samples sums columns places scratch coefficients =
-    let r = fitRefusal n degree samples columns places (length scratch) (length coefficients) in
-    settle r
-    (fitPast n degree samples sums scratch coefficients)
-    (record { answer = answers.Refused r; scratch = scratch; coefficients = coefficients })
+    let r = fitRefusal n degree samples columns places scratch coefficients in
+    settle r (fitPast n degree samples sums) (fitRefused r)
 
--- the same on what stands in memory: what the call does
-abbrev pub fitOut : ℕ → ℕ → List Float → List Float → List Float → List Float → List Float → FitOut
-fitOut n degree xs ys sums scratch coefficients =
-    fitOn n degree (samplesOf n xs ys) (take 272 sums) (length xs ∷ length ys ∷ []) (length sums) scratch coefficients
+-- Validation, past 1 to 9: 11 if no degree is chosen; else its answer is the single fit at the chosen degree.
+unfoldable pub validatePast : ℕ → OptionDegree → List Sample → List Float → FitOut
+validatePast n None samples sums = record { answer = answers.Refused 11; scratch = zeros n; coefficients = [] }
+validatePast n (Some d) samples sums = fitPast n (d .0) samples sums
 
--- the promise: the answer and every lent list are the definition's
-pub record FitIs (o : FitOut) (r : FitAnswer) (s c : List Float) : Type 0 where
+unfoldable pub validateOn : ℕ → ℕ → DegreeBound → Criterion → List Sample → List Float → List ℕ → ℕ → ℕ → ℕ → FitOut
+validateOn n folds bound criterion samples sums columns places scratch coefficients =
+    let r = validateRefusal n folds bound samples columns places scratch coefficients in
+    settle r (validatePast n (validatedChoice criterion (rowsOf samples) folds (maxDegree bound n)) samples sums) (fitRefused r)
+
+-- the same on what stands in memory: what the calls do
+module _ (n : ℕ) (xs ys sums scratch coefficients : List Float) where
+  abbrev pub fitOut : ℕ → FitOut
+  fitOut degree =
+      fitOn n degree (samplesOf n xs ys) (take 272 sums) (length xs ∷ length ys ∷ []) (length sums) (length scratch) (length coefficients)
+
+  abbrev pub validateOut : ℕ → DegreeBound → Criterion → FitOut
+  validateOut folds bound criterion =
+      validateOn n folds bound criterion (samplesOf n xs ys) (take 272 sums) (length xs ∷ length ys ∷ []) (length sums) (length scratch) (length coefficients)
+
+-- the promise: the answer is the definition's, and so are scratch and the coefficients, s and c before and s′ and c′ after
+pub record FitIs (o : FitOut) (r : FitAnswer) (s s′ c c′ : List Float) : Type 0 where
   pub answer : r ≡ o .answer
-  pub scratch : s ≡ o .scratch
-  pub coefficients : c ≡ o .coefficients
+  pub scratch : s′ ≡ over (o .scratch) s
+  pub coefficients : c′ ≡ over (o .coefficients) c
+
+-- ---- laws
+
+-- Every fit or validation that passes refusals 1 to 9 leaves scratch's first n places +0.
+pub past-scratch : (n degree : ℕ) (samples : List Sample) (sums : List Float) → fitPast n degree samples sums .scratch ≡ zeros n
+unfolding fitPast
+past-scratch n degree samples sums = go (isSolved sums (rowsOf samples) (degree + 1)) refl
+  where
+    go : (t : Bool) → isSolved sums (rowsOf samples) (degree + 1) ≡ t → fitPast n degree samples sums .scratch ≡ zeros n
+    go true h = rw h
+    go false h = rw h

@@ -1,16 +1,56 @@
-// The calls that read a book. Each is promised, for every count, length and content, to answer and to leave what document 01 says.
+// The calls that read a book, but for the report. Each is promised, for every count, length and content, to answer and to leave what document 01
+// says.
 mod refusals;
-mod write;
 
 use basis::CoefficientCount;
 use basis::Degree;
+use basis::OptionDegree;
 use book::Book;
-ghost use Rattle.query.specs.Fits.{FitIs, fitOut};
+use covariance::Band;
+use score::Criterion;
+use statistics::Confidence;
+use statistics::DegreeBound;
+use statistics::Tolerance;
+ghost use Prim.Native.Nat.{_≤_};
+ghost use lib.ListN.{length, take};
+ghost use Rattle.monomial.specs.Samples.{samplesOf};
+ghost use Rattle.query.specs.Fits.{FitIs, fitPast, fitOut, validateOut};
+ghost use Rattle.query.specs.Bands.{BandIs, bandOut};
 
 // What a fit or a validation answers: the degree, or the number of a refusal.
 pub enum FitAnswer {
     Fit(Degree),
     Refused(u8),
+}
+
+// What a band answers: value, lower and upper, or the number of a refusal.
+pub enum BandAnswer {
+    Band(Band),
+    Refused(u8),
+}
+
+// Past refusals 1 to 9: solves the degree, and writes its coefficients unless it is unsolved.
+fn solve_at(
+    n: usize,
+    degree: Degree,
+    xs: &[f64],
+    ys: &[f64],
+    sums: &[f64],
+    scratch: &mut [f64],
+    coefficients: &mut [f64],
+) -> FitAnswer
+    requires { ⌜ (n ≤ length (now xs)) × (n ≤ length (now ys)) × (n ≤ length (now scratch)) × (272 ≤ length (now sums)) × (16 ≤ length (now coefficients)) × (degree .0 ≤ 15) ⌝ }
+    ensures { λ r. ⌜ FitIs (fitPast n (degree .0) (samplesOf n (now (xs .entry)) (now (ys .entry))) (take 272 (now (sums .entry)))) r (now (scratch .entry)) (now (scratch .exit)) (now (coefficients .entry)) (now (coefficients .exit)) ⌝ }
+{
+    let k = CoefficientCount(degree.0 + 1);
+    let s = fit::attempt(xs, ys, n, &sums[..272], k, &mut *scratch);
+    measure::clear(&mut *scratch, n);
+    if !s.solved {
+        return FitAnswer::Refused(10);
+    }
+    let c = s.c;
+    covariance::put_terms(c, coefficients);
+    FitAnswer::Fit(degree)
 }
 
 // The fit of the asked degree: its 16 coefficients are written, +0 from k on.
@@ -23,10 +63,9 @@ pub fn fit(
     scratch: &mut [f64],
     coefficients: &mut [f64],
 ) -> FitAnswer
-    ensures { λ r. ⌜ FitIs (fitOut (book .count) (degree .0) (now (xs .entry)) (now (ys .entry)) (now (sums .entry)) (now (scratch .entry)) (now (coefficients .entry))) r (now (scratch .exit)) (now (coefficients .exit)) ⌝ }
+    ensures { λ r. ⌜ FitIs (fitOut (book .count) (now (xs .entry)) (now (ys .entry)) (now (sums .entry)) (now (scratch .entry)) (now (coefficients .entry)) (degree .0)) r (now (scratch .entry)) (now (scratch .exit)) (now (coefficients .entry)) (now (coefficients .exit)) ⌝ }
 {
     let n = book.count;
-    let d = degree.0;
     let refusal = refusals::fit_refusal(
         n,
         degree,
@@ -39,13 +78,84 @@ pub fn fit(
     if refusal != 0 {
         return FitAnswer::Refused(refusal);
     }
-    let k = CoefficientCount(d + 1);
-    let s = fit::attempt(xs, ys, n, &sums[..272], k, &mut *scratch);
-    write::clear(&mut *scratch, n);
-    if !s.solved {
-        return FitAnswer::Refused(10);
+    solve_at(n, degree, xs, ys, sums, scratch, coefficients)
+}
+
+// The fit of the degree that k-fold cross-validation chooses. The folds solve from the columns, the fit from the lent sums.
+pub fn validate(
+    book: Book,
+    folds: usize,
+    bound: DegreeBound,
+    criterion: Criterion,
+    xs: &[f64],
+    ys: &[f64],
+    sums: &[f64],
+    scratch: &mut [f64],
+    coefficients: &mut [f64],
+) -> FitAnswer
+    ensures { λ r. ⌜ FitIs (validateOut (book .count) (now (xs .entry)) (now (ys .entry)) (now (sums .entry)) (now (scratch .entry)) (now (coefficients .entry)) folds bound criterion) r (now (scratch .entry)) (now (scratch .exit)) (now (coefficients .entry)) (now (coefficients .exit)) ⌝ }
+{
+    let n = book.count;
+    let refusal = refusals::validate_refusal(
+        n,
+        folds,
+        bound,
+        xs,
+        ys,
+        sums.len(),
+        scratch.len(),
+        coefficients.len(),
+    );
+    if refusal != 0 {
+        return FitAnswer::Refused(refusal);
     }
-    let c = s.c;
-    covariance::put_terms(c, coefficients);
-    FitAnswer::Fit(degree)
+    let most = statistics::max_degree(bound, n);
+    let chosen = folds::choose_by_folds(xs, ys, n, folds, most, criterion, &mut *scratch);
+    let OptionDegree::Some(degree) = chosen else {
+        measure::clear(scratch, n);
+        return FitAnswer::Refused(11);
+    };
+    solve_at(n, degree, xs, ys, sums, scratch, coefficients)
+}
+
+// The band at x of the curve of the asked degree.
+pub fn band(
+    book: Book,
+    x: f64,
+    degree: Degree,
+    confidence: Confidence,
+    tolerance: Tolerance,
+    xs: &[f64],
+    ys: &[f64],
+    sums: &[f64],
+    scratch: &mut [f64],
+) -> BandAnswer
+    ensures { λ r. ⌜ BandIs (bandOut (book .count) x (degree .0) confidence tolerance (now (xs .entry)) (now (ys .entry)) (now (sums .entry)) (now (scratch .entry))) r (now (scratch .entry)) (now (scratch .exit)) ⌝ }
+{
+    let n = book.count;
+    let refusal = refusals::band_refusal(
+        n,
+        x,
+        degree,
+        confidence,
+        tolerance,
+        xs,
+        ys,
+        sums.len(),
+        scratch.len(),
+    );
+    if refusal != 0 {
+        return BandAnswer::Refused(refusal);
+    }
+    let k = CoefficientCount(degree.0 + 1);
+    let m = measure::measure(xs, ys, n, &sums[..272], k, &mut *scratch);
+    measure::clear(scratch, n);
+    if m.number != 0 {
+        return BandAnswer::Refused(m.number);
+    }
+    let c = m.c;
+    let v = m.covariance;
+    let z = statistics::z_score(confidence);
+    let spread = statistics::stddev_and_mean(ys, n);
+    BandAnswer::Band(covariance::band_at(k, &c, &v, tolerance, z, spread.stddev, x))
 }

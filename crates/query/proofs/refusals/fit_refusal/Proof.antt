@@ -6,9 +6,9 @@ use Prim.Native.Nat.{_-_}
 use borrow.Author.Needs.{needs}
 use lib.ListN.{length}
 use lib.Dec.{ltb, eqb}
-use Rattle.book.specs.Refusals.{tooShort, first-of, first-end, long-enough, or-false}
-use Rattle.query.specs.Refusals.{fitRefusal}
-use Rattle.query.proofs.Short.{short-first, rest-first}
+use Rattle.book.specs.Refusals.{first-of, first-end, or-false}
+use Rattle.measure.specs.Given.{short-first, rest-first}
+use Rattle.query.specs.Refusals.{noScratch, fitRefusal, lengths}
 use Rattle.query.proofs.refusals.fit_refusal.Statement.{statement}
 use Rattle.query.proofs.refusals.fit_refusal.Tie as tie
 
@@ -16,26 +16,25 @@ returns : tie.Need-returns
 unfolding fitRefusal
 returns c =
     let at-args = c .before .before .before .before .args in
-    let more = ltb (at-args .scratch) (at-args .n) || ltb (at-args .coefficients) 16 in
-    short-first (tooShort (at-args .n) (length (at-args .xs .now) ∷ length (at-args .ys .now) ∷ []) (at-args .sums) || more) (c .before .too-short .result || more) 1 _ (ap (λ (t : Bool). t || more) (c .before .too-short .ensures)) (c .if1 .taken)
+    let more = ltb (at-args .coefficients) 16 in
+    short-first (noScratch (at-args .n) (length (at-args .xs .now) ∷ length (at-args .ys .now) ∷ []) (at-args .sums) (at-args .scratch) || more) (c .before .no-scratch .result || more) 1 _ (ap (λ (t : Bool). t || more) (c .before .no-scratch .ensures)) (c .if1 .taken)
 
 samples-finite-requires : tie.Need-samples-finite-requires
 samples-finite-requires c κs =
     let at-args = c .before .before .before .before .args in
-    let h = or-false _ _ (c .if1 .left) .0 in
-    let r = long-enough (at-args .n) (length (at-args .xs .now)) (length (at-args .ys .now)) (at-args .sums) (sym (c .before .too-short .ensures) ∙ h) in
-    (r .xs, r .ys)
+    let r = lengths (at-args .n) (length (at-args .xs .now)) (length (at-args .ys .now)) (at-args .sums) (at-args .scratch) (sym (c .before .no-scratch .ensures) ∙ or-false _ _ (c .if1 .left) .0) in
+    (r .room .xs, r .room .ys)
 
 returns-2 : tie.Need-returns-2
 unfolding fitRefusal
 returns-2 c =
     let at-args = c .before .before .before .before .before .before .before .before .before .args in
-    let at-too-short = c .before .before .before .before .before .before .too-short in
+    let at-no-scratch = c .before .before .before .before .before .before .no-scratch in
     let at-if1 = c .before .before .before .before .before .if1 in
     let at-samples-finite = c .before .before .before .before .samples-finite in
     let at-degree-too-high = c .before .before .before .degree-too-high in
-    let more = ltb (at-args .scratch) (at-args .n) || ltb (at-args .coefficients) 16 in
-    rest-first (tooShort (at-args .n) (length (at-args .xs .now) ∷ length (at-args .ys .now) ∷ []) (at-args .sums) || more) (at-too-short .result || more) 1 _ _ (ap (λ (t : Bool). t || more) (at-too-short .ensures)) (at-if1 .left)
+    let more = ltb (at-args .coefficients) 16 in
+    rest-first (noScratch (at-args .n) (length (at-args .xs .now) ∷ length (at-args .ys .now) ∷ []) (at-args .sums) (at-args .scratch) || more) (at-no-scratch .result || more) 1 _ _ (ap (λ (t : Bool). t || more) (at-no-scratch .ensures)) (at-if1 .left)
     (first-of 4 _ (ap not (at-samples-finite .ensures)) (first-of 7 _ {t = eqb (at-args .n) 0} refl (first-of 8 _ (at-degree-too-high .ensures) first-end (c .before .before .first .ensures)) (c .before .first2 .ensures)) (c .first3 .ensures))
 
 pub fit-refusal-spec : {M : Type 1} → statement M

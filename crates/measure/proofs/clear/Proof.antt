@@ -1,4 +1,4 @@
--- `query::write::clear` meets its contract. Assumes nothing.
+-- `measure::clear` meets its contract. Assumes nothing.
 use mathlib.Core.Path.{_≡_, refl, _∙_}
 use Prim.Native.Nat.{_-_, _≤_}
 use native.Mathlib.Omega.{arith}
@@ -7,8 +7,8 @@ use lib.ListN.{length, length-set}
 use lib.Ieee.{nan}
 use Rattle.loops.specs.Places.{each, each-again, each-fill}
 use Rattle.value.specs.Numbers.{zeroF}
-use Rattle.query.proofs.write.clear.Statement.{statement}
-use Rattle.query.proofs.write.clear.Tie as tie
+use Rattle.measure.proofs.clear.Statement.{statement}
+use Rattle.measure.proofs.clear.Tie as tie
 
 abbrev Inv-loop : tie.InvT-loop
 Inv-loop s₀ n i₀ s i = (i ≤ n) × (length s ≡ length s₀) × (s ≡ each (λ _ _. zeroF) i s₀)

@@ -1,0 +1,40 @@
+-- Refusal 4 of the settings that a call is given, and laws of a list of tests. Assumes nothing.
+use mathlib.Core.Path.{_≡_}
+use mathlib.Core.Bool.{Bool, true, false}
+use mathlib.Core.List.{List, _∷_}
+use Prim.Native.Nat.{ℕ}
+use Rattle.value.specs.Finite.{finite}
+use Rattle.statistics.specs.declared.Confidence.{Confidence}
+use Rattle.statistics.specs.declared.Confidence.the-variants as confidence
+use Rattle.statistics.specs.declared.Tolerance.{Tolerance}
+use Rattle.statistics.specs.declared.Tolerance.the-variants as tolerance
+use Rattle.book.specs.Refusals.{Refusal, by, firstOf}
+
+-- a given Custom score is finite
+abbrev pub scoreFinite : Confidence → Bool
+scoreFinite confidence.P80 = true
+scoreFinite confidence.P90 = true
+scoreFinite confidence.P95 = true
+scoreFinite confidence.P98 = true
+scoreFinite confidence.P99 = true
+scoreFinite confidence.P999 = true
+scoreFinite (confidence.Custom z) = finite z
+
+-- a given tolerance is finite
+abbrev pub toleranceFinite : Tolerance → Bool
+toleranceFinite tolerance.None = true
+toleranceFinite (tolerance.Absolute a) = finite a
+toleranceFinite (tolerance.Variance p) = finite p
+toleranceFinite (tolerance.Measurement p) = finite p
+
+-- ---- laws
+
+-- the first test holds
+pub short-first : (t u : Bool) (k : ℕ) (rs : List Refusal) → u ≡ t → u ≡ true → k ≡ firstOf (by t k ∷ rs)
+unfolding firstOf
+short-first t u k rs e h = rw (← e, h)
+
+-- it does not, and the later ones decide
+pub rest-first : (t u : Bool) (k r : ℕ) (rs : List Refusal) → u ≡ t → u ≡ false → r ≡ firstOf rs → r ≡ firstOf (by t k ∷ rs)
+unfolding firstOf
+rest-first t u k r rs e h q = rw (← e, h) q

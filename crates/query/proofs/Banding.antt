@@ -1,0 +1,50 @@
+-- What a band comes to: refused by 1 to 9, by 10 or 12, or made. Assumes nothing.
+use mathlib.Core.Path.{_≡_, refl}
+use mathlib.Core.List.{List}
+use Prim.Native.Nat.{ℕ, zero, suc, _+_}
+use lib.Ieee.{Float}
+use Rattle.loops.specs.Places.{table}
+use Rattle.value.specs.Power.{powerF}
+use Rattle.statistics.specs.Scores.{zScore}
+use Rattle.statistics.specs.Variances.{stddevAndMean}
+use Rattle.statistics.specs.declared.Confidence.{Confidence}
+use Rattle.statistics.specs.declared.StddevAndMean.{StddevAndMean}
+use Rattle.statistics.specs.declared.Tolerance.{Tolerance}
+use Rattle.monomial.specs.Samples.{Sample}
+use Rattle.monomial.specs.Rows.{rowsOf}
+use Rattle.solve.specs.Solve.{solve}
+use Rattle.covariance.specs.Bands.{bandAt}
+use Rattle.covariance.specs.declared.Band.{Band}
+use Rattle.book.specs.Calls.{settle}
+use Rattle.book.specs.Many.{ysOf}
+use Rattle.measure.specs.Measures.{measureRefusal, covarianceAt}
+use Rattle.measure.specs.Written.{over, zeros}
+use Rattle.query.specs.declared.BandAnswer.{BandAnswer}
+use Rattle.query.specs.declared.BandAnswer.the-variants as answers
+use Rattle.query.specs.Bands.{BandOut, BandIs, bandRefused, bandOn, bandPast}
+
+-- refused by r, one of 1 to 9
+pub band-early : (r q : ℕ) (past : BandOut) (s : List Float) → r ≡ q → (r ≡ 0 → ⊥) → BandIs (settle q past (bandRefused q)) (answers.Refused r) s s
+band-early zero q past s e h = absurd (h refl)
+band-early (suc k) q past s e h = rw (← e) (record { answer = refl; scratch = refl })
+
+-- let through by 1 to 9
+pub band-through : (q : ℕ) (past : BandOut) (r : BandAnswer) (s s′ : List Float) → q ≡ 0 → BandIs past r s s′ → BandIs (settle q past (bandRefused q)) r s s′
+band-through q past r s s′ e f = rw e f
+
+module _ (n : ℕ) (x : Float) (degree : ℕ) (confidence : Confidence) (tolerance : Tolerance) (samples : List Sample) (sums s s′ : List Float)
+    (es : s′ ≡ over (zeros n) s) where
+  -- by 10 or 12
+  pub band-late : (r : ℕ) → r ≡ measureRefusal sums (rowsOf samples) (degree + 1) → (r ≡ 0 → ⊥)
+      → BandIs (bandPast n x degree confidence tolerance samples sums) (answers.Refused r) s s′
+  unfolding bandPast
+  band-late zero e h = absurd (h refl)
+  band-late (suc k) e h = rw (← e) (record { answer = refl; scratch = es })
+
+  -- from coefficients c, their covariance v, the z score and the spread of all y's
+  pub band-made : 0 ≡ measureRefusal sums (rowsOf samples) (degree + 1) → (c v : List Float) (z : Float) (w : StddevAndMean) (b : Band)
+      → c ≡ solve sums (degree + 1) .c → v ≡ covarianceAt sums (rowsOf samples) (degree + 1) → z ≡ zScore confidence → w ≡ stddevAndMean (ysOf samples)
+      → b ≡ bandAt (degree + 1) c v tolerance z (w .stddev) (table (powerF x) 16)
+      → BandIs (bandPast n x degree confidence tolerance samples sums) (answers.Band b) s s′
+  unfolding bandPast bandOn
+  band-made e c v z w b ec ev ez ew eb = rw (← e, eb, ec, ev, ez, ew) (record { answer = refl; scratch = es })

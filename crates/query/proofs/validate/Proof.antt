@@ -1,0 +1,96 @@
+-- `query::validate` meets its contract. Assumes nothing.
+use mathlib.Core.Path.{sym, ap, _∙_}
+use Prim.Native.Nat.{_+_, _-_}
+use native.Mathlib.Omega.{arith}
+use borrow.Author.Needs.{needs}
+use lib.ListN.{length}
+use Rattle.monomial.specs.Samples.{samplesOf}
+use Rattle.monomial.specs.Rows.{rowsOf}
+use Rattle.choice.specs.Laws.{chosen}
+use Rattle.folds.specs.Folds.{validated, validatedChoice}
+use Rattle.query.specs.Refusals.{validate-room}
+use Rattle.measure.specs.Written.{over-cleared}
+use Rattle.query.specs.Fits.{validateOn}
+use Rattle.query.proofs.Fitting.{refused-early, let-through, none-validated, one-validated}
+use Rattle.query.proofs.validate.Statement.{statement}
+use Rattle.query.proofs.validate.Tie as tie
+
+returns : tie.Need-returns
+unfolding validateOn
+returns c =
+    let at-args = c .before .before .before .before .before .before .before .args in
+    refused-early _ _ _ (at-args .scratch .now) (at-args .coefficients .now) (c .before .validate-refusal .ensures) (c .if1 .taken)
+
+choose-by-folds-requires : tie.Need-choose-by-folds-requires
+choose-by-folds-requires c κs =
+    let at-args = c .before .before .before .before .before .before .before .before .before .args in
+    let at-validate-refusal = c .before .before .before .validate-refusal in
+    let w = validate-room (at-args .book .count) (at-args .folds) (at-args .bound) _ (length (at-args .xs .now)) (length (at-args .ys .now)) (length (at-args .sums .now)) (length (at-args .scratch .now)) (length (at-args .coefficients .now)) (sym (at-validate-refusal .ensures) ∙ c .before .before .if1 .left) in
+    (w .lengths .room .xs, w .lengths .room .ys, w .lengths .scratch, omega (arith, w .most, c .before .max-degree .ensures))
+
+clear-requires : tie.Need-clear-requires
+clear-requires c κs =
+    let at-args = c .before .before .before .before .before .before .before .before .before .before .before .before .before .before .before .args in
+    let at-validate-refusal = c .before .before .before .before .before .before .before .before .before .validate-refusal in
+    let at-if1 = c .before .before .before .before .before .before .before .before .if1 in
+    let at-choose-by-folds = c .before .before .before .before .before .choose-by-folds in
+    let w = validate-room (at-args .book .count) (at-args .folds) (at-args .bound) _ (length (at-args .xs .now)) (length (at-args .ys .now)) (length (at-args .sums .now)) (length (at-args .scratch .now)) (length (at-args .coefficients .now)) (sym (at-validate-refusal .ensures) ∙ at-if1 .left) in
+    omega (arith, w .lengths .scratch, at-choose-by-folds .ensures .1 .long)
+
+returns-2 : tie.Need-returns-2
+unfolding validateOn
+returns-2 c =
+    let at-args = c .before .before .before .before .before .before .before .before .before .before .before .before .before .before .before .before .before .before .args in
+    let at-max-degree = c .before .before .before .before .before .before .before .before .before .before .max-degree in
+    let at-validate-refusal = c .before .before .before .before .before .before .before .before .before .before .before .before .validate-refusal in
+    let at-if1 = c .before .before .before .before .before .before .before .before .before .before .before .if1 in
+    let at-choose-by-folds = c .before .before .before .before .before .before .before .before .choose-by-folds in
+    let at-enum-told = c .before .before .before .before .enum-told in
+    let same = ap (λ b. validatedChoice (at-args .criterion) (rowsOf (samplesOf (at-args .book .count) (at-args .xs .now) (at-args .ys .now))) (at-args .folds) b) (at-max-degree .ensures) in
+    let-through _ _ _ _ _ _ _ (sym (at-validate-refusal .ensures) ∙ at-if1 .left)
+    (none-validated _ _ _ _ _ _ (sym same ∙ sym (at-choose-by-folds .ensures .0) ∙ at-enum-told .given .1) _ (over-cleared _ _ _ _ (at-choose-by-folds .ensures .1) (c .before .before .clear .ensures)))
+
+solve-at-requires : tie.Need-solve-at-requires
+unfolding validatedChoice
+solve-at-requires c κs =
+    let at-args = c .before .before .before .before .before .before .before .before .before .before .before .before .before .before .before .before .before .args in
+    let at-validate-refusal = c .before .before .before .before .before .before .before .before .before .before .before .validate-refusal in
+    let at-if1 = c .before .before .before .before .before .before .before .before .before .before .if1 in
+    let at-max-degree = c .before .before .before .before .before .before .before .before .before .max-degree in
+    let at-choose-by-folds = c .before .before .before .before .before .before .before .choose-by-folds in
+    let at-chosen = c .before .before .before .chosen in
+    let w = validate-room (at-args .book .count) (at-args .folds) (at-args .bound) _ (length (at-args .xs .now)) (length (at-args .ys .now)) (length (at-args .sums .now)) (length (at-args .scratch .now)) (length (at-args .coefficients .now)) (sym (at-validate-refusal .ensures) ∙ at-if1 .left) in
+    let d = chosen (λ d. validated (at-args .criterion) (rowsOf (samplesOf (at-args .book .count) (at-args .xs .now) (at-args .ys .now))) (at-args .folds) (d + 1)) (at-max-degree .result .0 + 1) _ (sym (at-choose-by-folds .ensures .0) ∙ at-chosen .given .1) in
+    (w .lengths .room .xs, w .lengths .room .ys, omega (arith, w .lengths .scratch, at-choose-by-folds .ensures .1 .long), w .lengths .room .sums, w .coefficients, omega (arith, w .most, at-max-degree .ensures, d .within))
+
+returns-3 : tie.Need-returns-3
+unfolding validateOn
+returns-3 c =
+    let at-args = c .before .before .before .before .before .before .before .before .before .before .before .before .before .before .before .before .before .before .before .before .before .before .args in
+    let at-max-degree = c .before .before .before .before .before .before .before .before .before .before .before .before .before .before .max-degree in
+    let at-validate-refusal = c .before .before .before .before .before .before .before .before .before .before .before .before .before .before .before .before .validate-refusal in
+    let at-if1 = c .before .before .before .before .before .before .before .before .before .before .before .before .before .before .before .if1 in
+    let at-choose-by-folds = c .before .before .before .before .before .before .before .before .before .before .before .before .choose-by-folds in
+    let at-chosen = c .before .before .before .before .before .before .before .before .chosen in
+    let at-solve-at = c .before .before .before .before .solve-at in
+    let same = ap (λ b. validatedChoice (at-args .criterion) (rowsOf (samplesOf (at-args .book .count) (at-args .xs .now) (at-args .ys .now))) (at-args .folds) b) (at-max-degree .ensures) in
+    let-through _ _ _ _ _ _ _ (sym (at-validate-refusal .ensures) ∙ at-if1 .left)
+    (one-validated _ _ _ _ _ _ _ (sym same ∙ sym (at-choose-by-folds .ensures .0) ∙ at-chosen .given .1) _ _ _ _ (at-choose-by-folds .ensures .1) (at-solve-at .ensures))
+
+pub validate-spec : {M : Type 1} → statement M
+validate-spec =
+    tie.close
+    (tie.spec
+    (λ c κs. search needs)
+    returns
+    (λ c κs. search needs)
+    choose-by-folds-requires
+    (λ c. search needs)
+    (λ c. search needs)
+    clear-requires
+    (λ c. search needs)
+    returns-2
+    solve-at-requires
+    (λ c. search needs)
+    (λ c. search needs)
+    returns-3)

@@ -1,0 +1,66 @@
+-- Document 01's band for one x and degree: what it answers and writes, from samples, sums and lengths. Definitions only.
+use mathlib.Core.Path.{_≡_}
+use mathlib.Core.List.{List, [], _∷_}
+use Prim.Native.Nat.{ℕ, _+_}
+use lib.ListN.{length, take}
+use lib.Ieee.{Float}
+use Rattle.loops.specs.Places.{table}
+use Rattle.value.specs.Power.{powerF}
+use Rattle.statistics.specs.Scores.{zScore}
+use Rattle.statistics.specs.Variances.{stddevAndMean}
+use Rattle.statistics.specs.declared.Confidence.{Confidence}
+use Rattle.statistics.specs.declared.Tolerance.{Tolerance}
+use Rattle.monomial.specs.Samples.{Sample, samplesOf}
+use Rattle.monomial.specs.Rows.{rowsOf}
+use Rattle.solve.specs.Solve.{solve}
+use Rattle.covariance.specs.Bands.{bandAt}
+use Rattle.covariance.specs.declared.Band.{Band}
+use Rattle.book.specs.Calls.{settle}
+use Rattle.book.specs.Many.{ysOf}
+use Rattle.measure.specs.Measures.{measureRefusal, covarianceAt}
+use Rattle.measure.specs.Written.{over, zeros}
+use Rattle.query.specs.declared.BandAnswer.{BandAnswer}
+use Rattle.query.specs.declared.BandAnswer.the-variants as answers
+use Rattle.query.specs.Refusals.{bandRefusal}
+
+-- the answer, and the values written to scratch
+pub record BandOut : Type 0 where
+  pub answer : BandAnswer
+  pub scratch : List Float
+
+-- document 01's number of an answer: 0 where it is a band
+abbrev pub bandNumber : BandAnswer → ℕ
+bandNumber (answers.Band b) = 0
+bandNumber (answers.Refused k) = k
+
+-- refused by r, one of 1 to 9: nothing is written
+abbrev pub bandRefused : ℕ → BandOut
+bandRefused r = record { answer = answers.Refused r; scratch = [] }
+
+-- the band at x of the curve of this degree: z is the z score, sd that of all y's
+unfoldable pub bandOn : Float → ℕ → Confidence → Tolerance → List Sample → List Float → Band
+bandOn x degree confidence tolerance samples sums =
+    bandAt (degree + 1) (solve sums (degree + 1) .c) (covarianceAt sums (rowsOf samples) (degree + 1)) tolerance (zScore confidence)
+    (stddevAndMean (ysOf samples) .stddev) (table (powerF x) 16)
+
+-- past refusals 1 to 9: 10 if the asked degree is unsolved, 12 if an inverse pivot fails, else the band
+unfoldable pub bandPast : ℕ → Float → ℕ → Confidence → Tolerance → List Sample → List Float → BandOut
+bandPast n x degree confidence tolerance samples sums =
+    let r = measureRefusal sums (rowsOf samples) (degree + 1) in
+    record { answer = settle r (answers.Band (bandOn x degree confidence tolerance samples sums)) (answers.Refused r); scratch = zeros n }
+
+-- a band of a book of n samples with these sums, columns, sums and scratch of these lengths
+unfoldable pub bandFor : ℕ → Float → ℕ → Confidence → Tolerance → List Sample → List Float → List ℕ → ℕ → ℕ → BandOut
+bandFor n x degree confidence tolerance samples sums columns places scratch =
+    let r = bandRefusal n x degree confidence tolerance samples columns places scratch in
+    settle r (bandPast n x degree confidence tolerance samples sums) (bandRefused r)
+
+-- the same on what stands in memory: what the call does
+abbrev pub bandOut : ℕ → Float → ℕ → Confidence → Tolerance → List Float → List Float → List Float → List Float → BandOut
+bandOut n x degree confidence tolerance xs ys sums scratch =
+    bandFor n x degree confidence tolerance (samplesOf n xs ys) (take 272 sums) (length xs ∷ length ys ∷ []) (length sums) (length scratch)
+
+-- the promise: the answer is the definition's, and so is scratch, s before and s′ after
+pub record BandIs (o : BandOut) (r : BandAnswer) (s s′ : List Float) : Type 0 where
+  pub answer : r ≡ o .answer
+  pub scratch : s′ ≡ over (o .scratch) s
