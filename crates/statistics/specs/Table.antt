@@ -3,7 +3,7 @@
 -- the t table is proved (at the end), by a test that antt computes over the whole table. Assumes nothing.
 -- The table has a row of six for each number of degrees of freedom from 1 to 30; the columns are the confidences 0.8, 0.9, 0.95, 0.98, 0.99 and 0.999. polyfit
 -- prints three decimals, from the third entry of the first row on two: its 12.71 is 12710 here, and its 2.92 is 2920.
-use mathlib.Core.Path.{_≡_, sym, subst}
+use mathlib.Core.Path.{sym, subst}
 use mathlib.Core.Logic.{⊎-elim}
 use mathlib.Core.Bool.{Bool, true, _&&_}
 use mathlib.Core.List.{List, [], _∷_}

@@ -2,7 +2,7 @@
 -- that antt computes on the walks of `AreaWalks`, and the law that a test which passes shows what `Quantile` asks. Assumes nothing.
 use mathlib.Core.Path.{refl}
 use mathlib.Core.Bool.{Bool, _&&_}
-use mathlib.Core.List.{List, [], _∷_}
+use mathlib.Core.List.{List, []}
 use Prim.Native.Nat.{ℕ, zero, suc, _+_, _-_, _*_, _^_, _<_}
 use native.Mathlib.Nat.{add-zero, add-suc}
 use lib.Dec.{T, leb, ltb, leb→le, ltb→lt}

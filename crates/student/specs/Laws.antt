@@ -7,10 +7,9 @@ use native.Mathlib.Nat.{mul-le-mul, mul-le-mul-left, pow-suc, pow-zero, one-mul}
 use native.Mathlib.Omega.{arith}
 use Rattle.student.specs.Ratio.{Fraction, Consistent, exclusive}
 use Rattle.student.specs.Quantile.{TailBelow, TailAbove, Rounded}
-use Rattle.student.specs.Series.{product, numerator, AtMost, factors}
+use Rattle.student.specs.Series.{AtMost}
 use Rattle.student.specs.BySeries.{beyondSquare, wholeSquare, BeyondAtMost, BeyondAtLeast, WholeAtMost, WholeAtLeast, bySeries}
-use Rattle.student.specs.Normal.{insideSquare, InsideAtMost, InsideAtLeast, Cut}
-use Rattle.student.specs.Normal as Normal
+use Rattle.student.specs.Normal.{insideSquare, InsideAtMost, InsideAtLeast, HalfPiAtMost, HalfPiAtLeast, Cut}
 
 square : (x : ℕ) → x ^ 2 ≡ x * x
 square x = pow-suc x 1 ∙ ap (λ z. z * x) (pow-suc x 0 ∙ ap (λ z. z * x) (pow-zero x) ∙ one-mul x)
@@ -58,12 +57,12 @@ unfolding Consistent InsideAtLeast InsideAtMost AtMost insideSquare
 inside-consistent N a b (t, j, n, h, e) (s, i, m, k, g) =
     subst₂ (λ (x y : Fraction). x .0 * y .1 ≤ y .0 * x .1) (sym e) (sym g) (squares-over _ _ _ _ s i _ _ t j (k n) (h m))
 
-half-pi-consistent : Consistent Normal.WholeAtLeast Normal.WholeAtMost
-unfolding Consistent Normal.WholeAtLeast Normal.WholeAtMost AtMost
+half-pi-consistent : Consistent HalfPiAtLeast HalfPiAtMost
+unfolding Consistent HalfPiAtLeast HalfPiAtMost AtMost
 half-pi-consistent a b (n, e) h = subst (λ (x : Fraction). x .0 * b .1 ≤ b .0 * x .1) (sym e) (h n)
 
 -- N and N + 1 thousandths are not both the cut quantile
 pub one-cut : (k N : ℕ) → Cut k N → Cut k (N + 1) → ⊥
 unfolding Cut
 one-cut k N a b =
-    exclusive (InsideAtMost (N + 1)) (InsideAtLeast (N + 1)) Normal.WholeAtMost Normal.WholeAtLeast (k - 1) k (inside-consistent (N + 1)) half-pi-consistent (b .0) (a .1)
+    exclusive (InsideAtMost (N + 1)) (InsideAtLeast (N + 1)) HalfPiAtMost HalfPiAtLeast (k - 1) k (inside-consistent (N + 1)) half-pi-consistent (b .0) (a .1)

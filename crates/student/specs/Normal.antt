@@ -44,12 +44,12 @@ InsideAtLeast N p =
     × (p ≡ insideSquare N (numerator (zSquare N) insideFactors n) (product insideFactors n) t j)
 
 -- π/2 is [2, 3; 1/2]
-unfoldable pub WholeAtMost : Fraction → Type 0
-WholeAtMost p = AtMost (factors 2 1) (factors 3 2) (p .0) (p .1)
+unfoldable pub HalfPiAtMost : Fraction → Type 0
+HalfPiAtMost p = AtMost (factors 2 1) (factors 3 2) (p .0) (p .1)
 
-unfoldable pub WholeAtLeast : Fraction → Type 0
-WholeAtLeast p = (n : ℕ) × (p ≡ (numerator (factors 2 1) (factors 3 2) n, product (factors 3 2) n))
+unfoldable pub HalfPiAtLeast : Fraction → Type 0
+HalfPiAtLeast p = (n : ℕ) × (p ≡ (numerator (factors 2 1) (factors 3 2) n, product (factors 3 2) n))
 
 -- the quantile is above N thousandths and below N + 1
 unfoldable pub Cut : ℕ → ℕ → Type 0
-Cut k N = RatioBelow (InsideAtMost N) WholeAtLeast (k - 1) k × RatioAbove (InsideAtLeast (N + 1)) WholeAtMost (k - 1) k
+Cut k N = RatioBelow (InsideAtMost N) HalfPiAtLeast (k - 1) k × RatioAbove (InsideAtLeast (N + 1)) HalfPiAtMost (k - 1) k

@@ -8,10 +8,10 @@ use lib.Dec.{T, leb, leb→le}
 use lib.ListN.{getD}
 use lib.Ieee.Fits.{and-l, and-r}
 use Rattle.statistics.specs.Table.{zThousandths, allBelow, all-below}
-use Rattle.student.specs.Ratio.{Fraction, RatioBelow, RatioAbove, below, above, below-holds, above-holds}
+use Rattle.student.specs.Ratio.{RatioBelow, RatioAbove, below, above, below-holds, above-holds}
 use Rattle.student.specs.Quantile.{oneIn}
-use Rattle.student.specs.Series.{product, numerator, AtMost, factors, sums, three, sums-three, at-most, falls, falls-at-most}
-use Rattle.student.specs.Normal.{zSquare, insideFactors, expFactors, insideSquare, InsideAtMost, InsideAtLeast, WholeAtMost, WholeAtLeast, Cut}
+use Rattle.student.specs.Series.{product, numerator, AtMost, factors, sums, sums-three, at-most, falls, falls-at-most}
+use Rattle.student.specs.Normal.{zSquare, insideFactors, expFactors, insideSquare, InsideAtMost, InsideAtLeast, HalfPiAtMost, HalfPiAtLeast, Cut}
 
 -- from term n on each is at most half of the one before
 inside-at-most : (N n : ℕ) → 2 * N ^ 2 ≤ (2 * n + 3) * 1000000 → AtMost (zSquare N) insideFactors (numerator (zSquare N) insideFactors n + 2 * product (zSquare N) n) (product insideFactors n)
@@ -35,11 +35,11 @@ insideBelow k N n =
     leb (2 * N ^ 2) ((2 * n + 3) * 1000000)
     && below-by k N (sums (zSquare N) insideFactors n) (sums (zSquare N) expFactors n) (sums (factors 2 1) (factors 3 2) n)
 
-inside-below : (k N n : ℕ) → T (insideBelow k N n) → RatioBelow (InsideAtMost N) WholeAtLeast (k - 1) k
-unfolding insideBelow below-by InsideAtMost WholeAtLeast
+inside-below : (k N n : ℕ) → T (insideBelow k N n) → RatioBelow (InsideAtMost N) HalfPiAtLeast (k - 1) k
+unfolding insideBelow below-by InsideAtMost HalfPiAtLeast
 inside-below k N n t =
     let f = leb (2 * N ^ 2) ((2 * n + 3) * 1000000) in
-    below-holds (InsideAtMost N) WholeAtLeast _ _ (k - 1) k
+    below-holds (InsideAtMost N) HalfPiAtLeast _ _ (k - 1) k
     (_, _, n, inside-at-most N n (leb→le _ _ (and-l f _ t)), refl)
     (n, refl)
     (subst₃ (λ p E H. T (below-by k N p E H)) (sums-three _ _ n) (sums-three _ _ n) (sums-three _ _ n) (and-r f _ t))
@@ -49,13 +49,13 @@ insideAbove k N n =
     leb (2 * N ^ 2) ((n + 1) * 1000000)
     && (falls 2 3 1 2 3 n && above-by k N (sums (zSquare N) insideFactors n) (sums (zSquare N) expFactors n) (sums (factors 2 1) (factors 3 2) n))
 
-inside-above : (k N n : ℕ) → T (insideAbove k N n) → RatioAbove (InsideAtLeast N) WholeAtMost (k - 1) k
-unfolding insideAbove above-by InsideAtLeast WholeAtMost
+inside-above : (k N n : ℕ) → T (insideAbove k N n) → RatioAbove (InsideAtLeast N) HalfPiAtMost (k - 1) k
+unfolding insideAbove above-by InsideAtLeast HalfPiAtMost
 inside-above k N n t =
     let f = leb (2 * N ^ 2) ((n + 1) * 1000000) in
     let g = falls 2 3 1 2 3 n in
     let r = and-r f _ t in
-    above-holds (InsideAtLeast N) WholeAtMost _ _ (k - 1) k
+    above-holds (InsideAtLeast N) HalfPiAtMost _ _ (k - 1) k
     (_, _, n, exp-at-most N n (leb→le _ _ (and-l f _ t)), refl)
     (falls-at-most 2 3 1 2 3 n (omega arith) (omega arith) (and-l g _ r))
     (subst₃ (λ p E H. T (above-by k N p E H)) (sums-three _ _ n) (sums-three _ _ n) (sums-three _ _ n) (and-r g _ r))

@@ -10,10 +10,11 @@ use native.Mathlib.Omega.{arith}
 pub point : (i M P : ℕ) → P + i * i ≡ M * M → P * P + 4 * (i * i) * (M * M) ≡ (M * M + i * i) * (M * M + i * i)
 point i M P h = rw (sym h) (omega arith)
 
--- where P is M² - i², R is M² - j² and j is i + w, j P is i R and (M² + i j) w
+-- where P is M² - i², R is M² - j² and j is i + w, j P is i R plus (M² + i j) w
 pub width : (i j w M P R : ℕ) → P + i * i ≡ M * M → R + j * j ≡ M * M → i + w ≡ j → j * P ≡ i * R + (M * M + i * j) * w
 width i j w M P R h k e = omega (arith, ap (λ x. j * x) h, ap (λ x. i * x) k, ap (λ x. M * M * x) e, ap (λ x. i * j * x) e)
 
+-- the two cases of `cubes`: y is x + d, and x is y + d
 low : (a n x d : ℕ) → (n + 3) * a * x * (x + d) * (x + d) + n * a * x * x * (x + d) ≤ (n + 1) * a * x * x * x + (n + 2) * a * (x + d) * (x + d) * (x + d)
 low a n x d = omega arith
 
@@ -36,11 +37,11 @@ pub touch : (n x y : ℕ) → (n + 2) * x ^ n * (y * y) ≤ n * x ^ n * (x * x) 
 touch zero x y = rw (pow-zero x, pow-zero y) (omega arith)
 touch (suc n) x y = rw (pow-suc x n, pow-suc y n) (omega (arith, more (x ^ n) (y ^ n) n x y (touch n x y)))
 
--- At a point where 1 + y² is (Q/P)² the curve is (P/Q)ⁿ, n = ν + 1; at p it is (P′/Q′)ⁿ. The parabola that touches it at p, 1 + n/2 (1 - (1 + y²)/(1 + yₚ²)) times the height at p,
--- lies under it: (P/Q)ⁿ ≥ (P′/Q′)ⁿ (1 + n/2 - n/2 (Q P′ / (P Q′))²), multiplied by 2 (Q P′)ⁿ (P Q′)² (Q′/P′)ⁿ.
+-- At a point where 1 + y² is (Q/P)² the curve is (P/Q)ⁿ, n = ν + 1; at p it is (P′/Q′)ⁿ. The parabola that touches it at p is the height at p times
+-- 1 + n/2 (1 - (1 + y²)/(1 + yₚ²)), and lies under it: (P/Q)ⁿ ≥ (P′/Q′)ⁿ (1 + n/2 - n/2 (Q P′ / (P Q′))²), here multiplied by 2 (Q P′)ⁿ (P Q′)² (Q′/P′)ⁿ.
 pub under : (n P Q P′ Q′ : ℕ) → (n + 2) * (Q * P′) ^ n * (P * Q′ * (P * Q′)) ≤ n * (Q * P′) ^ n * (Q * P′ * (Q * P′)) + 2 * (P * Q′) ^ n * (P * Q′ * (P * Q′))
 under n P Q P′ Q′ = touch n (Q * P′) (P * Q′)
 
--- What lies above its touching lines lies under its chords: with the slope -s at the point between, c before it and d after it
+-- What lies above its tangents lies below its chords: with the slope -s at the point between, c before it and d after it
 pub over : (f g h s c d : ℕ) → g + s * c ≤ f → g ≤ h + s * d → g * (c + d) ≤ f * d + h * c
 over f g h s c d p q = omega (arith, mul-le-mul-right d p, mul-le-mul-right c q)

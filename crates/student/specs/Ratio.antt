@@ -5,7 +5,7 @@
 -- ratio is below m/n when a bound from above of the part and a bound from below of the whole are in a ratio below m/n already.
 -- All bounds are bounds of the square of the area: the series give areas that have one square root in common, and their squares are fractions.
 -- Both areas are in one unit, any one, as it cancels.
-use Prim.Native.Nat.{ℕ, _+_, _*_, _^_, _≤_, _<_}
+use Prim.Native.Nat.{ℕ, _*_, _^_, _≤_, _<_}
 use mathlib.Core.Bool.{Bool}
 use native.Mathlib.Nat.{mul-le-mul, mul-le-mul-left, lt-of-lt-of-le, lt-irrefl}
 use native.Mathlib.Omega.{arith}
@@ -14,7 +14,8 @@ use lib.Dec.{T, ltb, ltb→lt}
 abbrev pub Fraction : Type 0
 Fraction = ℕ × ℕ
 
--- p/w is below (m/n)²; where a denominator is 0 it is never shown
+-- The squares p and w are in a ratio below (m/n)². A bound from above with the denominator 0 shows nothing, as nothing is below 0; bounds from below have
+-- positive denominators in each use of these definitions.
 unfoldable pub RatioBelow : (Fraction → Type 0) → (Fraction → Type 0) → ℕ → ℕ → Type 0
 RatioBelow PartAtMost WholeAtLeast m n =
     (p : Fraction) × (w : Fraction) × PartAtMost p × WholeAtLeast w × (n ^ 2 * (p .0 * w .1) < m ^ 2 * (w .0 * p .1))
