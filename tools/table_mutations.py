@@ -1,5 +1,5 @@
 #!/usr/bin/env python3
-"""Puts slips of the pen in the t table through the falling and rising rule and through the theorem's test. Run in the repository's root.
+"""Puts wrong digits in the t table through the falling and rising rule and through the theorem's test. Run in the repository's root.
 
 The entries are read out of crates/statistics/specs/Table.antt, in thousandths; the rule is `columns-fall` and `rows-rise` there. `rounded`
 and what it calls are transcribed, name by name, from crates/student/specs/SeriesCheck.antt, BySeries.antt, Series.antt, Ratio.antt and
@@ -82,7 +82,7 @@ def half_place(row, col):
     return 10 if row == 0 and col >= 2 else 1
 
 
-# ---- the slips
+# ---- the wrong digits
 
 def entries():
     text = '\n'.join(line.split('--')[0] for line in open(TABLE, encoding='utf-8').read().split('\n'))

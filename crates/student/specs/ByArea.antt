@@ -49,36 +49,36 @@ pieceAt ν M g i =
     (i * (M ^ 2 - (i + 2 * g) ^ 2)) ((i + 2 * g) * (M ^ 2 - i ^ 2))
 
 -- a point, and what lies under the curve and over it from 0 to there
-abbrev pub Mark : Type 0
-Mark = ℕ × ℕ × ℕ
+abbrev pub Node : Type 0
+Node = ℕ × ℕ × ℕ
 
-abbrev pub start : Mark
+abbrev pub start : Node
 start = (0, 0, 0)
 
 -- n pieces more
-unfoldable pub onward : ℕ → ℕ → ℕ → ℕ → ℕ → ℕ → ℕ → Mark
-onward ν M g zero i a b = (i, a, b)
-onward ν M g (suc n) i a b = let c = pieceAt ν M g i in onward ν M g n (i + 2 * g) (a + c .0) (b + c .1)
+unfoldable pub addPieces : ℕ → ℕ → ℕ → ℕ → ℕ → ℕ → ℕ → Node
+addPieces ν M g zero i a b = (i, a, b)
+addPieces ν M g (suc n) i a b = let c = pieceAt ν M g i in addPieces ν M g n (i + 2 * g) (a + c .0) (b + c .1)
 
--- a walk is a list of pairs, a step g and a number of pieces; these are the marks after each pair
-unfoldable pub marksFrom : ℕ → ℕ → Mark → List (ℕ × ℕ) → List Mark
-marksFrom ν M m [] = []
-marksFrom ν M m (s ∷ ss) = let x = onward ν M (s .0) (s .1) (m .0) (m .1) (m .2) in x ∷ marksFrom ν M x ss
+-- a partition is a list of pairs, a step g and a number of pieces; these are the nodes after each pair
+unfoldable pub nodesFrom : ℕ → ℕ → Node → List (ℕ × ℕ) → List Node
+nodesFrom ν M m [] = []
+nodesFrom ν M m (s ∷ ss) = let x = addPieces ν M (s .0) (s .1) (m .0) (m .1) (m .2) in x ∷ nodesFrom ν M x ss
 
-unfoldable pub marks : ℕ → ℕ → List (ℕ × ℕ) → List Mark
-marks ν M walk = marksFrom ν M start walk
+unfoldable pub nodes : ℕ → ℕ → List (ℕ × ℕ) → List Node
+nodes ν M partition = nodesFrom ν M start partition
 
-unfoldable pub mark : List Mark → ℕ → Mark
-mark l n = getD l n start
+unfoldable pub node : List Node → ℕ → Node
+node l n = getD l n start
 
--- the last mark
-unfoldable pub final : Mark → List Mark → Mark
-final m [] = m
-final m (x ∷ xs) = final x xs
+-- the last node
+unfoldable pub lastNode : Node → List Node → Node
+lastNode m [] = m
+lastNode m (x ∷ xs) = lastNode x xs
 
 -- at least what lies beyond the point z
-unfoldable pub far : ℕ → ℕ → ℕ → ℕ
-far ν M z = 200000000000000000000 * (M ^ 2 - z ^ 2) ^ ν / (2 * z * M) ^ ν + 1
+unfoldable pub tailBound : ℕ → ℕ → ℕ → ℕ
+tailBound ν M z = 200000000000000000000 * (M ^ 2 - z ^ 2) ^ ν / (2 * z * M) ^ ν + 1
 
 -- the point i is at or after N/2000, and at or before it
 unfoldable pub After : ℕ → ℕ → ℕ → ℕ → Type 0
@@ -87,41 +87,41 @@ After ν N M i = (N * (M ^ 2 - i ^ 2)) ^ 2 ≤ 4000000 * ν * (2 * i * M) ^ 2
 unfoldable pub Before : ℕ → ℕ → ℕ → ℕ → Type 0
 Before ν N M i = 4000000 * ν * (2 * i * M) ^ 2 ≤ (N * (M ^ 2 - i ^ 2)) ^ 2
 
--- Squares of bounds, from marks l: beyond the mark h what lies over the curve to the last mark, and all that lies further; or what lies under it to the last mark.
-unfoldable pub overBeyond : ℕ → ℕ → List Mark → Mark → Fraction
-overBeyond ν M l h = (((final start l) .2 - h .2 + far ν M ((final start l) .0)) ^ 2, 1)
+-- Squares of bounds, from nodes l: beyond the node h what lies over the curve to the last node, and all that lies further; or what lies under it to the last node.
+unfoldable pub overBeyond : ℕ → ℕ → List Node → Node → Fraction
+overBeyond ν M l h = (((lastNode start l) .2 - h .2 + tailBound ν M ((lastNode start l) .0)) ^ 2, 1)
 
-unfoldable pub underBeyond : List Mark → Mark → Fraction
-underBeyond l h = (((final start l) .1 - h .1) ^ 2, 1)
+unfoldable pub underBeyond : List Node → Node → Fraction
+underBeyond l h = (((lastNode start l) .1 - h .1) ^ 2, 1)
 
--- Some walk that stays below M shows the bound. Beyond N/2000 there lies no more than beyond a mark at or before it,
+-- Some partition that stays below M shows the bound. Beyond N/2000 there lies no more than beyond a node at or before it,
 unfoldable pub BeyondAtMost : ℕ → ℕ → Fraction → Type 0
 BeyondAtMost ν N p =
-    (M : ℕ) × (walk : List (ℕ × ℕ)) × (n : ℕ)
-    × ((final start (marks ν M walk)) .0 < M)
-    × Before ν N M ((mark (marks ν M walk) n) .0)
-    × (p ≡ overBeyond ν M (marks ν M walk) (mark (marks ν M walk) n))
+    (M : ℕ) × (partition : List (ℕ × ℕ)) × (n : ℕ)
+    × ((lastNode start (nodes ν M partition)) .0 < M)
+    × Before ν N M ((node (nodes ν M partition) n) .0)
+    × (p ≡ overBeyond ν M (nodes ν M partition) (node (nodes ν M partition) n))
 
--- and no less than beyond a mark at or after it.
+-- and no less than beyond a node at or after it.
 unfoldable pub BeyondAtLeast : ℕ → ℕ → Fraction → Type 0
 BeyondAtLeast ν N p =
-    (M : ℕ) × (walk : List (ℕ × ℕ)) × (n : ℕ)
-    × ((final start (marks ν M walk)) .0 < M)
-    × After ν N M ((mark (marks ν M walk) n) .0)
-    × (p ≡ underBeyond (marks ν M walk) (mark (marks ν M walk) n))
+    (M : ℕ) × (partition : List (ℕ × ℕ)) × (n : ℕ)
+    × ((lastNode start (nodes ν M partition)) .0 < M)
+    × After ν N M ((node (nodes ν M partition) n) .0)
+    × (p ≡ underBeyond (nodes ν M partition) (node (nodes ν M partition) n))
 
 -- The whole is what lies beyond the start.
 unfoldable pub WholeAtMost : ℕ → Fraction → Type 0
 WholeAtMost ν p =
-    (M : ℕ) × (walk : List (ℕ × ℕ))
-    × ((final start (marks ν M walk)) .0 < M)
-    × (p ≡ overBeyond ν M (marks ν M walk) start)
+    (M : ℕ) × (partition : List (ℕ × ℕ))
+    × ((lastNode start (nodes ν M partition)) .0 < M)
+    × (p ≡ overBeyond ν M (nodes ν M partition) start)
 
 unfoldable pub WholeAtLeast : ℕ → Fraction → Type 0
 WholeAtLeast ν p =
-    (M : ℕ) × (walk : List (ℕ × ℕ))
-    × ((final start (marks ν M walk)) .0 < M)
-    × (p ≡ underBeyond (marks ν M walk) start)
+    (M : ℕ) × (partition : List (ℕ × ℕ))
+    × ((lastNode start (nodes ν M partition)) .0 < M)
+    × (p ≡ underBeyond (nodes ν M partition) start)
 
 abbrev pub byArea : Measure
 byArea =

@@ -9,7 +9,7 @@ pub mod SeriesCheck
 pub mod Laws
 pub mod ByArea
 pub mod Parabolas
-pub mod AreaWalks
+pub mod AreaPartitions
 pub mod AreaCheck
 pub mod Normal
 pub mod NormalCheck

@@ -1,27 +1,27 @@
 #!/usr/bin/env python3
-"""Makes crates/student/specs/AreaWalks.antt, the witnesses of the theorem in AreaCheck.antt. Run in the repository's root.
+"""Makes crates/student/specs/AreaPartitions.antt, the witnesses of the theorem in AreaCheck.antt. Run in the repository's root.
 
 The entries are read out of crates/statistics/specs/Table.antt. The areas are worked out as ByArea.antt defines them, in whole numbers of any
 size. For each number of degrees of freedom the number of pieces is raised until all six entries pass. Nothing need be believed of what is
-written: the proof works it out again, and fails where a walk does not do."""
+written: the proof works it out again, and fails where a partition does not do."""
 import re
 import sys
 from math import isqrt
 
 TABLE = 'crates/statistics/specs/Table.antt'
-WALKS = 'crates/student/specs/AreaWalks.antt'
+PARTITIONS = 'crates/student/specs/AreaPartitions.antt'
 M = 10 ** 12
 UNIT = 10 ** 20
 ONE_IN = [5, 10, 20, 50, 100, 1000]
 
-HEAD = '''-- Made by `python3 tools/area_walks.py`, not by hand. The walks that show the 180 entries by area, one for each number of degrees of freedom from 1 to 30, on
--- points of 1/1000000000000. Each pair is a half width g and a number of pieces. The first 18 pairs go, for each of the six entries, in two pairs to half a place
--- below it and in one to half a place above it; the others go on towards the end. `AreaCheck` computes with them; nothing need be believed of them.
+HEAD = '''-- Made by `python3 tools/area_partitions.py`, not by hand. The partitions that show the 180 entries by area, one for each number of degrees of freedom from 1
+-- to 30, with M = 1000000000000. Each pair is a half width g and a number of pieces. The first 18 pairs go, for each of the six entries, in two pairs to half a
+-- place below it and in one to half a place above it; the others go on towards M. `AreaCheck` computes with them; nothing need be believed of them.
 use mathlib.Core.List.{List, [], _∷_}
 use Prim.Native.Nat.{ℕ}
 
-unfoldable pub walks : List (List (ℕ × ℕ))
-walks =
+unfoldable pub partitions : List (List (ℕ × ℕ))
+partitions =
 '''
 
 
@@ -66,7 +66,7 @@ def even_points(v, N):
     return i + 2, i if not before(v, N, i + 2) else i + 2
 
 
-def walk(v, row, pieces):
+def partition(v, row, pieces):
     pairs, i, half = [], 0, M // pieces
     for col, e in enumerate(row):
         h = half_place(v - 1, col)
@@ -93,17 +93,17 @@ def walk(v, row, pieces):
 
 # ByArea.antt and AreaCheck.antt: do all six entries pass
 def passes(v, row, pairs):
-    marks, i, under, over = [], 0, 0, 0
+    nodes, i, under, over = [], 0, 0, 0
     for g, n in pairs:
         for _ in range(n):
             a, b = piece(v, i, g)
             i, under, over = i + 2 * g, under + a, over + b
-        marks.append((i, under, over))
-    far = 2 * UNIT * (M * M - i * i) ** v // (2 * i * M) ** v + 1
+        nodes.append((i, under, over))
+    tailBound = 2 * UNIT * (M * M - i * i) ** v // (2 * i * M) ** v + 1
     for col, e in enumerate(row):
-        h, k, low, high = half_place(v - 1, col), ONE_IN[col], marks[3 * col + 1], marks[3 * col + 2]
-        if not (i < M and after(v, 2 * e - h, low[0]) and over + far < k * (under - low[1])
-                and before(v, 2 * e + h, high[0]) and k * (over - high[2] + far) < under):
+        h, k, low, high = half_place(v - 1, col), ONE_IN[col], nodes[3 * col + 1], nodes[3 * col + 2]
+        if not (i < M and after(v, 2 * e - h, low[0]) and over + tailBound < k * (under - low[1])
+                and before(v, 2 * e + h, high[0]) and k * (over - high[2] + tailBound) < under):
             return False
     return True
 
@@ -112,17 +112,17 @@ def main():
     table, total, rows = entries(), 0, []
     for v in range(1, 31):
         row, pieces = table[6 * v - 6:6 * v], 200
-        while not passes(v, row, walk(v, row, pieces)):
+        while not passes(v, row, partition(v, row, pieces)):
             pieces = pieces * 11 // 10
             if pieces > 50000:
-                print(f'walks: no walk shows the entries for {v} degrees of freedom')
+                print(f'partitions: no partition shows the entries for {v} degrees of freedom')
                 return 1
-        pairs = walk(v, row, pieces)
+        pairs = partition(v, row, pieces)
         total += sum(n for _, n in pairs)
         rows.append('    (' + ' ∷ '.join(f'({g}, {n})' for g, n in pairs) + ' ∷ []) ∷\n')
-    with open(WALKS, 'w', encoding='utf-8') as out:
+    with open(PARTITIONS, 'w', encoding='utf-8') as out:
         out.write(HEAD + ''.join(rows) + '    []\n')
-    print(f'walks: {total} pieces')
+    print(f'partitions: {total} pieces')
     return 0
 
 

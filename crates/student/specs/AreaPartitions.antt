@@ -1,11 +1,11 @@
--- Made by `python3 tools/area_walks.py`, not by hand. The walks that show the 180 entries by area, one for each number of degrees of freedom from 1 to 30, on
--- points of 1/1000000000000. Each pair is a half width g and a number of pieces. The first 18 pairs go, for each of the six entries, in two pairs to half a place
--- below it and in one to half a place above it; the others go on towards the end. `AreaCheck` computes with them; nothing need be believed of them.
+-- Made by `python3 tools/area_partitions.py`, not by hand. The partitions that show the 180 entries by area, one for each number of degrees of freedom from 1
+-- to 30, with M = 1000000000000. Each pair is a half width g and a number of pieces. The first 18 pairs go, for each of the six entries, in two pairs to half a
+-- place below it and in one to half a place above it; the others go on towards M. `AreaCheck` computes with them; nothing need be believed of them.
 use mathlib.Core.List.{List, [], _∷_}
 use Prim.Native.Nat.{ℕ}
 
-unfoldable pub walks : List (List (ℕ × ℕ))
-walks =
+unfoldable pub partitions : List (List (ℕ × ℕ))
+partitions =
     ((123685587, 2937) ∷ (237, 1) ∷ (36468525, 1) ∷ (90278532, 706) ∷ (65, 1) ∷ (10579928, 1) ∷ (46733438, 752) ∷ (467, 1) ∷ (28523613, 1) ∷ (19134424, 1166) ∷ (692, 1) ∷ (4783095, 1) ∷ (9636933, 796) ∷ (574, 1) ∷ (1214398, 1) ∷ (971191, 7215) ∷ (3111, 1) ∷ (12316, 1) ∷ (1942512, 202) ∷ (971256, 202) ∷ (485628, 202) ∷ (242814, 202) ∷ (121407, 202) ∷ (60703, 202) ∷ (30352, 202) ∷ (15176, 202) ∷ (7588, 202) ∷ (3794, 202) ∷ (1897, 202) ∷ (948, 202) ∷ (474, 202) ∷ (237, 202) ∷ (119, 202) ∷ (59, 203) ∷ (29, 208) ∷ (14, 216) ∷ (7, 216) ∷ (3, 253) ∷ (1, 380) ∷ []) ∷
     ((164575777, 1519) ∷ (973, 1) ∷ (79532759, 1) ∷ (164419856, 385) ∷ (112, 1) ∷ (46782618, 1) ∷ (164580198, 295) ∷ (23, 1) ∷ (26265600, 1) ∷ (150090348, 311) ∷ (278, 1) ∷ (11675707, 1) ∷ (108729363, 231) ∷ (144, 1) ∷ (6165725, 1) ∷ (36027842, 1230) ∷ (35, 1) ∷ (676507, 1) ∷ (72439286, 151) ∷ (36219643, 151) ∷ (18109822, 151) ∷ (9054911, 151) ∷ (4527455, 151) ∷ (2263728, 151) ∷ (1131864, 151) ∷ (565932, 151) ∷ (282966, 151) ∷ (141483, 151) ∷ (70741, 151) ∷ (35371, 151) ∷ (17685, 151) ∷ (8843, 151) ∷ (4421, 151) ∷ (2211, 151) ∷ (1105, 151) ∷ (553, 151) ∷ (276, 151) ∷ (138, 151) ∷ (69, 152) ∷ (34, 154) ∷ (17, 155) ∷ (8, 165) ∷ (4, 166) ∷ (2, 167) ∷ (1, 167) ∷ []) ∷
     ((320349722, 621) ∷ (175, 1) ∷ (88260932, 1) ∷ (319922376, 168) ∷ (22, 1) ∷ (63691337, 1) ∷ (318359525, 139) ∷ (19, 1) ∷ (44640245, 1) ∷ (319445679, 148) ∷ (81, 1) ∷ (27030653, 1) ∷ (320071967, 90) ∷ (46, 1) ∷ (18167239, 1) ∷ (319385886, 201) ∷ (182, 1) ∷ (4496147, 1) ∷ (320615581, 97) ∷ (204135652, 77) ∷ (102067826, 77) ∷ (51033913, 77) ∷ (25516956, 77) ∷ (12758478, 77) ∷ (6379239, 77) ∷ (3189620, 77) ∷ (1594810, 77) ∷ (797405, 77) ∷ (398702, 77) ∷ (199351, 77) ∷ (99676, 77) ∷ (49838, 77) ∷ (24919, 77) ∷ (12459, 77) ∷ (6230, 77) ∷ (3115, 77) ∷ (1557, 77) ∷ (779, 77) ∷ (389, 77) ∷ (195, 77) ∷ (97, 77) ∷ (49, 77) ∷ (24, 79) ∷ (12, 80) ∷ (6, 80) ∷ (3, 80) ∷ (1, 120) ∷ []) ∷
