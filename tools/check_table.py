@@ -1,13 +1,13 @@
 #!/usr/bin/env python3
 """Compares the t table and the z scores of specs/ with the text of the Rust, entry by entry. Run in the repository's root.
 
-The 180 entries are read out of crates/student/specs/Table.antt, in thousandths, and the six z scores out of
-crates/statistics/specs/Scores.antt. The Rust is reference/src/statistics.rs. Nothing is written here a second time."""
+The 180 entries and the six z scores are read out of crates/statistics/specs/Table.antt, in thousandths, and which z score belongs to
+which confidence out of Scores.antt beside it. The Rust is reference/src/statistics.rs. Nothing is written here a second time."""
 import re
 import sys
 from decimal import Decimal
 
-TABLE = 'crates/student/specs/Table.antt'
+TABLE = 'crates/statistics/specs/Table.antt'
 SCORES = 'crates/statistics/specs/Scores.antt'
 RUST = 'reference/src/statistics.rs'
 
@@ -16,15 +16,16 @@ def without_comments(text, mark):
     return '\n'.join(line.split(mark)[0] for line in text.split('\n'))
 
 
-def entries_of_specs():
+def list_of_specs(name):
     text = without_comments(open(TABLE, encoding='utf-8').read(), '--')
-    body = re.search(r'^thousandths =(.*)\[\]', text, re.M | re.S).group(1)
+    body = re.search(rf'^{name} =(.*?)\[\]', text, re.M | re.S).group(1)
     return [int(word) for word in body.replace('∷', ' ').split()]
 
 
 def z_scores_of_specs():
     text = without_comments(open(SCORES, encoding='utf-8').read(), '--')
-    return {name: int(n) for name, n in re.findall(r'^zScore (P\d+) = milli (\d+)$', text, re.M)}
+    numbers = list_of_specs('zThousandths')
+    return {name: numbers[int(col)] for name, col in re.findall(r'^zScore (P\d+) = zAt (\d+)$', text, re.M)}
 
 
 def entries_of_rust(text):
@@ -41,7 +42,7 @@ def z_scores_of_rust(text):
 
 def main():
     rust = open(RUST, encoding='utf-8').read()
-    ours, theirs = entries_of_specs(), entries_of_rust(rust)
+    ours, theirs = list_of_specs('thousandths'), entries_of_rust(rust)
     z_ours, z_theirs = z_scores_of_specs(), z_scores_of_rust(rust)
     wrong = []
     if len(ours) != 180 or len(theirs) != 180:
@@ -53,7 +54,7 @@ def main():
         wrong.append(f'z scores {sorted(z_ours)} in {SCORES}, {sorted(z_theirs)} in {RUST}')
     for name in sorted(z_ours.keys() & z_theirs.keys()):
         if z_ours[name] != Decimal(z_theirs[name]) * 1000:
-            wrong.append(f'z score {name}: {z_ours[name]} thousandths in {SCORES}, {z_theirs[name]} in {RUST}')
+            wrong.append(f'z score {name}: {z_ours[name]} thousandths in {TABLE}, {z_theirs[name]} in {RUST}')
     for line in wrong:
         print('table:', line)
     if wrong:

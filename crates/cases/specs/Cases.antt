@@ -13,12 +13,12 @@ use Rattle.value.specs.Logarithm.{mBits, kBiased, lnSum, lnBits, lnPositive, ln
 use Rattle.value.specs.Maximum.{maximumF}
 use Rattle.value.specs.Numbers.{num, zeroF, twoF}
 use Rattle.basis.specs.declared.OptionDegree.the-variants.{Some}
-use Rattle.student.specs.Table.{thousandths}
 use Rattle.statistics.specs.declared.Confidence.the-variants.{P95}
 use Rattle.statistics.specs.declared.DegreeBound.the-variants.{Conservative, Relaxed, Custom}
 use Rattle.statistics.specs.Degrees.{root, rootUpTo, maxDegree}
 use Rattle.statistics.specs.Medians.{insert, sort, midpoint, medianOf}
-use Rattle.statistics.specs.Scores.{milli, zScore, cell, entryAt, tableScore, tScore}
+use Rattle.statistics.specs.Table.{thousandths, cell, zThousandths}
+use Rattle.statistics.specs.Scores.{milli, zAt, zScore, entryAt, tableScore, tScore}
 use Rattle.monomial.specs.Rows.{Row, rowsOf}
 use Rattle.monomial.specs.Sums.{sumsOf}
 use Rattle.solve.specs.Solve.{solve}
@@ -96,7 +96,7 @@ solved-is rows k t v e = ap (λ (s : Scored). s .solved) e
 -- ---- the theorem
 
 pub cases : Cases
-unfolding maxDegree root rootUpTo tScore tableScore entryAt cell milli zScore thousandths medianOf sort insert midpoint choiceOf tried table ofInt ofBits round size span climb odd units sum add div lt le eq trailingZeros
+unfolding maxDegree root rootUpTo tScore tableScore entryAt cell milli zScore zAt thousandths zThousandths medianOf sort insert midpoint choiceOf tried table ofInt ofBits round size span climb odd units sum add div lt le eq trailingZeros
 cases =
     record {
       t1 = refl;

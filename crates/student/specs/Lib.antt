@@ -1,7 +1,15 @@
--- Student's t table and the theorem that each entry is the quantile that it stands for. Read Table, then Series, Quantile and the last law of Check.
-pub mod Table
-pub mod Series
-pub mod Tests
+-- Student's t table and the z scores: each number that the crate `statistics` reads is the quantile that it stands for. Definitions and theorems, no code.
+-- Read Ratio and Quantile, which say what is claimed; then BySeries and ByArea, each with what a reader must believe of it; then the last law of SeriesCheck
+-- and of AreaCheck. The z scores are in Normal and NormalCheck.
+pub mod Ratio
 pub mod Quantile
-pub mod Check
-pub mod Sense
+pub mod Series
+pub mod BySeries
+pub mod SeriesCheck
+pub mod Laws
+pub mod ByArea
+pub mod Parabolas
+pub mod AreaPartitions
+pub mod AreaCheck
+pub mod Normal
+pub mod NormalCheck

@@ -1,78 +1,85 @@
--- The series [a, b; z] = 1 + (a/b) z + (a/b) ((a+2)/(b+2)) z² + (a/b) ((a+2)/(b+2)) ((a+4)/(b+4)) z³ + .. at a fraction z = y/d, by its partial sums,
--- over whole numbers. It is the hypergeometric series F(a/2, 1; b/2; z). All its terms are positive, so its value, where there is one, is above every
--- partial sum, and at most each number that no partial sum exceeds. Assumes nothing.
+-- The series 1 + f(0)/g(0) + (f(0)/g(0)) (f(1)/g(1)) + .. by its partial sums, over whole numbers. All its terms are positive, so its value, where there is
+-- one, is above every partial sum, and at most each number that no partial sum exceeds. Assumes nothing.
 use mathlib.Core.Path.{_≡_, refl, ap, ap₂}
+use mathlib.Core.Bool.{Bool, _&&_}
 use Prim.Native.Nat.{ℕ, zero, suc, _+_, _*_, _≤_, _<_}
 use native.Mathlib.Nat.{mul-le-mul-left, mul-le-mul-right, le-of-mul-le-mul-right, mul-pos, le-refl, add-comm, add-suc, add-zero}
 use native.Mathlib.Omega.{arith}
+use lib.Dec.{T, leb, leb→le}
+use lib.Ieee.Fits.{and-l, and-r}
 
--- n factors: a y × (a+2) y × (a+4) y × .. The term after the first n of the series is product a y n / product b d n.
-unfoldable pub product : ℕ → ℕ → ℕ → ℕ
-product a y zero = 1
-product a y (suc n) = product a y n * ((a + 2 * n) * y)
+-- n factors. The term after the first n of the series is product f n / product g n.
+unfoldable pub product : (ℕ → ℕ) → ℕ → ℕ
+product f zero = 1
+product f (suc n) = product f n * f n
 
--- the sum of the first n terms is numerator a b y d n / product b d n
-unfoldable pub numerator : ℕ → ℕ → ℕ → ℕ → ℕ → ℕ
-numerator a b y d zero = 0
-numerator a b y d (suc n) = (numerator a b y d n + product a y n) * ((b + 2 * n) * d)
+-- the sum of the first n terms is numerator f g n / product g n
+unfoldable pub numerator : (ℕ → ℕ) → (ℕ → ℕ) → ℕ → ℕ
+numerator f g zero = 0
+numerator f g (suc n) = (numerator f g n + product f n) * g n
 
 -- every partial sum is at most u/v, and so is the value of the series
-unfoldable pub AtMost : ℕ → ℕ → ℕ → ℕ → ℕ → ℕ → Type 0
-AtMost a b y d u v = (n : ℕ) → numerator a b y d n * v ≤ u * product b d n
+unfoldable pub AtMost : (ℕ → ℕ) → (ℕ → ℕ) → ℕ → ℕ → Type 0
+AtMost f g u v = (n : ℕ) → numerator f g n * v ≤ u * product g n
+
+-- The factors a y, (a+2) y, (a+4) y, .. With these over the factors b d, (b+2) d, .. the series is
+-- [a, b; z] = 1 + (a/b) z + (a/b) ((a+2)/(b+2)) z² + .. at z = y/d, the hypergeometric series F(a/2, 1; b/2; z).
+unfoldable pub factors : ℕ → ℕ → ℕ → ℕ
+factors a y n = (a + 2 * n) * y
 
 -- ---- laws
 
 -- three numbers in one run: the sum's numerator, the next term's, and the denominator of both
-unfoldable pub sums : ℕ → ℕ → ℕ → ℕ → ℕ → ℕ × ℕ × ℕ
-sums a b y d zero = (0, 1, 1)
-sums a b y d (suc n) =
-    let p = sums a b y d n in ((p .0 + p .1) * ((b + 2 * n) * d), p .1 * ((a + 2 * n) * y), p .2 * ((b + 2 * n) * d))
+unfoldable pub sums : (ℕ → ℕ) → (ℕ → ℕ) → ℕ → ℕ × ℕ × ℕ
+sums f g zero = (0, 1, 1)
+sums f g (suc n) = let p = sums f g n in ((p .0 + p .1) * g n, p .1 * f n, p .2 * g n)
 
-pub sums-next : (a b y d n : ℕ) → (sums a b y d n) .1 ≡ product a y n
+sums-next : (f g : ℕ → ℕ) (n : ℕ) → (sums f g n) .1 ≡ product f n
 unfolding sums product
-sums-next a b y d zero = refl
-sums-next a b y d (suc n) = ap (λ x. x * ((a + 2 * n) * y)) (sums-next a b y d n)
+sums-next f g zero = refl
+sums-next f g (suc n) = ap (λ x. x * f n) (sums-next f g n)
 
-pub sums-denominator : (a b y d n : ℕ) → (sums a b y d n) .2 ≡ product b d n
+sums-denominator : (f g : ℕ → ℕ) (n : ℕ) → (sums f g n) .2 ≡ product g n
 unfolding sums product
-sums-denominator a b y d zero = refl
-sums-denominator a b y d (suc n) = ap (λ x. x * ((b + 2 * n) * d)) (sums-denominator a b y d n)
+sums-denominator f g zero = refl
+sums-denominator f g (suc n) = ap (λ x. x * g n) (sums-denominator f g n)
 
-pub sums-numerator : (a b y d n : ℕ) → (sums a b y d n) .0 ≡ numerator a b y d n
+sums-numerator : (f g : ℕ → ℕ) (n : ℕ) → (sums f g n) .0 ≡ numerator f g n
 unfolding sums numerator
-sums-numerator a b y d zero = refl
-sums-numerator a b y d (suc n) = ap₂ (λ s t. (s + t) * ((b + 2 * n) * d)) (sums-numerator a b y d n) (sums-next a b y d n)
+sums-numerator f g zero = refl
+sums-numerator f g (suc n) = ap₂ (λ s t. (s + t) * g n) (sums-numerator f g n) (sums-next f g n)
+
+-- the three, one by one
+abbrev pub three : (ℕ → ℕ) → (ℕ → ℕ) → ℕ → ℕ × ℕ × ℕ
+three f g n = (numerator f g n, product f n, product g n)
+
+pub sums-three : (f g : ℕ → ℕ) (n : ℕ) → sums f g n ≡ three f g n
+sums-three f g n = λ i. (sums-numerator f g n i, sums-next f g n i, sums-denominator f g n i)
 
 -- a product of positive factors is positive
-product-pos : (b d n : ℕ) → 0 < b → 0 < d → 0 < product b d n
+product-pos : (g : ℕ → ℕ) → ((j : ℕ) → 0 < g j) → (n : ℕ) → 0 < product g n
 unfolding product
-product-pos b d zero hb hd = omega arith
-product-pos b d (suc n) hb hd = mul-pos (product-pos b d n hb hd) (mul-pos (omega arith) hd)
+product-pos g h zero = omega arith
+product-pos g h (suc n) = mul-pos (product-pos g h n) (h n)
 
--- one more term makes the sum no smaller, and so do j more
-numerator-grows : (a b y d m j : ℕ) → numerator a b y d m * product b d (m + j) ≤ numerator a b y d (m + j) * product b d m
+-- j terms more make the sum no smaller
+numerator-grows : (f g : ℕ → ℕ) (m j : ℕ) → numerator f g m * product g (m + j) ≤ numerator f g (m + j) * product g m
 unfolding numerator product
-numerator-grows a b y d m zero = simp add-zero (le-refl _)
-numerator-grows a b y d m (suc j) =
-    simp add-suc
-    (omega (arith, mul-le-mul-right ((b + 2 * (m + j)) * d) (numerator-grows a b y d m j)))
+numerator-grows f g m zero = simp add-zero (le-refl _)
+numerator-grows f g m (suc j) = simp add-suc (omega (arith, mul-le-mul-right (g (m + j)) (numerator-grows f g m j)))
 
 -- From place n on each term is at most (C-1)/C of the one before it: then what follows the first n terms is at most C times the next.
-shrinks : (a b y d C n j : ℕ) → y * C + d ≤ d * C → (a + 2 * n) * y * C + (b + 2 * n) * d ≤ (b + 2 * n) * d * C →
-    (a + 2 * (n + j)) * y * C + (b + 2 * (n + j)) * d ≤ (b + 2 * (n + j)) * d * C
-shrinks a b y d C n j h k = omega (arith, k, mul-le-mul-left (2 * j) h)
+one-more : (S U D E G C x y : ℕ) → y * C + x ≤ x * C → (S + C * U) * E ≤ G * D → ((S + U) * x + C * (U * y)) * E ≤ G * (D * x)
+one-more S U D E G C x y h k = omega (arith, mul-le-mul-left (U * E) h, mul-le-mul-right x k)
 
-one-more : (S U D E G C f g : ℕ) → g * C + f ≤ f * C → (S + C * U) * E ≤ G * D → ((S + U) * f + C * (U * g)) * E ≤ G * (D * f)
-one-more S U D E G C f g h k = omega (arith, mul-le-mul-left (U * E) h, mul-le-mul-right f k)
-
-rest : (a b y d C n j : ℕ) → y * C + d ≤ d * C → (a + 2 * n) * y * C + (b + 2 * n) * d ≤ (b + 2 * n) * d * C →
-    (numerator a b y d (n + j) + C * product a y (n + j)) * product b d n ≤ (numerator a b y d n + C * product a y n) * product b d (n + j)
+rest : (f g : ℕ → ℕ) (C n j : ℕ) → ((i : ℕ) → f (n + i) * C + g (n + i) ≤ g (n + i) * C) →
+    (numerator f g (n + j) + C * product f (n + j)) * product g n ≤ (numerator f g n + C * product f n) * product g (n + j)
 unfolding numerator product
-rest a b y d C n zero h k = simp add-zero (le-refl _)
-rest a b y d C n (suc j) h k =
+rest f g C n zero h = simp add-zero (le-refl _)
+rest f g C n (suc j) h =
     simp add-suc
-    (one-more (numerator a b y d (n + j)) (product a y (n + j)) (product b d (n + j)) (product b d n) (numerator a b y d n + C * product a y n) C
-    ((b + 2 * (n + j)) * d) ((a + 2 * (n + j)) * y) (shrinks a b y d C n j h k) (rest a b y d C n j h k))
+    (one-more (numerator f g (n + j)) (product f (n + j)) (product g (n + j)) (product g n) (numerator f g n + C * product f n) C (g (n + j)) (f (n + j))
+    (h j) (rest f g C n j h))
 
 -- fractions: s/m is at most t/k, t/k is at most G/e, and G/e is at most u/v
 chain : (s m t k G e u v : ℕ) → 0 < k → 0 < e → s * k ≤ t * m → t * e ≤ G * k → G * v ≤ u * e → s * v ≤ u * m
@@ -81,13 +88,28 @@ chain s m t k G e u v hk he p q r =
     (omega (arith, mul-le-mul-right (e * v) p, mul-le-mul-right (m * v) q, mul-le-mul-right (m * k) r))
     (mul-pos hk he)
 
--- where n terms and C times the next one come to at most u/v, so does every partial sum
-pub at-most : (a b y d C n u v : ℕ) → 0 < b → 0 < d → y * C + d ≤ d * C → (a + 2 * n) * y * C + (b + 2 * n) * d ≤ (b + 2 * n) * d * C →
-    (numerator a b y d n + C * product a y n) * v ≤ u * product b d n → AtMost a b y d u v
+pub at-most : (f g : ℕ → ℕ) (C n : ℕ) → ((j : ℕ) → 0 < g j) → ((i : ℕ) → f (n + i) * C + g (n + i) ≤ g (n + i) * C) →
+    AtMost f g (numerator f g n + C * product f n) (product g n)
 unfolding AtMost
-at-most a b y d C n u v hb hd h k l m =
-    chain (numerator a b y d m) (product b d m) (numerator a b y d (n + m)) (product b d (n + m)) (numerator a b y d n + C * product a y n) (product b d n) u v
-    (product-pos b d (n + m) hb hd) (product-pos b d n hb hd)
-    (rw (add-comm n m) (numerator-grows a b y d m n))
-    (omega (arith, rest a b y d C n m h k))
-    l
+at-most f g C n hg h m =
+    chain (numerator f g m) (product g m) (numerator f g (n + m)) (product g (n + m)) (numerator f g n + C * product f n) (product g n) _ _
+    (product-pos g hg (n + m)) (product-pos g hg n)
+    (rw (add-comm n m) (numerator-grows f g m n))
+    (omega (arith, rest f g C n m h))
+    (le-refl _)
+
+-- the test for [a, b; y/d]: from place n on each term is at most (C-1)/C of the one before it
+unfoldable pub falls : ℕ → ℕ → ℕ → ℕ → ℕ → ℕ → Bool
+falls a b y d C n = leb (y * C + d) (d * C) && leb ((a + 2 * n) * y * C + (b + 2 * n) * d) ((b + 2 * n) * d * C)
+
+shrinks : (a b y d C n j : ℕ) → y * C + d ≤ d * C → (a + 2 * n) * y * C + (b + 2 * n) * d ≤ (b + 2 * n) * d * C →
+    (a + 2 * (n + j)) * y * C + (b + 2 * (n + j)) * d ≤ (b + 2 * (n + j)) * d * C
+shrinks a b y d C n j h k = omega (arith, k, mul-le-mul-left (2 * j) h)
+
+pub falls-at-most : (a b y d C n : ℕ) → 0 < b → 0 < d → T (falls a b y d C n) →
+    AtMost (factors a y) (factors b d) (numerator (factors a y) (factors b d) n + C * product (factors a y) n) (product (factors b d) n)
+unfolding falls factors
+falls-at-most a b y d C n hb hd t =
+    let fst = leb (y * C + d) (d * C) in
+    at-most (factors a y) (factors b d) C n (λ j. mul-pos (omega arith) hd)
+    (λ i. shrinks a b y d C n i (leb→le _ _ (and-l fst _ t)) (leb→le _ _ (and-r fst _ t)))

@@ -1,1 +1,1 @@
-// What a quantile of Student's distribution is, and that each entry of the t table is one; nothing runs here. `specs/` is the work.
+// What a quantile is, and that each entry of the t table and each z score is one. Nothing runs here: the definitions and theorems are in specs/.

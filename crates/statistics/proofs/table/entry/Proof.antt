@@ -4,8 +4,8 @@ use native.Mathlib.Omega.{arith}
 use borrow.Author.Needs.{needs}
 use lib.Ieee.{ofBits, round}
 use Rattle.loops.specs.Places.{map-at}
-use Rattle.student.specs.Table.{thousandths}
-use Rattle.statistics.specs.Scores.{milli, cell, entryAt}
+use Rattle.statistics.specs.Table.{thousandths, cell}
+use Rattle.statistics.specs.Scores.{milli, entryAt}
 use Rattle.statistics.proofs.table.entry.Statement.{statement}
 use Rattle.statistics.proofs.table.entry.Tie as tie
 
