@@ -2,3 +2,5 @@
 pub mod Lists
 pub mod Steps
 pub mod Whole
+pub mod Words
+pub mod Book

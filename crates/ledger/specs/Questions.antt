@@ -1,0 +1,37 @@
+-- The calls that read a book, as calls of a list: what each answers and writes. Definitions only.
+use Prim.Native.Nat.{ℕ}
+use lib.Ieee.{Float}
+use Rattle.statistics.specs.declared.Confidence.{Confidence}
+use Rattle.statistics.specs.declared.DegreeBound.{DegreeBound}
+use Rattle.statistics.specs.declared.Tolerance.{Tolerance}
+use Rattle.score.specs.declared.Criterion.{Criterion}
+use Rattle.query.specs.Fits.{FitOut, fitOn, validateOn}
+use Rattle.query.specs.Bands.{BandOut, bandFor}
+use Rattle.report.specs.declared.Settings.{Settings}
+use Rattle.report.specs.declared.Places.{Places}
+use Rattle.report.specs.Reports.{ReportOut, reportOn}
+use Rattle.ledger.specs.Ledger.{Reading}
+
+-- a call that reads, with its arguments, then the lengths of the memory lent to it alone: of scratch and coefficients, of scratch, or of all that a
+-- report writes
+pub data Question : Type 0 where
+  fits : ℕ → ℕ → ℕ → Question
+  validates : ℕ → DegreeBound → Criterion → ℕ → ℕ → Question
+  bands : Float → ℕ → Confidence → Tolerance → ℕ → Question
+  reports : Settings → Places → Question
+
+-- the answer and every value written
+pub data Told : Type 0 where
+  fitted : FitOut → Told
+  banded : BandOut → Told
+  reported : ReportOut → Told
+
+-- what each answers and writes, from the count, the samples, the 272 sums, and the lengths of the columns and of the sums: the definitions that the
+-- contracts of `fit`, `validate`, `band` and `report` promise
+unfoldable pub readOn : Reading Question Told
+readOn (fits degree scratch coefficients) n samples sums columns places = fitted (fitOn n degree samples sums columns places scratch coefficients)
+readOn (validates folds bound criterion scratch coefficients) n samples sums columns places =
+    fitted (validateOn n folds bound criterion samples sums columns places scratch coefficients)
+readOn (bands x degree confidence tolerance scratch) n samples sums columns places =
+    banded (bandFor n x degree confidence tolerance samples sums columns places scratch)
+readOn (reports settings lent) n samples sums columns places = reported (reportOn n settings samples sums columns places lent)

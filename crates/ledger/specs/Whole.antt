@@ -1,0 +1,44 @@
+-- Demand 3, whole: the claim about any list of calls from a book just opened. The theorem, `whole-book`, is proved in proofs/Book.antt. Definitions
+-- only.
+use mathlib.Core.Path.{_≡_}
+use mathlib.Core.List.{List, [], _∷_, _++_}
+use lib.ListN.{length}
+use lib.Ieee.{Float}
+use Rattle.monomial.specs.Samples.{Sample}
+use Rattle.monomial.specs.Rows.{rowsOf}
+use Rattle.monomial.specs.Sums.{sumsOf}
+use Rattle.book.specs.Calls.{bookOf, openOut}
+use Rattle.report.specs.declared.Settings.{Settings}
+use Rattle.report.specs.declared.Places.{Places}
+use Rattle.report.specs.Refusals.{reportRefusal}
+use Rattle.report.specs.Reports.{ReportOut, reportOn}
+use Rattle.ledger.specs.Ledger.{Call, reads, Reply, told, Lent, lentOf, replies, opened, ledgerEnd, ledgerReplies, Agrees}
+use Rattle.ledger.specs.Questions.{Question, Told, reports, reported, readOn}
+use Rattle.ledger.specs.Words.{Words}
+
+-- a report of the plain ledger
+abbrev pub ledgerReport : Lent → List Sample → Settings → Places → ReportOut
+ledgerReport m l settings places = reportOn (length l) settings l (sumsOf (rowsOf l)) (m .columns) (m .sums) places
+
+-- a report that stands in the list after the calls `before`; all are what the calls reply
+pub record ReportedIn (m : Lent) (before : List (Call Question)) (settings : Settings) (places : Places) (all : List (Reply Told)) : Type 0 where
+  -- its reply comes after theirs, and is the report of the ledger that they leave;
+  pub later : List (Reply Told)
+  pub stands : all ≡ ledgerReplies readOn m [] before ++ (told (reported (ledgerReport m (ledgerEnd m [] before) settings places)) ∷ later)
+  -- if it passes refusals 1 to 9, demand 3's words hold of it
+  pub words : reportRefusal (length (ledgerEnd m [] before)) settings (ledgerEnd m [] before) (m .columns) (m .sums) places ≡ 0
+      → Words settings (ledgerEnd m [] before) (ledgerReport m (ledgerEnd m [] before) settings places)
+
+-- the claim about the list of calls cs, where the lent memory held xs, ys and sums at opening
+pub record WholeBook (xs ys sums : List Float) (cs : List (Call Question)) : Type 0 where
+  -- answers call by call, every value that a call writes, the book, the columns below the count and past it, the sums and the places past 272
+  pub agrees : Agrees readOn xs ys sums (opened xs ys sums) [] cs
+  -- each report in it
+  pub each-report : (before : List (Call Question)) (settings : Settings) (places : Places) (after : List (Call Question))
+      → cs ≡ before ++ (reads (reports settings places) ∷ after)
+      → ReportedIn (lentOf xs ys sums) before settings places (replies readOn (opened xs ys sums) cs)
+
+-- Take any list of adds, corrections, withdrawals, frames, fits, validations, bands and reports, refused ones included, in any order, from a book just
+-- opened.
+abbrev pub AnyList : Type 0
+AnyList = (xs ys sums : List Float) → openOut sums .answer ≡ bookOf 0 → (cs : List (Call Question)) → WholeBook xs ys sums cs

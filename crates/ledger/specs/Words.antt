@@ -1,0 +1,58 @@
+-- What demand 3 says of a report that passes refusals 1 to 9, word by word, over the ledger's samples. Definitions only.
+use mathlib.Core.Path.{_≡_}
+use mathlib.Core.Bool.{true, false}
+use mathlib.Core.List.{List}
+use Prim.Native.Nat.{ℕ, _+_, _<_}
+use lib.ListN.{length}
+use lib.Ieee.{Float, lt}
+use Rattle.statistics.specs.Degrees.{maxDegree}
+use Rattle.monomial.specs.Samples.{Sample}
+use Rattle.monomial.specs.Rows.{rowsOf}
+use Rattle.monomial.specs.Sums.{sumsOf}
+use Rattle.solve.specs.Solve.{solve}
+use Rattle.choice.specs.Choice.{leastOf, solvedCount}
+use Rattle.choice.specs.Laws.{Chosen}
+use Rattle.choice.specs.declared.Scored.{Scored}
+use Rattle.fit.specs.Solved.{scoredBy}
+use Rattle.measure.specs.Measures.{inverseFails, covarianceAt}
+use Rattle.report.specs.declared.Settings.{Settings}
+use Rattle.report.specs.declared.ReportAnswer.the-variants as answers
+use Rattle.report.specs.Reports.{ReportOut, writtenBy}
+
+module _ (settings : Settings) (samples : List Sample) where
+  -- the ledger's sums
+  abbrev pub ledgerSums : List Float
+  ledgerSums = sumsOf (rowsOf samples)
+
+  -- A report's bound is `max_degree` for its setting and n, and its degrees run from 0 to the bound: this many.
+  abbrev pub degrees : ℕ
+  degrees = maxDegree (settings .bound) (length samples) + 1
+
+  -- whether a degree is solved, and its score
+  abbrev pub scored : ℕ → Scored
+  scored d = scoredBy (settings .criterion) ledgerSums (rowsOf samples) (rowsOf samples) (d + 1)
+
+  abbrev pub least : Float
+  least = leastOf scored degrees
+
+  -- Chosen is the lowest solved degree within its bound whose score is at most 2 above a finite least.
+  abbrev pub IsChosen : ℕ → Type 0
+  IsChosen d = Chosen scored degrees d
+
+  -- the words, of what a report answers and writes
+  pub record Words (o : ReportOut) : Type 0 where
+    -- No solved degree within that bound scores below this least.
+    pub none-below : (d : ℕ) → d < degrees → scored d .solved ≡ true → lt (scored d .score) least ≡ false
+    -- No two degrees are chosen.
+    pub one-chosen : (d e : ℕ) → IsChosen d → IsChosen e → d ≡ e
+    -- The report answers 11 exactly when none is chosen,
+    pub none-if-11 : o .answer ≡ answers.Refused 11 → (d : ℕ) → IsChosen d → ⊥
+    pub 11-if-none : ((d : ℕ) → IsChosen d → ⊥) → o .answer ≡ answers.Refused 11
+    -- and 12 exactly when the chosen degree's inverse fails.
+    pub fails-if-12 : o .answer ≡ answers.Refused 12 → (d : ℕ) × IsChosen d × (inverseFails ledgerSums (d + 1) ≡ true)
+    pub 12-if-fails : (d : ℕ) → IsChosen d → inverseFails ledgerSums (d + 1) ≡ true → o .answer ≡ answers.Refused 12
+    -- Otherwise it names the chosen degree and the number of solved degrees, with that fit's coefficients, errors, bands, outliers and pruned terms,
+    -- all as the ledger's samples give them.
+    pub otherwise : (d : ℕ) → IsChosen d → inverseFails ledgerSums (d + 1) ≡ false
+        → record { answer = o .answer; written = o .written }
+        ≡ writtenBy (length samples) settings samples d (solvedCount scored degrees) (solve ledgerSums (d + 1) .c) (covarianceAt ledgerSums (rowsOf samples) (d + 1))
