@@ -4,12 +4,13 @@
 //! `compare [--seed N] [--calls N]`: runs until so many calls were judged by polyfit. The seed is
 //! printed; `--seed clock` takes one from the clock. `--list N` runs one list only and prints it.
 //! `--write N` runs nothing and prints lists of N calls in the text form of docs/JOURNAL.md;
-//! `--journal FILE` runs the calls of such a text as one list.
+//! `--journal FILE` runs the calls of such a text as one list. `--bench` times the calls instead.
 //!
 //! Fails on a difference, which it shrinks and prints, and where something that the runs must make
 //! never happened.
 
 mod arguments;
+mod bench;
 mod call;
 mod coverage;
 mod generate;
@@ -38,12 +39,18 @@ struct Options {
     list: Option<u64>,
     write: Option<u64>,
     journal: Option<String>,
+    bench: bool,
 }
 
 fn options() -> Result<Options, String> {
-    let mut options = Options { seed: 1, calls: 100_000, list: None, write: None, journal: None };
+    let mut options =
+        Options { seed: 1, calls: 100_000, list: None, write: None, journal: None, bench: false };
     let mut arguments = std::env::args().skip(1);
     while let Some(name) = arguments.next() {
+        if name == "--bench" {
+            options.bench = true;
+            continue;
+        }
         let value = arguments.next().ok_or(format!("{name} needs a value"))?;
         let number = || value.parse::<u64>().map_err(|_| format!("{name}: {value} is no number"));
         match name.as_str() {
@@ -141,6 +148,10 @@ fn main() -> ExitCode {
     }
     let sides = further_sides();
     let sides: Vec<&dyn Side> = sides.iter().map(AsRef::as_ref).collect();
+    if options.bench {
+        bench::run(sides.first().copied().unwrap_or(&side::Judge));
+        return ExitCode::SUCCESS;
+    }
     if let Some(path) = &options.journal {
         return run_journal(path, &sides);
     }

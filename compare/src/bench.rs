@@ -1,0 +1,139 @@
+//! The benchmark: the same calls on the same samples by every side, in one run, as a table.
+//!
+//! Each time is the best of many calls. Ratios come first: the further side (the port) by the judge, which is a
+//! plain transcription, and polyfit by the port.
+
+use std::hint::black_box;
+use std::time::{Duration, Instant};
+
+use judge::fit::{Criterion, Settings};
+use judge::statistics::{Confidence, DegreeBound, Tolerance};
+use judge::Sample;
+
+use crate::call::Call;
+use crate::memory::{Lent, Memory};
+use crate::reference;
+use crate::side::{Judge, Side};
+
+const COUNTS: [usize; 4] = [10, 100, 1_000, 4_096];
+const BOUNDS: [usize; 3] = [3, 8, 15];
+const FOLDS: usize = 10;
+
+/// How long a call is repeated.
+const SPAN: Duration = Duration::from_millis(300);
+
+/// x even in [−1, 1], y a smooth curve with a small ripple.
+fn samples(count: usize) -> Vec<Sample> {
+    let at = |i: usize| {
+        let x = -1.0 + 2.0 * i as f64 / (count - 1) as f64;
+        let ripple = ((i * 7919) % 101) as f64 / 101.0 - 0.5;
+        Sample { x, y: 350.0 + 120.0 * x - 40.0 * x * x + 9.0 * x * x * x + ripple }
+    };
+    (0..count).map(at).collect()
+}
+
+fn memory_of(samples: &[Sample]) -> Memory {
+    let count = samples.len();
+    Memory {
+        x: samples.iter().map(|sample| sample.x).collect(),
+        y: samples.iter().map(|sample| sample.y).collect(),
+        sums: judge::sums::folded_afresh(samples),
+        scratch: vec![0.0; count],
+        coefficients: vec![0.0; 16],
+        errors: vec![0.0; 16],
+        pruned: vec![0; 16],
+        lower: vec![0.0; count],
+        upper: vec![0.0; count],
+        outlier: vec![0; count],
+    }
+}
+
+fn lent(memory: &mut Memory) -> Lent<'_> {
+    Lent {
+        x: &mut memory.x,
+        y: &mut memory.y,
+        sums: &mut memory.sums,
+        scratch: &mut memory.scratch,
+        coefficients: &mut memory.coefficients,
+        errors: &mut memory.errors,
+        pruned: &mut memory.pruned,
+        lower: &mut memory.lower,
+        upper: &mut memory.upper,
+        outlier: &mut memory.outlier,
+    }
+}
+
+/// The best time of a call, in milliseconds.
+fn best(mut call: impl FnMut()) -> f64 {
+    let (start, mut best) = (Instant::now(), f64::INFINITY);
+    while start.elapsed() < SPAN {
+        let begun = Instant::now();
+        call();
+        best = best.min(begun.elapsed().as_secs_f64() * 1e3);
+    }
+    best
+}
+
+fn by_side(side: &dyn Side, call: &Call, count: usize, samples: &[Sample]) -> f64 {
+    let mut memory = memory_of(samples);
+    best(|| {
+        black_box(side.make(call, count, lent(&mut memory)));
+    })
+}
+
+/// polyfit's time, where it has such a call.
+fn by_reference(call: &Call, samples: &[Sample]) -> Option<f64> {
+    match *call {
+        Call::Fit { degree } => Some(best(|| drop(black_box(reference::fit(samples, degree))))),
+        Call::Report(settings) => {
+            Some(best(|| drop(black_box(reference::report(samples, settings)))))
+        }
+        Call::Validate { folds, bound, criterion } => Some(best(|| {
+            drop(black_box(reference::validate(samples, folds, bound, criterion)));
+        })),
+        _ => None,
+    }
+}
+
+fn print_row(name: &str, call: &Call, count: usize, samples: &[Sample], port: &dyn Side) {
+    let plain = by_side(&Judge, call, count, samples);
+    let ported = by_side(port, call, count, samples);
+    let theirs = by_reference(call, samples);
+    let ratio = theirs.map_or("".into(), |time| format!("{:.1}", time / ported));
+    let time = theirs.map_or("".into(), |time| format!("{time:.4}"));
+    println!(
+        "| {name} | {} | {:.2} | {ratio} | {ported:.4} | {plain:.4} | {time} |",
+        samples.len(),
+        ported / plain
+    );
+}
+
+/// The calls that do not depend on a bound, then those that do.
+fn print_rows(count: usize, port: &dyn Side) {
+    let samples = samples(count);
+    let middle = count / 2;
+    let add = Call::Add(samples[count - 1]);
+    print_row("add", &add, count - 1, &samples, port);
+    print_row("correct", &Call::Correct { index: middle, y: 1.0 }, count, &samples, port);
+    print_row("withdraw", &Call::Withdraw { index: middle }, count, &samples, port);
+    for degree in BOUNDS.into_iter().filter(|degree| *degree < count) {
+        let bound = DegreeBound::Custom(degree);
+        let (criterion, confidence) = (Criterion::Aic, Confidence::P95);
+        let settings = Settings { bound, criterion, confidence, tolerance: Tolerance::None };
+        let fit = Call::Fit { degree };
+        print_row(&format!("fit, degree {degree}"), &fit, count, &samples, port);
+        let report = Call::Report(settings);
+        print_row(&format!("report, bound {degree}"), &report, count, &samples, port);
+        let validate = Call::Validate { folds: FOLDS, bound, criterion };
+        print_row(&format!("validate, bound {degree}"), &validate, count, &samples, port);
+    }
+}
+
+/// Prints the table.
+pub fn run(port: &dyn Side) {
+    println!("| Call | n | port / plain | polyfit / port | port, ms | plain, ms | polyfit, ms |");
+    println!("|---|---|---|---|---|---|---|");
+    for count in COUNTS {
+        print_rows(count, port);
+    }
+}
