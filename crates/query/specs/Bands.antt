@@ -1,7 +1,8 @@
--- Document 01's band for one x and degree: what it answers and writes, from samples, sums and lengths. Definitions only.
-use mathlib.Core.Path.{_≡_}
-use mathlib.Core.List.{List, [], _∷_}
-use Prim.Native.Nat.{ℕ, _+_}
+-- Document 01's band for one x and degree: what it answers and writes, from samples, sums and lengths. Assumes nothing.
+use mathlib.Core.Path.{_≡_, refl}
+use mathlib.Core.List.{List, [], _∷_, List·Memᴰ, List·Memᴰ·head, List·Memᴰ·cases-cons, Memᴰ·append-right}
+use mathlib.Core.Logic.{⊎-elim}
+use Prim.Native.Nat.{ℕ, zero, suc, _+_}
 use lib.ListN.{length, take}
 use lib.Ieee.{Float}
 use Rattle.loops.specs.Places.{table}
@@ -16,12 +17,14 @@ use Rattle.solve.specs.Solve.{solve}
 use Rattle.covariance.specs.Bands.{bandAt}
 use Rattle.covariance.specs.declared.Band.{Band}
 use Rattle.book.specs.Calls.{settle}
+use Rattle.book.specs.Refusals.{numbered}
 use Rattle.book.specs.Many.{ysOf}
+use Rattle.measure.specs.Given.{settled-among}
 use Rattle.measure.specs.Measures.{measureRefusal, covarianceAt}
 use Rattle.measure.specs.Written.{over, zeros}
 use Rattle.query.specs.declared.BandAnswer.{BandAnswer}
 use Rattle.query.specs.declared.BandAnswer.the-variants as answers
-use Rattle.query.specs.Refusals.{bandRefusal}
+use Rattle.query.specs.Refusals.{bandRefusal, band-numbers}
 
 -- the answer, and the values written to scratch
 pub record BandOut : Type 0 where
@@ -64,3 +67,19 @@ bandOut n x degree confidence tolerance xs ys sums scratch =
 pub record BandIs (o : BandOut) (r : BandAnswer) (s s′ : List Float) : Type 0 where
   pub answer : r ≡ o .answer
   pub scratch : s′ ≡ over (o .scratch) s
+
+-- ---- laws
+
+band-past-number : (r : ℕ) (b : Band) → List·Memᴰ r (0 ∷ 10 ∷ 12 ∷ []) → List·Memᴰ (bandNumber (settle r (answers.Band b) (answers.Refused r))) (0 ∷ 1 ∷ 4 ∷ 7 ∷ 8 ∷ 9 ∷ 10 ∷ 12 ∷ [])
+band-past-number zero b h = List·Memᴰ·head refl
+band-past-number (suc k) b h =
+    ⊎-elim (λ e. List·Memᴰ·head e) (λ m. Memᴰ·append-right (0 ∷ 1 ∷ 4 ∷ 7 ∷ 8 ∷ 9 ∷ []) m) (List·Memᴰ·cases-cons h)
+
+-- what a band may answer, by document 01's numbers
+pub band-answers : (n : ℕ) (x : Float) (degree : ℕ) (confidence : Confidence) (tolerance : Tolerance) (samples : List Sample) (sums : List Float) (columns : List ℕ) (places scratch : ℕ)
+    → List·Memᴰ (bandNumber (bandFor n x degree confidence tolerance samples sums columns places scratch .answer)) (0 ∷ 1 ∷ 4 ∷ 7 ∷ 8 ∷ 9 ∷ 10 ∷ 12 ∷ [])
+unfolding bandFor bandPast measureRefusal
+band-answers n x degree confidence tolerance samples sums columns places scratch =
+    settled-among (λ (o : BandOut). bandNumber (o .answer)) (bandRefusal n x degree confidence tolerance samples columns places scratch)
+    (bandPast n x degree confidence tolerance samples sums) _ (0 ∷ 1 ∷ 4 ∷ 7 ∷ 8 ∷ 9 ∷ []) (10 ∷ 12 ∷ [])
+    (band-numbers n x degree confidence tolerance samples columns places scratch) (band-past-number _ _ (numbered _)) refl

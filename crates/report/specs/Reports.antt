@@ -1,7 +1,7 @@
--- Document 01's report: what it answers and writes, from samples, sums and lengths. Definitions only.
-use mathlib.Core.Path.{_≡_}
-use mathlib.Core.Bool.{cond}
-use mathlib.Core.List.{List, [], _∷_}
+-- Document 01's report: what it answers and writes, from samples, sums and lengths. Assumes nothing.
+use mathlib.Core.Path.{_≡_, refl}
+use mathlib.Core.Bool.{Bool, true, false, cond}
+use mathlib.Core.List.{List, [], _∷_, List·Memᴰ, List·Memᴰ·head, Memᴰ·append-right}
 use Prim.Native.Nat.{ℕ, _+_}
 use lib.ListN.{length, take}
 use lib.Ieee.{Float}
@@ -18,13 +18,14 @@ use Rattle.covariance.specs.Bands.{lowersOf, uppersOf, outliersOf}
 use Rattle.covariance.specs.Pruning.{degreesOfFreedom, prunedBytes}
 use Rattle.book.specs.Calls.{settle}
 use Rattle.book.specs.Many.{ysOf}
+use Rattle.measure.specs.Given.{settled-among}
 use Rattle.measure.specs.Measures.{inverseFails, covarianceAt}
 use Rattle.measure.specs.Written.{over, zeros}
 use Rattle.report.specs.declared.Settings.{Settings}
 use Rattle.report.specs.declared.Places.{Places}
 use Rattle.report.specs.declared.ReportAnswer.{ReportAnswer}
 use Rattle.report.specs.declared.ReportAnswer.the-variants as answers
-use Rattle.report.specs.Refusals.{reportRefusal}
+use Rattle.report.specs.Refusals.{reportRefusal, report-numbers}
 use Rattle.report.specs.Chosen.{reportChoice}
 
 -- what a report writes but for scratch
@@ -120,3 +121,24 @@ pub record Writes (o : Told) (r : ReportAnswer) (c c′ e e′ : List Float) (p 
 pub record ReportIs (o : ReportOut) (r : ReportAnswer) (s s′ c c′ e e′ : List Float) (p p′ : List ℕ) (l l′ u u′ : List Float) (b b′ : List ℕ) : Type 0 where
   pub scratch : s′ ≡ over (o .scratch) s
   pub outputs : Writes (record { answer = o .answer; written = o .written }) r c c′ e e′ p p′ l l′ u u′ b b′
+
+-- ---- laws
+
+report-past-number : (n : ℕ) (settings : Settings) (samples : List Sample) (sums : List Float) (solved : ℕ) (o : OptionDegree)
+    → List·Memᴰ (reportNumber (reportOf n settings samples sums solved o .answer)) (0 ∷ 1 ∷ 4 ∷ 7 ∷ 8 ∷ 11 ∷ 12 ∷ [])
+unfolding reportOf writtenBy
+report-past-number n settings samples sums solved None = Memᴰ·append-right (0 ∷ 1 ∷ 4 ∷ 7 ∷ 8 ∷ []) (List·Memᴰ·head refl)
+report-past-number n settings samples sums solved (Some d) = go (inverseFails sums (d .0 + 1)) _ refl
+  where
+    go : (t : Bool) (w : Told) → reportNumber (w .answer) ≡ 0 → List·Memᴰ (reportNumber (cond t (told 12) w .answer)) (0 ∷ 1 ∷ 4 ∷ 7 ∷ 8 ∷ 11 ∷ 12 ∷ [])
+    go true w h = Memᴰ·append-right (0 ∷ 1 ∷ 4 ∷ 7 ∷ 8 ∷ 11 ∷ []) (List·Memᴰ·head refl)
+    go false w h = List·Memᴰ·head h
+
+-- what a report may answer, by document 01's numbers
+pub report-answers : (n : ℕ) (settings : Settings) (samples : List Sample) (sums : List Float) (columns : List ℕ) (length : ℕ) (places : Places)
+    → List·Memᴰ (reportNumber (reportOn n settings samples sums columns length places .answer)) (0 ∷ 1 ∷ 4 ∷ 7 ∷ 8 ∷ 11 ∷ 12 ∷ [])
+unfolding reportOn reportPast
+report-answers n settings samples sums columns length places =
+    settled-among (λ (o : ReportOut). reportNumber (o .answer)) (reportRefusal n settings samples columns length places) (reportPast n settings samples sums) _
+    (0 ∷ 1 ∷ 4 ∷ 7 ∷ 8 ∷ []) (11 ∷ 12 ∷ []) (report-numbers n settings samples columns length places)
+    (report-past-number n settings samples sums _ _) refl
