@@ -1,0 +1,2 @@
+-- Laws that the proofs of the C interface cite.
+pub mod Promises

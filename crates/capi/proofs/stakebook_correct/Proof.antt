@@ -1,0 +1,14 @@
+-- `capi::stakebook_correct` meets its contract. Assumes nothing.
+use borrow.Author.Needs.{needs}
+use Rattle.capi.proofs.Promises.{book-packed}
+use Rattle.capi.proofs.stakebook_correct.Statement.{statement}
+use Rattle.capi.proofs.stakebook_correct.Tie as tie
+
+returns : tie.Need-returns
+returns c =
+    let at-correct = c .before .before .before .before .before .correct in
+    book-packed (at-correct .ensures) (c .book .ensures)
+
+pub stakebook-correct-spec : {M : Type 1} → statement M
+stakebook-correct-spec =
+    tie.close (tie.spec (λ c κs. search needs) (λ c κs. search needs) (λ c. search needs) (λ c. search needs) returns)

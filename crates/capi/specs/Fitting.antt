@@ -1,0 +1,273 @@
+-- What the calls can answer fits the fields that it is packed into: a count of at most 4,096, a degree of at most 15, at most 16 solved degrees and
+-- pruned terms, at most 4,096 outliers, and refusals 1 to 12. Assumes nothing.
+use mathlib.Core.Path.{_≡_, refl, ap, _∙_}
+use mathlib.Core.Bool.{Bool, true, false, cond, not, _&&_}
+use mathlib.Core.List.{List, [], _∷_, map, List·Memᴰ, List·Memᴰ·head, List·Memᴰ·tail}
+use Prim.Native.Nat.{ℕ, zero, suc, _+_, _-_, _≤_, max}
+use native.Mathlib.Numerals.{add-one}
+use native.Mathlib.Omega.{arith}
+use lib.Dec.{ltb}
+use lib.ListN.{length, getD, take, length-map}
+use lib.Ieee.{Float, nan}
+use Rattle.loops.specs.Fold.{fold}
+use Rattle.loops.specs.Loop.{from, turns}
+use Rattle.loops.specs.Places.{table, length-table}
+use Rattle.basis.specs.declared.OptionDegree.{OptionDegree}
+use Rattle.basis.specs.declared.OptionDegree.the-variants.{Some, None}
+use Rattle.statistics.specs.Degrees.{maxDegree}
+use Rattle.statistics.specs.declared.DegreeBound.{DegreeBound}
+use Rattle.statistics.specs.declared.Confidence.{Confidence}
+use Rattle.statistics.specs.declared.Tolerance.{Tolerance}
+use Rattle.monomial.specs.Samples.{Sample, samplesOf, length-samples}
+use Rattle.monomial.specs.Rows.{Row, rowOf, rowsOf}
+use Rattle.score.specs.declared.Criterion.{Criterion}
+use Rattle.choice.specs.Choice.{solvedCount}
+use Rattle.choice.specs.Laws.{chosen}
+use Rattle.choice.specs.declared.Scored.{Scored}
+use Rattle.fit.specs.Solved.{isSolved}
+use Rattle.fit.specs.Chosen.{tried, choiceOf, curveCounts}
+use Rattle.folds.specs.Folds.{validated, validatedChoice}
+use Rattle.solve.specs.Solve.{solve}
+use Rattle.covariance.specs.declared.Band.{Band}
+use Rattle.covariance.specs.Marks.{mark, ones, ones-again}
+use Rattle.covariance.specs.Pruning.{prunes, prunedAt, prunedBytes}
+use Rattle.covariance.specs.Bands.{bandAt, outlies, outlierOf, outliersOf}
+use Rattle.frame.specs.Frame.{decode}
+use Rattle.book.specs.Refusals.{by, numbered, openRefusal, addRefusal, correctRefusal, withdrawRefusal, frameAddRefusal, open-numbers, add-numbers, correct-numbers, withdraw-numbers, frame-numbers, add-room, correct-room, withdraw-room, frame-room}
+use Rattle.book.specs.Calls.{Out, stateOf, settle, refused, openOut, addOut, correctOut, withdrawOut, addFrameOut}
+use Rattle.book.specs.Many.{many-added, added-is}
+use Rattle.measure.specs.Measures.{inverseFails, measureRefusal, covarianceAt}
+use Rattle.query.specs.Refusals.{fitRefusal, validateRefusal, bandRefusal, fit-numbers, validate-numbers, band-numbers, fit-room, validate-room}
+use Rattle.query.specs.declared.BandAnswer.the-variants as bands
+use Rattle.query.specs.Fits.{FitOut, fitRefused, fitPast, fitOn, fitOut, validatePast, validateOn, validateOut}
+use Rattle.query.specs.Bands.{BandOut, bandRefused, bandPast, bandFor, bandOut}
+use Rattle.report.specs.declared.ReportAnswer.the-variants as reports
+use Rattle.report.specs.declared.Settings.{Settings}
+use Rattle.report.specs.declared.Places.{Places}
+use Rattle.report.specs.Refusals.{reportRefusal, report-numbers, report-room}
+use Rattle.report.specs.Chosen.{reportChoice, chosen-solved}
+use Rattle.report.specs.Reports.{ReportOut, nothing, told, reportOf, reportPast, reportOn, reportOut, writtenBy}
+use Rattle.capi.specs.Packed.{BookFits, FitFits, BandFits, ReportFits, bandInto}
+
+-- the largest of a list of numbers
+abbrev pub largest : List ℕ → ℕ
+largest [] = 0
+largest (k ∷ l) = max k (largest l)
+
+-- no number of the list is above it
+pub among : {k : ℕ} (l : List ℕ) → List·Memᴰ k l → k ≤ largest l
+among (a ∷ l) (List·Memᴰ·head e) = omega arith
+among (a ∷ l) (List·Memᴰ·tail m) = omega (arith, among l m)
+
+-- ---- counts
+
+mark-most : (b : Bool) → mark b ≤ 1
+mark-most true = omega arith
+mark-most false = omega arith
+
+-- marks are at most as many as the places of the list
+ones-map : {A : Type 0} (f : A → ℕ) → ((a : A) → f a ≤ 1) → (l : List A) → ones (map f l) ≤ length l
+unfolding ones fold
+ones-map {A} f h l =
+    let w : fold _+_ 0 (map f l) ≤ 0 + length l = go 0 l in
+    omega arith
+  where
+    go : (m : ℕ) (l : List A) → fold _+_ m (map f l) ≤ m + length l
+    go m [] = omega arith
+    go m (a ∷ l) = omega (arith, go (m + f a) l, h a)
+
+none-marked : (f : ℕ → ℕ) → ones (table f 0) ≡ 0
+unfolding ones fold table
+none-marked f = refl
+
+ones-table : (f : ℕ → ℕ) → ((i : ℕ) → f i ≤ 1) → (n : ℕ) → ones (table f n) ≤ n
+ones-table f h zero = omega (arith, none-marked f)
+ones-table f h (suc n) = omega (arith, ones-again f n, ones-table f h n, h n, ap (λ m. ones (table f m)) (add-one n))
+
+-- the solved degrees are at most the degrees tried
+solved-most : (S : ℕ → Scored) (b : ℕ) → solvedCount S b ≤ b
+unfolding solvedCount from turns
+solved-most S b =
+    let w : solvedCount S b ≤ 0 + (b - 0) = go 0 (b - 0) 0 in
+    omega arith
+  where
+    one : (t : Bool) (m : ℕ) → cond t (m + 1) m ≤ m + 1
+    one true m = omega arith
+    one false m = omega arith
+
+    go : (i n m : ℕ) → turns (λ d m. cond (S d .solved) (m + 1) m) i n m ≤ m + n
+    go i zero m = omega arith
+    go i (suc n) m = omega (arith, go (i + 1) n (cond (S i .solved) (m + 1) m), one (S i .solved) m)
+
+-- ---- the calls that change a book
+
+book-fits : (k : ℕ) (good : Out) (xs ys sums : List Float) → k ≤ 12 → (k ≡ 0 → BookFits (good .answer)) → BookFits (settle k good (refused k xs ys sums) .answer)
+unfolding BookFits
+book-fits zero good xs ys sums h g = g refl
+book-fits (suc k) good xs ys sums h g = (omega arith, h)
+
+pub open-fits : (sums : List Float) → BookFits (openOut sums .answer)
+unfolding openOut BookFits
+open-fits sums =
+    book-fits (openRefusal (length sums)) _ [] [] sums (omega (arith, among _ (open-numbers (length sums)))) (λ e. omega arith)
+
+module _ (n : ℕ) (xs ys sums : List Float) where
+  pub add-fits : (p : Sample) → BookFits (addOut n p xs ys sums .answer)
+  unfolding addOut BookFits
+  add-fits p =
+      book-fits (addRefusal n p (length xs ∷ length ys ∷ []) (length sums)) _ xs ys sums
+      (omega (arith, among _ (add-numbers n p (length xs ∷ length ys ∷ []) (length sums))))
+      (λ e. add-room n (length xs) (length ys) (length sums) p e .0 .most)
+
+  pub correct-fits : (i : ℕ) (y : Float) → BookFits (correctOut n i y xs ys sums .answer)
+  unfolding correctOut BookFits
+  correct-fits i y =
+      book-fits (correctRefusal n i y (length xs ∷ length ys ∷ []) (length sums)) _ xs ys sums
+      (omega (arith, among _ (correct-numbers n i y (length xs ∷ length ys ∷ []) (length sums))))
+      (λ e. correct-room n (length xs) (length ys) (length sums) i y e .0 .most)
+
+  pub withdraw-fits : (i : ℕ) → BookFits (withdrawOut n i xs ys sums .answer)
+  unfolding withdrawOut BookFits
+  withdraw-fits i =
+      book-fits (withdrawRefusal n i (length xs ∷ length ys ∷ []) (length sums)) _ xs ys sums
+      (omega (arith, among _ (withdraw-numbers n i (length xs ∷ length ys ∷ []) (length sums))))
+      (λ e. omega (arith, withdraw-room n (length xs) (length ys) (length sums) i e .0 .most))
+
+  pub frame-fits : (f : List ℕ) → BookFits (addFrameOut n f xs ys sums .answer)
+  unfolding addFrameOut BookFits
+  frame-fits f =
+      let s = stateOf n xs ys sums in
+      book-fits (frameAddRefusal n f (length xs ∷ length ys ∷ []) (length sums)) _ xs ys sums
+      (omega (arith, among _ (frame-numbers n f (length xs ∷ length ys ∷ []) (length sums))))
+      (λ e. let r = frame-room n (length xs) (length ys) (length sums) f e in rw (many-added (decode f) s (r .0) (r .2) ∙ added-is (decode f) s) (r .0 .most))
+
+-- ---- fit and validation
+
+past-fits : (n degree : ℕ) (samples : List Sample) (sums : List Float) → degree ≤ 15 → FitFits (fitPast n degree samples sums .answer)
+unfolding fitPast FitFits
+past-fits n degree samples sums h = go (isSolved sums (rowsOf samples) (degree + 1)) refl
+  where
+    go : (t : Bool) → isSolved sums (rowsOf samples) (degree + 1) ≡ t → FitFits (fitPast n degree samples sums .answer)
+    go true e = rw e h
+    go false e = rw e (omega arith, omega arith)
+
+fit-settles : (k : ℕ) (good : FitOut) → k ≤ 12 → (k ≡ 0 → FitFits (good .answer)) → FitFits (settle k good (fitRefused k) .answer)
+unfolding FitFits
+fit-settles zero good h g = g refl
+fit-settles (suc k) good h g = (omega arith, h)
+
+module _ (n : ℕ) (xs ys sums scratch coefficients : List Float) where
+  pub fit-fits : (degree : ℕ) → FitFits (fitOut n xs ys sums scratch coefficients degree .answer)
+  unfolding fitOn
+  fit-fits degree =
+      fit-settles (fitRefusal n degree (samplesOf n xs ys) (length xs ∷ length ys ∷ []) (length sums) (length scratch) (length coefficients)) _
+      (omega (arith, among _ (fit-numbers n degree (samplesOf n xs ys) (length xs ∷ length ys ∷ []) (length sums) (length scratch) (length coefficients))))
+      (λ e.
+      past-fits n degree _ _ (fit-room n degree (samplesOf n xs ys) (length xs) (length ys) (length sums) (length scratch) (length coefficients) e .most))
+
+  pub validate-fits : (folds : ℕ) (bound : DegreeBound) (criterion : Criterion)
+      → FitFits (validateOut n xs ys sums scratch coefficients folds bound criterion .answer)
+  unfolding validateOn validatePast validatedChoice FitFits
+  validate-fits folds bound criterion =
+      let samples = samplesOf n xs ys in
+      fit-settles (validateRefusal n folds bound samples (length xs ∷ length ys ∷ []) (length sums) (length scratch) (length coefficients)) _
+      (omega (arith, among _ (validate-numbers n folds bound samples (length xs ∷ length ys ∷ []) (length sums) (length scratch) (length coefficients))))
+      (λ e.
+      chosen-fits (validate-room n folds bound samples (length xs) (length ys) (length sums) (length scratch) (length coefficients) e .most)
+      (validatedChoice criterion (rowsOf samples) folds (maxDegree bound n)) refl)
+    where
+      chosen-fits : maxDegree bound n ≤ 15 → (o : OptionDegree) → validatedChoice criterion (rowsOf (samplesOf n xs ys)) folds (maxDegree bound n) ≡ o
+          → FitFits (validatePast n o (samplesOf n xs ys) (take 272 sums) .answer)
+      chosen-fits h None e = (omega arith, omega arith)
+      chosen-fits h (Some d) e =
+          let w = chosen (λ d. validated criterion (rowsOf (samplesOf n xs ys)) folds (d + 1)) (maxDegree bound n + 1) (d .0) e in
+          past-fits n (d .0) _ _ (omega (arith, w .within))
+
+-- ---- the band
+
+measure-most : (sums : List Float) (rows : List Row) (k : ℕ) → measureRefusal sums rows k ≤ 12
+unfolding measureRefusal
+measure-most sums rows k = omega (arith, among _ (numbered (by (not (isSolved sums rows k)) 10 ∷ by (inverseFails sums k) 12 ∷ [])))
+
+band-settles : (k : ℕ) (b : Band) → k ≤ 12 → BandFits (settle k (bands.Band b) (bands.Refused k))
+unfolding BandFits
+band-settles zero b h = tt
+band-settles (suc k) b h = (omega arith, h)
+
+out-settles : (k : ℕ) (good : BandOut) → k ≤ 12 → BandFits (good .answer) → BandFits (settle k good (bandRefused k) .answer)
+unfolding BandFits
+out-settles zero good h g = g
+out-settles (suc k) good h g = (omega arith, h)
+
+into-fits : (places : ℕ) (o : BandOut) → BandFits (o .answer) → BandFits (bandInto places o .answer)
+unfolding bandInto BandFits
+into-fits places o h = go (ltb places 3)
+  where
+    go : (t : Bool) → BandFits (cond t (bandRefused 1) o .answer)
+    go true = (omega arith, omega arith)
+    go false = h
+
+pub band-fits : (n : ℕ) (x : Float) (degree : ℕ) (confidence : Confidence) (tolerance : Tolerance) (xs ys sums scratch : List Float) (places : ℕ)
+    → BandFits (bandInto places (bandOut n x degree confidence tolerance xs ys sums scratch) .answer)
+unfolding bandFor bandPast
+band-fits n x degree confidence tolerance xs ys sums scratch places =
+    let samples = samplesOf n xs ys in
+    into-fits places _
+    (out-settles (bandRefusal n x degree confidence tolerance samples (length xs ∷ length ys ∷ []) (length sums) (length scratch)) _
+    (omega (arith, among _ (band-numbers n x degree confidence tolerance samples (length xs ∷ length ys ∷ []) (length sums) (length scratch))))
+    (band-settles (measureRefusal (take 272 sums) (rowsOf samples) (degree + 1)) _ (measure-most _ _ _)))
+
+-- ---- the report
+
+module _ (k : ℕ) (c v : List Float) where
+  outliers-most : (t : Tolerance) (z sd : Float) (samples : List Sample) → length samples ≤ 4096 → ones (outliersOf k c v t z sd (rowsOf samples)) ≤ 4096
+  unfolding outlierOf
+  outliers-most t z sd samples h =
+      let marks = ones-map (outlierOf k c v t z sd) (λ r. mark-most (outlies (bandAt k c v t z sd (r .terms)) (r .y))) (rowsOf samples) in
+      omega (arith, marks, length-map samples rowOf)
+
+  pruned-most : (t : Float) → ones (prunedBytes k c v t) ≤ 16
+  unfolding prunedAt
+  pruned-most t = ones-table (prunedAt k c v t) (λ i. mark-most (ltb i k && prunes t (getD c i nan) (getD v i nan))) 16
+
+module _ (n : ℕ) (settings : Settings) (samples : List Sample) (sums : List Float)
+    (few : length samples ≤ 4096) (most : maxDegree (settings .bound) n ≤ 15) where
+  written-fits : (degree solved : ℕ) (c v : List Float) → degree ≤ 15 → solved ≤ 16 → ReportFits (writtenBy n settings samples degree solved c v .answer)
+  unfolding ReportFits writtenBy
+  written-fits degree solved c v h k =
+      (h, k, outliers-most (degree + 1) c v (settings .tolerance) _ _ samples few, pruned-most (degree + 1) c _ _)
+
+  choice-solved : reportChoice n settings samples sums .solved ≤ 16
+  unfolding reportChoice choiceOf
+  choice-solved =
+      let counts = curveCounts (maxDegree (settings .bound) n) in
+      omega (arith, solved-most (tried (settings .criterion) sums (rowsOf samples) counts) (length counts), length-table (λ (d : ℕ). d + 1) (maxDegree (settings .bound) n + 1))
+
+  chosen-fits : (o : OptionDegree) → reportChoice n settings samples sums .chosen ≡ o
+      → ReportFits (reportOf n settings samples sums (reportChoice n settings samples sums .solved) o .answer)
+  unfolding reportOf ReportFits
+  chosen-fits None e = (omega arith, omega arith)
+  chosen-fits (Some d) e = go (inverseFails sums (d .0 + 1))
+    where
+      go : (t : Bool)
+          → ReportFits
+          (cond t (told 12) (writtenBy n settings samples (d .0) (reportChoice n settings samples sums .solved) (solve sums (d .0 + 1) .c) (covarianceAt sums (rowsOf samples) (d .0 + 1))) .answer)
+      go true = (omega arith, omega arith)
+      go false = written-fits (d .0) _ _ _ (omega (arith, chosen-solved n settings samples sums d e .0)) choice-solved
+
+report-settles : (k : ℕ) (good : ReportOut) → k ≤ 12 → (k ≡ 0 → ReportFits (good .answer))
+    → ReportFits (settle k good (record { answer = reports.Refused k; scratch = []; written = nothing }) .answer)
+unfolding ReportFits
+report-settles zero good h g = g refl
+report-settles (suc k) good h g = (omega arith, h)
+
+pub report-fits : (n : ℕ) (settings : Settings) (xs ys sums : List Float) (places : Places) → ReportFits (reportOut n settings xs ys sums places .answer)
+unfolding reportOn reportPast
+report-fits n settings xs ys sums places =
+    let samples = samplesOf n xs ys in
+    report-settles (reportRefusal n settings samples (length xs ∷ length ys ∷ []) (length sums) places) _
+    (omega (arith, among _ (report-numbers n settings samples (length xs ∷ length ys ∷ []) (length sums) places)))
+    (λ e.
+    let w = report-room n settings samples (length xs) (length ys) (length sums) places e in
+    chosen-fits n settings samples (take 272 sums) (omega (arith, w .room .most, length-samples n xs ys)) (w .most)
+    (reportChoice n settings samples (take 272 sums) .chosen) refl)

@@ -1,0 +1,99 @@
+-- How the C interface packs an answer into one number of 64 bits, and what each of its calls promises. Definitions only.
+use mathlib.Core.Path.{_≡_}
+use mathlib.Core.Bool.{cond}
+use mathlib.Core.List.{List, [], _∷_}
+use Prim.Native.Nat.{ℕ, _+_, _*_, _≤_}
+use lib.Dec.{ltb}
+use lib.Ieee.{Float}
+use Rattle.book.specs.declared.Answer.{Answer}
+use Rattle.book.specs.declared.Answer.the-variants as books
+use Rattle.book.specs.Calls.{Out, Is}
+use Rattle.query.specs.declared.FitAnswer.{FitAnswer}
+use Rattle.query.specs.declared.FitAnswer.the-variants as fits
+use Rattle.query.specs.declared.BandAnswer.{BandAnswer}
+use Rattle.query.specs.declared.BandAnswer.the-variants as bands
+use Rattle.query.specs.Fits.{FitOut, FitIs}
+use Rattle.query.specs.Bands.{BandOut, BandIs, bandRefused}
+use Rattle.report.specs.declared.ReportAnswer.{ReportAnswer}
+use Rattle.report.specs.declared.ReportAnswer.the-variants as reports
+use Rattle.report.specs.Reports.{ReportOut, ReportIs}
+use Rattle.measure.specs.Written.{over}
+
+-- ---- packed answers
+
+-- a refusal's number, in the top byte: bits 56 to 63
+abbrev pub packedRefusal : ℕ → ℕ
+packedRefusal number = number * 0x100_0000_0000_0000
+
+-- a book: its count
+unfoldable pub packedBook : Answer → ℕ
+packedBook (books.Book b) = b .count
+packedBook (books.Refused k) = packedRefusal k
+
+-- a fit or a validation: its degree
+unfoldable pub packedFit : FitAnswer → ℕ
+packedFit (fits.Fit d) = d .0
+packedFit (fits.Refused k) = packedRefusal k
+
+-- a report: the degree in bits 0 to 7, the solved degrees in bits 8 to 15, the pruned terms in bits 16 to 23, the outliers in bits 32 to 47
+abbrev pub packedCounts : ℕ → ℕ → ℕ → ℕ → ℕ
+packedCounts degree solved outliers pruned = degree + solved * 0x100 + pruned * 0x1_0000 + outliers * 0x1_0000_0000
+
+unfoldable pub packedReport : ReportAnswer → ℕ
+packedReport (reports.Report d solved outliers pruned) = packedCounts (d .0) solved outliers pruned
+packedReport (reports.Refused k) = packedRefusal k
+
+-- a band: 0, its three numbers are written
+unfoldable pub packedBand : BandAnswer → ℕ
+packedBand (bands.Band b) = 0
+packedBand (bands.Refused k) = packedRefusal k
+
+-- value, lower and upper; a refused call writes none
+unfoldable pub bandNumbers : BandAnswer → List Float
+bandNumbers (bands.Band b) = b .value ∷ b .lower ∷ b .upper ∷ []
+bandNumbers (bands.Refused k) = []
+
+-- a band into so many places: 1 judges them with the other lengths, before all else
+unfoldable pub bandInto : ℕ → BandOut → BandOut
+bandInto places o = cond (ltb places 3) (bandRefused 1) o
+
+-- ---- what fits its field: refusals 1 to 12, and what the calls can answer
+
+abbrev pub RefusalFits : ℕ → Type 0
+RefusalFits k = (1 ≤ k) × (k ≤ 12)
+
+unfoldable pub BookFits : Answer → Type 0
+BookFits (books.Book b) = b .count ≤ 4096
+BookFits (books.Refused k) = RefusalFits k
+
+unfoldable pub FitFits : FitAnswer → Type 0
+FitFits (fits.Fit d) = d .0 ≤ 15
+FitFits (fits.Refused k) = RefusalFits k
+
+unfoldable pub BandFits : BandAnswer → Type 0
+BandFits (bands.Band b) = Unit {0}
+BandFits (bands.Refused k) = RefusalFits k
+
+unfoldable pub ReportFits : ReportAnswer → Type 0
+ReportFits (reports.Report d solved outliers pruned) = (d .0 ≤ 15) × (solved ≤ 16) × (outliers ≤ 4096) × (pruned ≤ 16)
+ReportFits (reports.Refused k) = RefusalFits k
+
+-- ---- what each call promises: the packed answer of the book's own call, and every lent list as that call leaves it
+
+pub record BookPacked (o : Out) (r : ℕ) (xs ys sums : List Float) : Type 0 where
+  pub answer : r ≡ packedBook (o .answer)
+  pub lent : Is o (o .answer) xs ys sums
+
+pub record FitPacked (o : FitOut) (r : ℕ) (s s′ c c′ : List Float) : Type 0 where
+  pub answer : r ≡ packedFit (o .answer)
+  pub lent : FitIs o (o .answer) s s′ c c′
+
+-- v and v′: the lent places for the band's three numbers, before and after
+pub record BandPacked (o : BandOut) (r : ℕ) (s s′ v v′ : List Float) : Type 0 where
+  pub answer : r ≡ packedBand (o .answer)
+  pub lent : BandIs o (o .answer) s s′
+  pub numbers : v′ ≡ over (bandNumbers (o .answer)) v
+
+pub record ReportPacked (o : ReportOut) (r : ℕ) (s s′ c c′ e e′ : List Float) (p p′ : List ℕ) (l l′ u u′ : List Float) (b b′ : List ℕ) : Type 0 where
+  pub answer : r ≡ packedReport (o .answer)
+  pub lent : ReportIs o (o .answer) s s′ c c′ e e′ p p′ l l′ u u′ b b′

@@ -1,0 +1,126 @@
+-- Reading a packed answer, as include/stakebook.h does, gives the answer back: no bit is lost. Assumes nothing.
+use mathlib.Core.Path.{_≡_, refl, ap, _∙_}
+use Prim.Native.Nat.{ℕ, _+_, _-_, _*_, _/_, _%_, _≤_, _<_}
+use native.Mathlib.Nat.{add-mul-div-right, div-eq-of-lt, mod-eq-of-lt, mod-eq-sub-div-mul, add-sub-cancel}
+use native.Mathlib.Omega.{arith}
+use Rattle.book.specs.declared.Answer.{Answer}
+use Rattle.book.specs.declared.Answer.the-variants as books
+use Rattle.query.specs.declared.FitAnswer.{FitAnswer}
+use Rattle.query.specs.declared.FitAnswer.the-variants as fits
+use Rattle.query.specs.declared.BandAnswer.{BandAnswer}
+use Rattle.query.specs.declared.BandAnswer.the-variants as bands
+use Rattle.report.specs.declared.ReportAnswer.{ReportAnswer}
+use Rattle.report.specs.declared.ReportAnswer.the-variants as reports
+use Rattle.capi.specs.Packed.{packedRefusal, packedBook, packedFit, packedBand, packedCounts, packedReport, BookFits, FitFits, BandFits, ReportFits}
+
+-- the number of the refusal, 0 if there is none
+abbrev pub numberIn : ℕ → ℕ
+numberIn p = p / 0x100_0000_0000_0000
+
+-- the count of a book
+abbrev pub countIn : ℕ → ℕ
+countIn p = p % 0x100_0000_0000_0000
+
+-- the degree of a fit, a validation or a report
+abbrev pub degreeIn : ℕ → ℕ
+degreeIn p = p % 0x100
+
+-- a report's solved degrees, pruned terms and outliers
+abbrev pub solvedIn : ℕ → ℕ
+solvedIn p = p / 0x100 % 0x100
+
+abbrev pub prunedIn : ℕ → ℕ
+prunedIn p = p / 0x1_0000 % 0x100
+
+abbrev pub outliersIn : ℕ → ℕ
+outliersIn p = p / 0x1_0000_0000 % 0x1_0000
+
+-- ---- what is read of a number p is the answer
+
+unfoldable pub BookRead : ℕ → Answer → Type 0
+BookRead p (books.Book b) = (numberIn p ≡ 0) × (countIn p ≡ b .count)
+BookRead p (books.Refused k) = numberIn p ≡ k
+
+unfoldable pub FitRead : ℕ → FitAnswer → Type 0
+FitRead p (fits.Fit d) = (numberIn p ≡ 0) × (degreeIn p ≡ d .0)
+FitRead p (fits.Refused k) = numberIn p ≡ k
+
+unfoldable pub BandRead : ℕ → BandAnswer → Type 0
+BandRead p (bands.Band b) = numberIn p ≡ 0
+BandRead p (bands.Refused k) = numberIn p ≡ k
+
+unfoldable pub ReportRead : ℕ → ReportAnswer → Type 0
+ReportRead p (reports.Report d solved outliers pruned) =
+    (numberIn p ≡ 0) × (degreeIn p ≡ d .0) × (solvedIn p ≡ solved) × (prunedIn p ≡ pruned) × (outliersIn p ≡ outliers)
+ReportRead p (reports.Refused k) = numberIn p ≡ k
+
+-- ---- laws
+
+-- a number of a low part below m and a high part
+module _ (m low high : ℕ) (below : low < m) where
+  upper-part : (low + high * m) / m ≡ high
+  upper-part =
+      let e = add-mul-div-right low high {z = m} (omega arith) in
+      omega (arith, e, div-eq-of-lt below)
+
+  lower-part : (low + high * m) % m ≡ low
+  lower-part =
+      let e = mod-eq-sub-div-mul (low + high * m) m in
+      e ∙ ap (λ q. low + high * m - q * m) upper-part ∙ add-sub-cancel low (high * m)
+
+refusal-read : (k : ℕ) → numberIn (packedRefusal k) ≡ k
+refusal-read k =
+    let e : packedRefusal k ≡ 0 + k * 0x100_0000_0000_0000 = omega arith in
+    ap numberIn e ∙ upper-part 0x100_0000_0000_0000 0 k (omega arith)
+
+pub book-read : (a : Answer) → BookFits a → BookRead (packedBook a) a
+unfolding BookFits BookRead packedBook
+book-read (books.Book b) h = (div-eq-of-lt (omega arith), mod-eq-of-lt (omega arith))
+book-read (books.Refused k) h = refusal-read k
+
+pub fit-read : (a : FitAnswer) → FitFits a → FitRead (packedFit a) a
+unfolding FitFits FitRead packedFit
+fit-read (fits.Fit d) h = (div-eq-of-lt (omega arith), mod-eq-of-lt (omega arith))
+fit-read (fits.Refused k) h = refusal-read k
+
+pub band-read : (a : BandAnswer) → BandFits a → BandRead (packedBand a) a
+unfolding BandFits BandRead packedBand
+band-read (bands.Band b) h = refl
+band-read (bands.Refused k) h = refusal-read k
+
+module _ (d s o p : ℕ) (hd : d ≤ 15) (hs : s ≤ 16) (ho : o ≤ 4096) (hp : p ≤ 16) where
+  none-in : numberIn (packedCounts d s o p) ≡ 0
+  none-in = div-eq-of-lt (omega arith)
+
+  degree-in : degreeIn (packedCounts d s o p) ≡ d
+  degree-in =
+      let e : packedCounts d s o p ≡ d + (s + p * 0x100 + o * 0x100_0000) * 0x100 = omega arith in
+      ap degreeIn e ∙ lower-part 0x100 d (s + p * 0x100 + o * 0x100_0000) (omega arith)
+
+  solved-in : solvedIn (packedCounts d s o p) ≡ s
+  solved-in =
+      let e : packedCounts d s o p ≡ d + (s + p * 0x100 + o * 0x100_0000) * 0x100 = omega arith in
+      let u : s + p * 0x100 + o * 0x100_0000 ≡ s + (p + o * 0x1_0000) * 0x100 = omega arith in
+      ap solvedIn e ∙ ap (λ q. q % 0x100) (upper-part 0x100 d (s + p * 0x100 + o * 0x100_0000) (omega arith) ∙ u)
+      ∙ lower-part 0x100 s (p + o * 0x1_0000) (omega arith)
+
+  pruned-in : prunedIn (packedCounts d s o p) ≡ p
+  pruned-in =
+      let e : packedCounts d s o p ≡ d + s * 0x100 + (p + o * 0x1_0000) * 0x1_0000 = omega arith in
+      let u : p + o * 0x1_0000 ≡ p + (o * 0x100) * 0x100 = omega arith in
+      ap prunedIn e ∙ ap (λ q. q % 0x100) (upper-part 0x1_0000 (d + s * 0x100) (p + o * 0x1_0000) (omega arith) ∙ u)
+      ∙ lower-part 0x100 p (o * 0x100) (omega arith)
+
+  outliers-in : outliersIn (packedCounts d s o p) ≡ o
+  outliers-in =
+      ap (λ q. q % 0x1_0000) (upper-part 0x1_0000_0000 (d + s * 0x100 + p * 0x1_0000) o (omega arith)) ∙ mod-eq-of-lt (omega arith)
+
+pub report-read : (a : ReportAnswer) → ReportFits a → ReportRead (packedReport a) a
+unfolding ReportFits ReportRead packedReport
+report-read (reports.Report d s o p) h =
+    let hd = h .0 in
+    let hs = h .1 in
+    let ho = h .2 in
+    let hp = h .3 in
+    (none-in (d .0) s o p hd hs ho hp, degree-in (d .0) s o p hd hs ho hp, solved-in (d .0) s o p hd hs ho hp, pruned-in (d .0) s o p hd hs ho hp, outliers-in (d .0) s o p hd hs ho hp)
+report-read (reports.Refused k) h = refusal-read k

@@ -1,0 +1,219 @@
+// The C interface: the book's calls over numbers and slices. Each is promised, for every input, to answer the book's own answer, packed into one
+// u64, and to leave every lent place as the book's own call leaves it. A slice is a pointer and a length in C.
+mod packed;
+
+use basis::Degree;
+use book::Book;
+use report::Settings;
+ghost use mathlib.Core.List.{[]};
+ghost use Rattle.book.specs.Calls.{openOut, addOut, correctOut, withdrawOut, addFrameOut};
+ghost use lib.ListN.{length};
+ghost use Rattle.query.specs.Fits.{fitOut, validateOut};
+ghost use Rattle.query.specs.Bands.{bandOut};
+ghost use Rattle.report.specs.Reports.{reportOut};
+ghost use Rattle.codes.specs.Codes.{boundOf, criterionOf, confidenceOf, toleranceOf};
+ghost use Rattle.capi.specs.Packed.{BookPacked, FitPacked, BandPacked, bandInto, ReportPacked};
+
+// An empty book: the sums become those of no sample.
+#[no_mangle]
+pub extern "C" fn stakebook_open(sums: &mut [f64]) -> u64
+    ensures { λ r. ⌜ BookPacked (openOut (now (sums .entry))) r [] [] (now (sums .exit)) ⌝ }
+{
+    packed::book(book::open(sums))
+}
+
+// One sample at the end.
+#[no_mangle]
+pub extern "C" fn stakebook_add(
+    count: usize,
+    x: f64,
+    y: f64,
+    xs: &mut [f64],
+    ys: &mut [f64],
+    sums: &mut [f64],
+) -> u64
+    ensures { λ r. ⌜ BookPacked (addOut count (record { x = x; y = y }) (now (xs .entry)) (now (ys .entry)) (now (sums .entry))) r (now (xs .exit)) (now (ys .exit)) (now (sums .exit)) ⌝ }
+{
+    packed::book(book::add(Book { count }, x, y, xs, ys, sums))
+}
+
+// Sample i gets a new y.
+#[no_mangle]
+pub extern "C" fn stakebook_correct(
+    count: usize,
+    i: usize,
+    y: f64,
+    xs: &[f64],
+    ys: &mut [f64],
+    sums: &mut [f64],
+) -> u64
+    ensures { λ r. ⌜ BookPacked (correctOut count i y (now (xs .entry)) (now (ys .entry)) (now (sums .entry))) r (now (xs .entry)) (now (ys .exit)) (now (sums .exit)) ⌝ }
+{
+    packed::book(book::correct(Book { count }, i, y, xs, ys, sums))
+}
+
+// Sample i goes, and later ones move down one.
+#[no_mangle]
+pub extern "C" fn stakebook_withdraw(
+    count: usize,
+    i: usize,
+    xs: &mut [f64],
+    ys: &mut [f64],
+    sums: &mut [f64],
+) -> u64
+    ensures { λ r. ⌜ BookPacked (withdrawOut count i (now (xs .entry)) (now (ys .entry)) (now (sums .entry))) r (now (xs .exit)) (now (ys .exit)) (now (sums .exit)) ⌝ }
+{
+    packed::book(book::withdraw(Book { count }, i, xs, ys, sums))
+}
+
+// All samples of a frame at the end, or none.
+#[no_mangle]
+pub extern "C" fn stakebook_add_frame(
+    count: usize,
+    frame: &[u8],
+    xs: &mut [f64],
+    ys: &mut [f64],
+    sums: &mut [f64],
+) -> u64
+    ensures { λ r. ⌜ BookPacked (addFrameOut count (now (frame .entry)) (now (xs .entry)) (now (ys .entry)) (now (sums .entry))) r (now (xs .exit)) (now (ys .exit)) (now (sums .exit)) ⌝ }
+{
+    packed::book(book::add_frame(Book { count }, frame, xs, ys, sums))
+}
+
+// The fit of the asked degree.
+#[no_mangle]
+pub extern "C" fn stakebook_fit(
+    count: usize,
+    degree: usize,
+    xs: &[f64],
+    ys: &[f64],
+    sums: &[f64],
+    scratch: &mut [f64],
+    coefficients: &mut [f64],
+) -> u64
+    ensures { λ r. ⌜ FitPacked (fitOut count (now (xs .entry)) (now (ys .entry)) (now (sums .entry)) (now (scratch .entry)) (now (coefficients .entry)) degree) r (now (scratch .entry)) (now (scratch .exit)) (now (coefficients .entry)) (now (coefficients .exit)) ⌝ }
+{
+    packed::fit(query::fit(
+        Book { count },
+        Degree(degree),
+        xs,
+        ys,
+        sums,
+        scratch,
+        coefficients,
+    ))
+}
+
+// The fit of the degree that k-fold cross-validation chooses. A bound is a number and a degree.
+#[no_mangle]
+pub extern "C" fn stakebook_validate(
+    count: usize,
+    folds: usize,
+    bound: u32,
+    most: usize,
+    criterion: u32,
+    xs: &[f64],
+    ys: &[f64],
+    sums: &[f64],
+    scratch: &mut [f64],
+    coefficients: &mut [f64],
+) -> u64
+    ensures { λ r. ⌜ FitPacked (validateOut count (now (xs .entry)) (now (ys .entry)) (now (sums .entry)) (now (scratch .entry)) (now (coefficients .entry)) folds (boundOf bound most) (criterionOf criterion)) r (now (scratch .entry)) (now (scratch .exit)) (now (coefficients .entry)) (now (coefficients .exit)) ⌝ }
+{
+    let by = codes::bound(bound, most);
+    let scored = codes::criterion(criterion);
+    packed::fit(query::validate(
+        Book { count },
+        folds,
+        by,
+        scored,
+        xs,
+        ys,
+        sums,
+        scratch,
+        coefficients,
+    ))
+}
+
+// The band at x of the curve of the asked degree, written to three places: value, lower and upper.
+#[no_mangle]
+pub extern "C" fn stakebook_band(
+    count: usize,
+    x: f64,
+    degree: usize,
+    confidence: u32,
+    score: f64,
+    tolerance: u32,
+    value: f64,
+    xs: &[f64],
+    ys: &[f64],
+    sums: &[f64],
+    scratch: &mut [f64],
+    numbers: &mut [f64],
+) -> u64
+    ensures { λ r. ⌜ BandPacked (bandInto (length (now (numbers .entry))) (bandOut count x degree (confidenceOf confidence score) (toleranceOf tolerance value) (now (xs .entry)) (now (ys .entry)) (now (sums .entry)) (now (scratch .entry)))) r (now (scratch .entry)) (now (scratch .exit)) (now (numbers .entry)) (now (numbers .exit)) ⌝ }
+{
+    if numbers.len() < 3 {
+        return packed::refused(1);
+    }
+    let with = codes::confidence(confidence, score);
+    let allowed = codes::tolerance(tolerance, value);
+    let answer = query::band(
+        Book { count },
+        x,
+        Degree(degree),
+        with,
+        allowed,
+        xs,
+        ys,
+        sums,
+        scratch,
+    );
+    packed::band(answer, numbers)
+}
+
+// A report of the book.
+#[no_mangle]
+pub extern "C" fn stakebook_report(
+    count: usize,
+    bound: u32,
+    most: usize,
+    criterion: u32,
+    confidence: u32,
+    score: f64,
+    tolerance: u32,
+    value: f64,
+    xs: &[f64],
+    ys: &[f64],
+    sums: &[f64],
+    scratch: &mut [f64],
+    coefficients: &mut [f64],
+    errors: &mut [f64],
+    pruned: &mut [u8],
+    lower: &mut [f64],
+    upper: &mut [f64],
+    outliers: &mut [u8],
+) -> u64
+    ensures { λ r. ⌜ ReportPacked (reportOut count (record { bound = boundOf bound most; criterion = criterionOf criterion; confidence = confidenceOf confidence score; tolerance = toleranceOf tolerance value }) (now (xs .entry)) (now (ys .entry)) (now (sums .entry)) (record { scratch = length (now (scratch .entry)); coefficients = length (now (coefficients .entry)); errors = length (now (errors .entry)); pruned = length (now (pruned .entry)); lower = length (now (lower .entry)); upper = length (now (upper .entry)); outliers = length (now (outliers .entry)) })) r (now (scratch .entry)) (now (scratch .exit)) (now (coefficients .entry)) (now (coefficients .exit)) (now (errors .entry)) (now (errors .exit)) (now (pruned .entry)) (now (pruned .exit)) (now (lower .entry)) (now (lower .exit)) (now (upper .entry)) (now (upper .exit)) (now (outliers .entry)) (now (outliers .exit)) ⌝ }
+{
+    let settings = Settings {
+        bound: codes::bound(bound, most),
+        criterion: codes::criterion(criterion),
+        confidence: codes::confidence(confidence, score),
+        tolerance: codes::tolerance(tolerance, value),
+    };
+    packed::report(report::report(
+        Book { count },
+        settings,
+        xs,
+        ys,
+        sums,
+        scratch,
+        coefficients,
+        errors,
+        pruned,
+        lower,
+        upper,
+        outliers,
+    ))
+}
