@@ -1,10 +1,11 @@
-//! Runs random lists of calls through the judge, the plain ledger and polyfit, and through every
-//! further side, and compares every answer and every bit, NaNs as one value.
+//! Runs random lists of calls through the judge, the plain ledger, polyfit and the port, and compares
+//! every answer and every bit, NaNs as one value.
 //!
-//! `compare [--seed N] [--calls N]`: runs until so many calls were judged by polyfit. The seed is
-//! printed; `--seed clock` takes one from the clock. `--list N` runs one list only and prints it.
-//! `--write N` runs nothing and prints lists of N calls in the text form of docs/JOURNAL.md;
-//! `--journal FILE` runs the calls of such a text as one list. `--bench` times the calls instead.
+//! `compare [--seed N] [--calls N] [--lists N]`: runs until so many calls were judged by polyfit, and
+//! at least so many lists. The seed is printed; `--seed clock` takes one from the clock. `--list N`
+//! runs one list only and prints it. `--write N` runs nothing and prints lists of N calls in the text
+//! form of docs/JOURNAL.md; `--journal FILE` runs the calls of such a text as one list. `--bench` times
+//! the calls instead.
 //!
 //! Fails on a difference, which it shrinks and prints, and where something that the runs must make
 //! never happened.
@@ -16,6 +17,7 @@ mod coverage;
 mod generate;
 mod journal;
 mod memory;
+mod port;
 mod random;
 mod reference;
 mod run;
@@ -36,6 +38,7 @@ use side::Side;
 struct Options {
     seed: u64,
     calls: u64,
+    lists: u64,
     list: Option<u64>,
     write: Option<u64>,
     journal: Option<String>,
@@ -43,8 +46,15 @@ struct Options {
 }
 
 fn options() -> Result<Options, String> {
-    let mut options =
-        Options { seed: 1, calls: 100_000, list: None, write: None, journal: None, bench: false };
+    let mut options = Options {
+        seed: 1,
+        calls: 100_000,
+        lists: 0,
+        list: None,
+        write: None,
+        journal: None,
+        bench: false,
+    };
     let mut arguments = std::env::args().skip(1);
     while let Some(name) = arguments.next() {
         if name == "--bench" {
@@ -57,6 +67,7 @@ fn options() -> Result<Options, String> {
             "--seed" if value == "clock" => options.seed = clock(),
             "--seed" => options.seed = number()?,
             "--calls" => options.calls = number()?,
+            "--lists" => options.lists = number()?,
             "--list" => options.list = Some(number()?),
             "--write" => options.write = Some(number()?),
             "--journal" => options.journal = Some(value),
@@ -73,7 +84,7 @@ fn clock() -> u64 {
 
 /// The sides compared with the judge, besides the ledger and polyfit.
 fn further_sides() -> Vec<Box<dyn Side>> {
-    Vec::new()
+    vec![Box::new(port::Port)]
 }
 
 fn print_list(list: &List) {
@@ -95,10 +106,10 @@ fn print_failure(list: &List, difference: &Difference, sides: &[&dyn Side]) {
     }
 }
 
-/// Runs lists until enough calls were judged by polyfit; false at a difference.
+/// Runs lists until enough calls were judged by polyfit and enough lists run; false at a difference.
 fn run_all(options: &Options, sides: &[&dyn Side], coverage: &mut Coverage) -> bool {
     let mut number = 0;
-    while coverage.by_reference < options.calls {
+    while coverage.by_reference < options.calls || number < options.lists {
         let list = generate::list(options.seed, number);
         if let Err(difference) = run(&list, sides, coverage) {
             println!("seed {}, list {number}: DIFFERENCE", options.seed);

@@ -1,0 +1,242 @@
+//! The port, through the C interface of the static library.
+
+use judge::fit::{Criterion, Settings};
+use judge::statistics::{Confidence, DegreeBound, Tolerance};
+use judge::Sample;
+use stakebook::sys;
+
+use crate::call::Answer;
+use crate::memory::Lent;
+use crate::side::{Judge, Side};
+
+/// The functions of `include/stakebook.h`.
+pub struct Port;
+
+/// The number that fills places which a call must not write.
+const UNWRITTEN: f64 = -12345.678;
+
+/// The numbers that name the cases of each setting. The last case takes every other number, so that
+/// a number above all is as good; the values that the other cases ignore are never 0.
+fn bound_numbers(bound: DegreeBound) -> (u32, usize) {
+    match bound {
+        DegreeBound::Conservative => (0, usize::MAX),
+        DegreeBound::Relaxed => (1, 16),
+        DegreeBound::Aggressive => (2, 1),
+        DegreeBound::Custom(degree) if degree % 2 == 0 => (u32::MAX, degree),
+        DegreeBound::Custom(degree) => (3, degree),
+    }
+}
+
+fn criterion_number(criterion: Criterion) -> u32 {
+    match criterion {
+        Criterion::Aic => 0,
+        Criterion::Bic => 1,
+    }
+}
+
+fn confidence_numbers(confidence: Confidence) -> (u32, f64) {
+    match confidence {
+        Confidence::P80 => (0, f64::NAN),
+        Confidence::P90 => (1, f64::INFINITY),
+        Confidence::P95 => (2, -1.0),
+        Confidence::P98 => (3, 9.0),
+        Confidence::P99 => (4, f64::NEG_INFINITY),
+        Confidence::P999 => (5, 1e300),
+        Confidence::Custom(score) if score < 1.0 => (u32::MAX, score),
+        Confidence::Custom(score) => (6, score),
+    }
+}
+
+fn tolerance_numbers(tolerance: Tolerance) -> (u32, f64) {
+    match tolerance {
+        Tolerance::None => (0, f64::NAN),
+        Tolerance::Absolute(value) => (1, value),
+        Tolerance::Variance(value) => (2, value),
+        Tolerance::Measurement(value) if value < 0.5 => (u32::MAX, value),
+        Tolerance::Measurement(value) => (3, value),
+    }
+}
+
+/// A refusal, which packs nothing else, or what is answered.
+fn read(packed: u64, of: impl Fn(u64) -> Answer) -> Answer {
+    match sys::refusal(packed) {
+        0 => of(packed),
+        number if packed << 8 == 0 => Answer::Refused(number),
+        number => panic!("refused by {number} with {packed:#x}"),
+    }
+}
+
+/// A book, with no bit beside its count.
+fn book(packed: u64) -> Answer {
+    read(packed, |packed| Answer::Book(sys::count(packed)))
+}
+
+/// A degree, with no bit beside it.
+fn degree(packed: u64) -> Answer {
+    read(packed, |packed| {
+        assert!(packed < 256, "a degree in {packed:#x}");
+        Answer::Degree(sys::degree(packed))
+    })
+}
+
+/// A report, with no bit beside its four numbers.
+fn report(packed: u64) -> Answer {
+    read(packed, |packed| {
+        assert!(packed & !0x0000_FFFF_00FF_FFFF == 0, "a report in {packed:#x}");
+        Answer::Report {
+            degree: sys::degree(packed),
+            solved: sys::solved(packed),
+            outliers: sys::outliers(packed),
+            pruned: sys::pruned(packed),
+        }
+    })
+}
+
+/// What a call that reads a book is lent, as pointers and lengths.
+macro_rules! book_read {
+    ($call:expr, $lent:ident, ($($first:expr),*), ($($written:ident),*) $(, ($($last:expr),*))?) => {
+        // SAFETY: the slices are the caller's, initialised and apart.
+        unsafe {
+            $call(
+                $($first,)*
+                $lent.x.as_ptr(),
+                $lent.x.len(),
+                $lent.y.as_ptr(),
+                $lent.y.len(),
+                $lent.sums.as_ptr(),
+                $lent.sums.len(),
+                $lent.scratch.as_mut_ptr(),
+                $lent.scratch.len(),
+                $($lent.$written.as_mut_ptr(), $lent.$written.len(),)*
+                $($($last),*)?
+            )
+        }
+    };
+}
+
+/// What a call that changes a book is lent.
+macro_rules! book_changed {
+    ($call:expr, $lent:ident, ($($first:expr),*)) => {
+        // SAFETY: the slices are the caller's, initialised and apart.
+        unsafe {
+            $call(
+                $($first,)*
+                $lent.x.as_mut_ptr(),
+                $lent.x.len(),
+                $lent.y.as_mut_ptr(),
+                $lent.y.len(),
+                $lent.sums.as_mut_ptr(),
+                $lent.sums.len(),
+            )
+        }
+    };
+}
+
+/// A band into so many places. It writes three and none past them; a refused one writes none.
+fn band_into(
+    places: usize,
+    count: usize,
+    lent: &mut Lent,
+    (x, degree): (f64, usize),
+    ((confidence, score), (tolerance, value)): ((u32, f64), (u32, f64)),
+) -> Answer {
+    let mut numbers = [UNWRITTEN; 4];
+    let packed = book_read!(
+        sys::stakebook_band,
+        lent,
+        (count, x, degree, confidence, score, tolerance, value),
+        (),
+        (numbers.as_mut_ptr(), places)
+    );
+    let answer = read(packed, |packed| {
+        assert!(packed == 0, "a band in {packed:#x}");
+        Answer::Band { value: numbers[0], lower: numbers[1], upper: numbers[2] }
+    });
+    let written = if let Answer::Band { .. } = answer { 3 } else { 0 };
+    assert!(numbers[written..].iter().all(|&number| number == UNWRITTEN), "{numbers:?}");
+    answer
+}
+
+impl Side for Port {
+    fn name(&self) -> &'static str {
+        "port"
+    }
+
+    fn open(&self, lent: Lent) -> Answer {
+        // SAFETY: the slice is the caller's, and initialised.
+        book(unsafe { sys::stakebook_open(lent.sums.as_mut_ptr(), lent.sums.len()) })
+    }
+
+    fn add(&self, count: usize, lent: Lent, sample: Sample) -> Answer {
+        book(book_changed!(sys::stakebook_add, lent, (count, sample.x, sample.y)))
+    }
+
+    fn correct(&self, count: usize, lent: Lent, index: usize, y: f64) -> Answer {
+        book(book_changed!(sys::stakebook_correct, lent, (count, index, y)))
+    }
+
+    fn withdraw(&self, count: usize, lent: Lent, index: usize) -> Answer {
+        book(book_changed!(sys::stakebook_withdraw, lent, (count, index)))
+    }
+
+    fn add_frame(&self, count: usize, lent: Lent, frame: &[u8]) -> Answer {
+        let (bytes, length) = (frame.as_ptr(), frame.len());
+        book(book_changed!(sys::stakebook_add_frame, lent, (count, bytes, length)))
+    }
+
+    fn fit(&self, count: usize, lent: Lent, asked: usize) -> Answer {
+        degree(book_read!(sys::stakebook_fit, lent, (count, asked), (coefficients)))
+    }
+
+    fn report(&self, count: usize, lent: Lent, settings: Settings) -> Answer {
+        let (bound, most) = bound_numbers(settings.bound);
+        let criterion = criterion_number(settings.criterion);
+        let (confidence, score) = confidence_numbers(settings.confidence);
+        let (tolerance, value) = tolerance_numbers(settings.tolerance);
+        report(book_read!(
+            sys::stakebook_report,
+            lent,
+            (count, bound, most, criterion, confidence, score, tolerance, value),
+            (coefficients, errors, pruned, lower, upper, outlier)
+        ))
+    }
+
+    fn validate(
+        &self,
+        count: usize,
+        lent: Lent,
+        folds: usize,
+        bound: DegreeBound,
+        criterion: Criterion,
+    ) -> Answer {
+        let (bound, most) = bound_numbers(bound);
+        let criterion = criterion_number(criterion);
+        degree(book_read!(
+            sys::stakebook_validate,
+            lent,
+            (count, folds, bound, most, criterion),
+            (coefficients)
+        ))
+    }
+
+    fn band(
+        &self,
+        count: usize,
+        mut lent: Lent,
+        at: (f64, usize),
+        confidence: Confidence,
+        tolerance: Tolerance,
+    ) -> Answer {
+        let settings = (confidence_numbers(confidence), tolerance_numbers(tolerance));
+        let before: Vec<u64> = lent.scratch.iter().map(|number| number.to_bits()).collect();
+        let short = band_into(2, count, &mut lent, at, settings);
+        let same = lent.scratch.iter().map(|number| number.to_bits()).eq(before);
+        assert!(short == Answer::Refused(1) && same, "two places for a band: {short:?}");
+        band_into(3, count, &mut lent, at, settings)
+    }
+
+    /// The C interface has no reader, so there is nothing to compare.
+    fn reader(&self, frame: &[u8]) -> Answer {
+        Judge.reader(frame)
+    }
+}

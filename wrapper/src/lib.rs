@@ -1,0 +1,414 @@
+//! The stake book: the samples of one season, curves fitted to them, the degree chosen for them, and
+//! bands around them.
+//!
+//! The work is done by the static library `libcapi.a`, each of whose functions is proved to answer
+//! and to write what its definition says, for every input. [`Book`] owns all memory that these
+//! functions are lent, so that none of it is too short and none overlaps.
+//!
+//! ```
+//! use stakebook::{Book, Confidence, Criterion, DegreeBound, Refusal, Settings, Tolerance};
+//!
+//! let mut book = Book::with_capacity(100);
+//! for i in 0..5 {
+//!     book.add(f64::from(i), 1.0 + 2.0 * f64::from(i))?;
+//! }
+//! book.correct(4, 9.0)?;
+//! let fit = book.fit(1)?;
+//! assert_eq!(fit.coefficients(), [1.0, 2.0]);
+//!
+//! let settings = Settings {
+//!     bound: DegreeBound::Custom(2),
+//!     criterion: Criterion::Aic,
+//!     confidence: Confidence::P95,
+//!     tolerance: Tolerance::None,
+//! };
+//! let report = book.report(settings)?;
+//! assert_eq!((report.degree, report.solved, report.outliers()), (1, 3, 0));
+//! assert_eq!(book.add(f64::NAN, 0.0), Err(Refusal::NotFinite));
+//! assert_eq!(book.len(), 5);
+//! # Ok::<(), Refusal>(())
+//! ```
+
+mod refusal;
+mod settings;
+pub mod sys;
+
+pub use refusal::Refusal;
+pub use settings::{Confidence, Criterion, DegreeBound, Settings, Tolerance};
+
+/// The most samples that a book can hold.
+pub const MOST: usize = 4096;
+
+/// The places of the sums, and of coefficients, errors and pruning bytes.
+const SUMS: usize = 272;
+const TERMS: usize = 16;
+
+/// The samples of one season, with the sums over them.
+#[derive(Debug, Clone)]
+pub struct Book {
+    count: usize,
+    xs: Vec<f64>,
+    ys: Vec<f64>,
+    sums: [f64; SUMS],
+    scratch: Vec<f64>,
+    coefficients: [f64; TERMS],
+    errors: [f64; TERMS],
+    pruned: [u8; TERMS],
+    lower: Vec<f64>,
+    upper: Vec<f64>,
+    outliers: Vec<u8>,
+}
+
+/// A curve of some degree.
+#[derive(Debug, Clone, Copy, PartialEq)]
+pub struct Fit {
+    pub degree: usize,
+    terms: [f64; TERMS],
+}
+
+/// The curve's value at some x, and the band around it.
+#[derive(Debug, Clone, Copy, PartialEq)]
+pub struct Band {
+    pub value: f64,
+    pub lower: f64,
+    pub upper: f64,
+}
+
+/// What a report found. Its lists are the book's, until the next call.
+#[derive(Debug, Clone, Copy, PartialEq)]
+pub struct Report<'a> {
+    /// The chosen degree, and how many degrees were solved.
+    pub degree: usize,
+    pub solved: usize,
+    /// The coefficients of the curve and their errors, degree + 1 of each.
+    pub coefficients: &'a [f64],
+    pub errors: &'a [f64],
+    /// For each coefficient 1 if it is pruned as insignificant, else 0.
+    pub pruned: &'a [u8],
+    /// For each sample the band, and 1 if its y lies outside of it, else 0.
+    pub lower: &'a [f64],
+    pub upper: &'a [f64],
+    pub outlying: &'a [u8],
+    counts: (usize, usize),
+}
+
+impl Fit {
+    /// The coefficients, degree + 1 of them, the constant one first.
+    pub fn coefficients(&self) -> &[f64] {
+        &self.terms[..=self.degree]
+    }
+}
+
+impl Report<'_> {
+    /// How many samples lie outside their bands.
+    pub fn outliers(&self) -> usize {
+        self.counts.0
+    }
+
+    /// How many terms are pruned.
+    pub fn pruned_terms(&self) -> usize {
+        self.counts.1
+    }
+}
+
+/// The answer, unless it is a refusal.
+fn judged(answer: u64) -> Result<u64, Refusal> {
+    match Refusal::of(sys::refusal(answer)) {
+        Some(refusal) => Err(refusal),
+        None => Ok(answer),
+    }
+}
+
+impl Book {
+    /// An empty book with room for so many samples, at most 4,096.
+    pub fn with_capacity(capacity: usize) -> Book {
+        let room = capacity.min(MOST);
+        let mut book = Book {
+            count: 0,
+            xs: vec![0.0; room],
+            ys: vec![0.0; room],
+            sums: [0.0; SUMS],
+            scratch: vec![0.0; room],
+            coefficients: [0.0; TERMS],
+            errors: [0.0; TERMS],
+            pruned: [0; TERMS],
+            lower: vec![0.0; room],
+            upper: vec![0.0; room],
+            outliers: vec![0; room],
+        };
+        book.clear();
+        book
+    }
+
+    /// Takes all samples out.
+    pub fn clear(&mut self) {
+        // SAFETY: the sums are this book's own, of the length given.
+        let answer = unsafe { sys::stakebook_open(self.sums.as_mut_ptr(), SUMS) };
+        self.count = sys::count(answer);
+    }
+
+    /// How many samples the book holds.
+    pub fn len(&self) -> usize {
+        self.count
+    }
+
+    pub fn is_empty(&self) -> bool {
+        self.count == 0
+    }
+
+    pub fn capacity(&self) -> usize {
+        self.xs.len()
+    }
+
+    /// The x's of the samples, in the order in which they were added.
+    pub fn xs(&self) -> &[f64] {
+        &self.xs[..self.count]
+    }
+
+    /// The y's of the samples.
+    pub fn ys(&self) -> &[f64] {
+        &self.ys[..self.count]
+    }
+
+    /// The 272 sums: A by rows, then g.
+    pub fn sums(&self) -> &[f64] {
+        &self.sums
+    }
+
+    fn changed(&mut self, answer: u64) -> Result<(), Refusal> {
+        self.count = sys::count(judged(answer)?);
+        Ok(())
+    }
+
+    /// One sample at the end. Refused by [`Refusal::NotFinite`] and [`Refusal::Full`].
+    pub fn add(&mut self, x: f64, y: f64) -> Result<(), Refusal> {
+        // SAFETY: the three slices are this book's own, apart, of the lengths given.
+        let answer = unsafe {
+            sys::stakebook_add(
+                self.count,
+                x,
+                y,
+                self.xs.as_mut_ptr(),
+                self.xs.len(),
+                self.ys.as_mut_ptr(),
+                self.ys.len(),
+                self.sums.as_mut_ptr(),
+                SUMS,
+            )
+        };
+        self.changed(answer)
+    }
+
+    /// Sample `i` gets a new y. Refused by [`Refusal::NotFinite`] and [`Refusal::NoSuchSample`].
+    pub fn correct(&mut self, i: usize, y: f64) -> Result<(), Refusal> {
+        // SAFETY: the three slices are this book's own, apart, of the lengths given.
+        let answer = unsafe {
+            sys::stakebook_correct(
+                self.count,
+                i,
+                y,
+                self.xs.as_ptr(),
+                self.xs.len(),
+                self.ys.as_mut_ptr(),
+                self.ys.len(),
+                self.sums.as_mut_ptr(),
+                SUMS,
+            )
+        };
+        self.changed(answer)
+    }
+
+    /// Sample `i` goes, and later ones move down one. Refused by [`Refusal::NoSuchSample`].
+    pub fn withdraw(&mut self, i: usize) -> Result<(), Refusal> {
+        // SAFETY: the three slices are this book's own, apart, of the lengths given.
+        let answer = unsafe {
+            sys::stakebook_withdraw(
+                self.count,
+                i,
+                self.xs.as_mut_ptr(),
+                self.xs.len(),
+                self.ys.as_mut_ptr(),
+                self.ys.len(),
+                self.sums.as_mut_ptr(),
+                SUMS,
+            )
+        };
+        self.changed(answer)
+    }
+
+    /// All samples of a frame at the end, or none. Refused by [`Refusal::FrameLength`],
+    /// [`Refusal::FrameVersion`], [`Refusal::NotFinite`] and [`Refusal::Full`].
+    pub fn add_frame(&mut self, frame: &[u8]) -> Result<(), Refusal> {
+        // SAFETY: the frame is only read; the three slices are this book's own, apart, of the
+        // lengths given.
+        let answer = unsafe {
+            sys::stakebook_add_frame(
+                self.count,
+                frame.as_ptr(),
+                frame.len(),
+                self.xs.as_mut_ptr(),
+                self.xs.len(),
+                self.ys.as_mut_ptr(),
+                self.ys.len(),
+                self.sums.as_mut_ptr(),
+                SUMS,
+            )
+        };
+        self.changed(answer)
+    }
+
+    fn fitted(&self, answer: u64) -> Result<Fit, Refusal> {
+        Ok(Fit { degree: sys::degree(judged(answer)?), terms: self.coefficients })
+    }
+
+    /// The curve of this degree. Refused by [`Refusal::NoSamples`], [`Refusal::DegreeTooHigh`] and
+    /// [`Refusal::Unsolved`].
+    pub fn fit(&mut self, degree: usize) -> Result<Fit, Refusal> {
+        // SAFETY: all slices are this book's own, apart, of the lengths given.
+        let answer = unsafe {
+            sys::stakebook_fit(
+                self.count,
+                degree,
+                self.xs.as_ptr(),
+                self.xs.len(),
+                self.ys.as_ptr(),
+                self.ys.len(),
+                self.sums.as_ptr(),
+                SUMS,
+                self.scratch.as_mut_ptr(),
+                self.scratch.len(),
+                self.coefficients.as_mut_ptr(),
+                TERMS,
+            )
+        };
+        self.fitted(answer)
+    }
+
+    /// The curve of the degree that k-fold cross-validation chooses. Refused by
+    /// [`Refusal::NoSamples`], [`Refusal::DegreeTooHigh`], [`Refusal::Unsolved`] and
+    /// [`Refusal::NoDegree`].
+    pub fn validate(
+        &mut self,
+        folds: usize,
+        bound: DegreeBound,
+        criterion: Criterion,
+    ) -> Result<Fit, Refusal> {
+        let (bound, most) = bound.numbers();
+        // SAFETY: all slices are this book's own, apart, of the lengths given.
+        let answer = unsafe {
+            sys::stakebook_validate(
+                self.count,
+                folds,
+                bound,
+                most,
+                criterion.number(),
+                self.xs.as_ptr(),
+                self.xs.len(),
+                self.ys.as_ptr(),
+                self.ys.len(),
+                self.sums.as_ptr(),
+                SUMS,
+                self.scratch.as_mut_ptr(),
+                self.scratch.len(),
+                self.coefficients.as_mut_ptr(),
+                TERMS,
+            )
+        };
+        self.fitted(answer)
+    }
+
+    /// The band at x around the curve of this degree. Refused by [`Refusal::NotFinite`],
+    /// [`Refusal::NoSamples`], [`Refusal::DegreeTooHigh`], [`Refusal::OutOfRange`],
+    /// [`Refusal::Unsolved`] and [`Refusal::NoCovariance`].
+    pub fn band(
+        &mut self,
+        x: f64,
+        degree: usize,
+        confidence: Confidence,
+        tolerance: Tolerance,
+    ) -> Result<Band, Refusal> {
+        let (confidence, score) = confidence.numbers();
+        let (tolerance, value) = tolerance.numbers();
+        let mut numbers = [0.0; 3];
+        // SAFETY: all slices are this book's own or local, apart, of the lengths given.
+        let answer = unsafe {
+            sys::stakebook_band(
+                self.count,
+                x,
+                degree,
+                confidence,
+                score,
+                tolerance,
+                value,
+                self.xs.as_ptr(),
+                self.xs.len(),
+                self.ys.as_ptr(),
+                self.ys.len(),
+                self.sums.as_ptr(),
+                SUMS,
+                self.scratch.as_mut_ptr(),
+                self.scratch.len(),
+                numbers.as_mut_ptr(),
+                numbers.len(),
+            )
+        };
+        judged(answer)?;
+        let [value, lower, upper] = numbers;
+        Ok(Band { value, lower, upper })
+    }
+
+    /// Chooses a degree, fits it, and says how far the curve can be trusted. Refused by
+    /// [`Refusal::NotFinite`], [`Refusal::NoSamples`], [`Refusal::DegreeTooHigh`],
+    /// [`Refusal::NoDegree`] and [`Refusal::NoCovariance`].
+    pub fn report(&mut self, settings: Settings) -> Result<Report<'_>, Refusal> {
+        let (bound, most) = settings.bound.numbers();
+        let (confidence, score) = settings.confidence.numbers();
+        let (tolerance, value) = settings.tolerance.numbers();
+        // SAFETY: all slices are this book's own, apart, of the lengths given.
+        let answer = unsafe {
+            sys::stakebook_report(
+                self.count,
+                bound,
+                most,
+                settings.criterion.number(),
+                confidence,
+                score,
+                tolerance,
+                value,
+                self.xs.as_ptr(),
+                self.xs.len(),
+                self.ys.as_ptr(),
+                self.ys.len(),
+                self.sums.as_ptr(),
+                SUMS,
+                self.scratch.as_mut_ptr(),
+                self.scratch.len(),
+                self.coefficients.as_mut_ptr(),
+                TERMS,
+                self.errors.as_mut_ptr(),
+                TERMS,
+                self.pruned.as_mut_ptr(),
+                TERMS,
+                self.lower.as_mut_ptr(),
+                self.lower.len(),
+                self.upper.as_mut_ptr(),
+                self.upper.len(),
+                self.outliers.as_mut_ptr(),
+                self.outliers.len(),
+            )
+        };
+        let answer = judged(answer)?;
+        let (n, k) = (self.count, sys::degree(answer) + 1);
+        Ok(Report {
+            degree: sys::degree(answer),
+            solved: sys::solved(answer),
+            coefficients: &self.coefficients[..k],
+            errors: &self.errors[..k],
+            pruned: &self.pruned[..k],
+            lower: &self.lower[..n],
+            upper: &self.upper[..n],
+            outlying: &self.outliers[..n],
+            counts: (sys::outliers(answer), sys::pruned(answer)),
+        })
+    }
+}

@@ -1,0 +1,77 @@
+//! Why a call was refused.
+
+/// The twelve refusals, in checking order. A refused call changes no sample and writes no result.
+#[derive(Debug, Clone, Copy, PartialEq, Eq)]
+pub enum Refusal {
+    /// 1: a lent memory is too short, or the count is above capacity.
+    Memory = 1,
+    /// 2: a frame's length is wrong.
+    FrameLength,
+    /// 3: a frame's version is not 1.
+    FrameVersion,
+    /// 4: a given number is not finite.
+    NotFinite,
+    /// 5: the samples to add would pass capacity.
+    Full,
+    /// 6: there is no sample of this index.
+    NoSuchSample,
+    /// 7: there are no samples, or the folds are below 2 or above their number.
+    NoSamples,
+    /// 8: the degree is at or above the number of samples, or above 15.
+    DegreeTooHigh,
+    /// 9: x lies outside the samples.
+    OutOfRange,
+    /// 10: the degree is unsolved.
+    Unsolved,
+    /// 11: no degree is chosen.
+    NoDegree,
+    /// 12: the covariance can't be worked out.
+    NoCovariance,
+}
+
+impl Refusal {
+    /// Its number, 1 to 12.
+    pub fn number(self) -> u8 {
+        self as u8
+    }
+
+    /// The refusal of a number; none for 0.
+    pub(crate) fn of(number: u8) -> Option<Refusal> {
+        const ALL: [Refusal; 12] = [
+            Refusal::Memory,
+            Refusal::FrameLength,
+            Refusal::FrameVersion,
+            Refusal::NotFinite,
+            Refusal::Full,
+            Refusal::NoSuchSample,
+            Refusal::NoSamples,
+            Refusal::DegreeTooHigh,
+            Refusal::OutOfRange,
+            Refusal::Unsolved,
+            Refusal::NoDegree,
+            Refusal::NoCovariance,
+        ];
+        (number != 0).then(|| ALL[usize::from(number) - 1])
+    }
+}
+
+impl std::fmt::Display for Refusal {
+    fn fmt(&self, f: &mut std::fmt::Formatter<'_>) -> std::fmt::Result {
+        f.write_str(match self {
+            Refusal::Memory => "the memory is too short",
+            Refusal::FrameLength => "the frame's length is wrong",
+            Refusal::FrameVersion => "the frame's version is not 1",
+            Refusal::NotFinite => "a number is not finite",
+            Refusal::Full => "the book is full",
+            Refusal::NoSuchSample => "there is no sample of this index",
+            Refusal::NoSamples => "there are no samples, or no such folds",
+            Refusal::DegreeTooHigh => "the degree is too high",
+            Refusal::OutOfRange => "x lies outside the samples",
+            Refusal::Unsolved => "the degree is unsolved",
+            Refusal::NoDegree => "no degree is chosen",
+            Refusal::NoCovariance => "the covariance can't be worked out",
+        })
+    }
+}
+
+impl std::error::Error for Refusal {}

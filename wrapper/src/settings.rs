@@ -1,0 +1,104 @@
+//! How a degree is bounded and scored, and how wide a band is.
+
+/// The highest degree that is tried.
+#[derive(Debug, Clone, Copy, PartialEq)]
+pub enum DegreeBound {
+    /// At most the fifth root of the number n of samples, n / 15 less 1, and 8.
+    Conservative,
+    /// At most the cube root of n, n / 8 less 1, and 15.
+    Relaxed,
+    /// At most n / 8 less 1. Above 15 it is refused.
+    Aggressive,
+    /// At most this degree. Each bound is at most n less 1.
+    Custom(usize),
+}
+
+/// How a degree is scored.
+#[derive(Debug, Clone, Copy, PartialEq, Eq)]
+pub enum Criterion {
+    Aic,
+    Bic,
+}
+
+/// How sure a band is.
+#[derive(Debug, Clone, Copy, PartialEq)]
+pub enum Confidence {
+    P80,
+    P90,
+    P95,
+    P98,
+    P99,
+    P999,
+    /// A z score of one's own.
+    Custom(f64),
+}
+
+/// What a band allows besides.
+#[derive(Debug, Clone, Copy, PartialEq)]
+pub enum Tolerance {
+    None,
+    /// So much, in the unit of y.
+    Absolute(f64),
+    /// This share of the standard deviation of all y's, added to the variance.
+    Variance(f64),
+    /// This share of the value.
+    Measurement(f64),
+}
+
+/// A report's settings.
+#[derive(Debug, Clone, Copy, PartialEq)]
+pub struct Settings {
+    pub bound: DegreeBound,
+    pub criterion: Criterion,
+    pub confidence: Confidence,
+    pub tolerance: Tolerance,
+}
+
+impl DegreeBound {
+    /// The number and the degree that the C interface takes.
+    pub fn numbers(self) -> (u32, usize) {
+        match self {
+            DegreeBound::Conservative => (0, 0),
+            DegreeBound::Relaxed => (1, 0),
+            DegreeBound::Aggressive => (2, 0),
+            DegreeBound::Custom(degree) => (3, degree),
+        }
+    }
+}
+
+impl Criterion {
+    /// The number that the C interface takes.
+    pub fn number(self) -> u32 {
+        match self {
+            Criterion::Aic => 0,
+            Criterion::Bic => 1,
+        }
+    }
+}
+
+impl Confidence {
+    /// The number and the z score that the C interface takes.
+    pub fn numbers(self) -> (u32, f64) {
+        match self {
+            Confidence::P80 => (0, 0.0),
+            Confidence::P90 => (1, 0.0),
+            Confidence::P95 => (2, 0.0),
+            Confidence::P98 => (3, 0.0),
+            Confidence::P99 => (4, 0.0),
+            Confidence::P999 => (5, 0.0),
+            Confidence::Custom(score) => (6, score),
+        }
+    }
+}
+
+impl Tolerance {
+    /// The number and the value that the C interface takes.
+    pub fn numbers(self) -> (u32, f64) {
+        match self {
+            Tolerance::None => (0, 0.0),
+            Tolerance::Absolute(value) => (1, value),
+            Tolerance::Variance(value) => (2, value),
+            Tolerance::Measurement(value) => (3, value),
+        }
+    }
+}

@@ -1,0 +1,165 @@
+//! The functions of `include/stakebook.h`, as they are. A slice is a pointer and a length.
+//!
+//! # Safety
+//!
+//! Every pointer is to as many initialised places as its length says, aligned, and not null even
+//! where the length is 0; what is written overlaps nothing else that is lent to the call.
+
+#![allow(clippy::too_many_arguments)]
+
+extern "C" {
+    pub fn stakebook_open(sums: *mut f64, sums_len: usize) -> u64;
+    pub fn stakebook_add(
+        count: usize,
+        x: f64,
+        y: f64,
+        xs: *mut f64,
+        xs_len: usize,
+        ys: *mut f64,
+        ys_len: usize,
+        sums: *mut f64,
+        sums_len: usize,
+    ) -> u64;
+    pub fn stakebook_correct(
+        count: usize,
+        i: usize,
+        y: f64,
+        xs: *const f64,
+        xs_len: usize,
+        ys: *mut f64,
+        ys_len: usize,
+        sums: *mut f64,
+        sums_len: usize,
+    ) -> u64;
+    pub fn stakebook_withdraw(
+        count: usize,
+        i: usize,
+        xs: *mut f64,
+        xs_len: usize,
+        ys: *mut f64,
+        ys_len: usize,
+        sums: *mut f64,
+        sums_len: usize,
+    ) -> u64;
+    pub fn stakebook_add_frame(
+        count: usize,
+        frame: *const u8,
+        frame_len: usize,
+        xs: *mut f64,
+        xs_len: usize,
+        ys: *mut f64,
+        ys_len: usize,
+        sums: *mut f64,
+        sums_len: usize,
+    ) -> u64;
+    pub fn stakebook_fit(
+        count: usize,
+        degree: usize,
+        xs: *const f64,
+        xs_len: usize,
+        ys: *const f64,
+        ys_len: usize,
+        sums: *const f64,
+        sums_len: usize,
+        scratch: *mut f64,
+        scratch_len: usize,
+        coefficients: *mut f64,
+        coefficients_len: usize,
+    ) -> u64;
+    pub fn stakebook_validate(
+        count: usize,
+        folds: usize,
+        bound: u32,
+        most: usize,
+        criterion: u32,
+        xs: *const f64,
+        xs_len: usize,
+        ys: *const f64,
+        ys_len: usize,
+        sums: *const f64,
+        sums_len: usize,
+        scratch: *mut f64,
+        scratch_len: usize,
+        coefficients: *mut f64,
+        coefficients_len: usize,
+    ) -> u64;
+    pub fn stakebook_band(
+        count: usize,
+        x: f64,
+        degree: usize,
+        confidence: u32,
+        score: f64,
+        tolerance: u32,
+        value: f64,
+        xs: *const f64,
+        xs_len: usize,
+        ys: *const f64,
+        ys_len: usize,
+        sums: *const f64,
+        sums_len: usize,
+        scratch: *mut f64,
+        scratch_len: usize,
+        numbers: *mut f64,
+        numbers_len: usize,
+    ) -> u64;
+    pub fn stakebook_report(
+        count: usize,
+        bound: u32,
+        most: usize,
+        criterion: u32,
+        confidence: u32,
+        score: f64,
+        tolerance: u32,
+        value: f64,
+        xs: *const f64,
+        xs_len: usize,
+        ys: *const f64,
+        ys_len: usize,
+        sums: *const f64,
+        sums_len: usize,
+        scratch: *mut f64,
+        scratch_len: usize,
+        coefficients: *mut f64,
+        coefficients_len: usize,
+        errors: *mut f64,
+        errors_len: usize,
+        pruned: *mut u8,
+        pruned_len: usize,
+        lower: *mut f64,
+        lower_len: usize,
+        upper: *mut f64,
+        upper_len: usize,
+        outliers: *mut u8,
+        outliers_len: usize,
+    ) -> u64;
+}
+
+/// The number of the refusal in an answer, 0 if there is none.
+pub fn refusal(answer: u64) -> u8 {
+    (answer >> 56) as u8
+}
+
+/// The count of the book, in the answer of a call that changes one.
+pub fn count(answer: u64) -> usize {
+    (answer & 0x00FF_FFFF_FFFF_FFFF) as usize
+}
+
+/// The degree, in the answer of a fit, a validation or a report.
+pub fn degree(answer: u64) -> usize {
+    (answer & 0xFF) as usize
+}
+
+/// The number of solved degrees, in the answer of a report.
+pub fn solved(answer: u64) -> usize {
+    (answer >> 8 & 0xFF) as usize
+}
+
+/// The number of pruned terms, in the answer of a report.
+pub fn pruned(answer: u64) -> usize {
+    (answer >> 16 & 0xFF) as usize
+}
+
+/// The number of outliers, in the answer of a report.
+pub fn outliers(answer: u64) -> usize {
+    (answer >> 32 & 0xFFFF) as usize
+}
