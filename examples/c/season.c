@@ -1,0 +1,106 @@
+/* A season of one stake through the C interface: depth in m, density in kg/m3. It prints each answer and number as the program `journal`
+ * does (docs/JOURNAL.md), so that its output can be compared, bit for bit, with what the judge prints for season.calls. */
+#include <inttypes.h>
+#include <stdio.h>
+#include <string.h>
+
+#include "stakebook.h"
+
+#define ROOM 20
+
+/* all memory of a book, and of what is read from it */
+static double xs[ROOM], ys[ROOM], sums[STAKEBOOK_SUMS], scratch[ROOM];
+static double coefficients[STAKEBOOK_TERMS], errors[STAKEBOOK_TERMS], lower[ROOM], upper[ROOM];
+static uint8_t pruned[STAKEBOOK_TERMS], outliers[ROOM];
+static size_t count;
+
+static void print_number(double number) {
+    uint64_t bits;
+    memcpy(&bits, &number, sizeof bits);
+    printf(" %016" PRIX64, number != number ? UINT64_C(0x7FF8000000000000) : bits);
+}
+
+static void print_numbers(const char *name, const double *numbers, size_t many) {
+    printf("%s", name);
+    for (size_t i = 0; i < many; i++) print_number(numbers[i]);
+    printf("\n");
+}
+
+static void print_bytes(const char *name, const uint8_t *bytes, size_t many) {
+    printf("%s", name);
+    for (size_t i = 0; i < many; i++) printf(" %d", bytes[i]);
+    printf("\n");
+}
+
+/* true if the call was refused, which is then printed */
+static int refused(uint64_t answer) {
+    if (stakebook_refusal(answer) != 0) printf("refused %u\n", stakebook_refusal(answer));
+    return stakebook_refusal(answer) != 0;
+}
+
+/* a call that changes the book: the count is kept where it was refused */
+static void changed(uint64_t answer) {
+    if (refused(answer)) return;
+    count = stakebook_count(answer);
+    printf("book %zu\n", count);
+}
+
+static void add(double depth, double density) {
+    changed(stakebook_add(count, depth, density, xs, ROOM, ys, ROOM, sums, STAKEBOOK_SUMS));
+}
+
+/* degrees 0 to 3, AIC, P95 */
+static void report(void) {
+    uint64_t answer = stakebook_report(count, STAKEBOOK_CUSTOM_DEGREE, 3, STAKEBOOK_AIC, STAKEBOOK_P95, 0, STAKEBOOK_NO_TOLERANCE, 0, xs, ROOM,
+                                       ys, ROOM, sums, STAKEBOOK_SUMS, scratch, ROOM, coefficients, STAKEBOOK_TERMS, errors, STAKEBOOK_TERMS,
+                                       pruned, STAKEBOOK_TERMS, lower, ROOM, upper, ROOM, outliers, ROOM);
+    if (refused(answer)) return;
+    printf("report %u %u %u %u\n", stakebook_degree(answer), stakebook_solved(answer), stakebook_outliers(answer), stakebook_pruned(answer));
+    print_numbers("coefficients", coefficients, STAKEBOOK_TERMS);
+    print_numbers("errors", errors, STAKEBOOK_TERMS);
+    print_bytes("pruned", pruned, STAKEBOOK_TERMS);
+    print_numbers("lower", lower, count);
+    print_numbers("upper", upper, count);
+    print_bytes("outliers", outliers, count);
+}
+
+static void fitted(uint64_t answer) {
+    if (refused(answer)) return;
+    printf("fit %u\n", stakebook_degree(answer));
+    print_numbers("coefficients", coefficients, STAKEBOOK_TERMS);
+}
+
+static void band(double depth, size_t degree) {
+    double numbers[STAKEBOOK_BAND];
+    uint64_t answer = stakebook_band(count, depth, degree, STAKEBOOK_CUSTOM_SCORE, 2.0, STAKEBOOK_ABSOLUTE, 5.0, xs, ROOM, ys, ROOM, sums,
+                                     STAKEBOOK_SUMS, scratch, ROOM, numbers, STAKEBOOK_BAND);
+    if (!refused(answer)) print_numbers("band", numbers, STAKEBOOK_BAND);
+}
+
+int main(void) {
+    /* the samples of two logger readings, 1.3 m 331 kg/m3 and 1.5 m 358 kg/m3, as a frame */
+    static const uint8_t frame[] = {0x00, 0x21, 0x01, 0x3F, 0xF4, 0xCC, 0xCC, 0xCC, 0xCC, 0xCC, 0xCD, 0x40, 0x74, 0xB0, 0x00, 0x00, 0x00, 0x00,
+                                    0x00, 0x3F, 0xF8, 0x00, 0x00, 0x00, 0x00, 0x00, 0x00, 0x40, 0x76, 0x60, 0x00, 0x00, 0x00, 0x00, 0x00};
+    changed(stakebook_open(sums, STAKEBOOK_SUMS));
+    report();
+    add(0.1, 212);
+    add(0.3, 240.5);
+    add(0.5, 251);
+    add(0.7, 287);
+    add(0.9, 290);
+    add(1.1, 322.5);
+    report();
+    changed(stakebook_add_frame(count, frame, sizeof frame, xs, ROOM, ys, ROOM, sums, STAKEBOOK_SUMS));
+    /* a density was mistyped: 287 is 278 */
+    changed(stakebook_correct(count, 3, 278, xs, ROOM, ys, ROOM, sums, STAKEBOOK_SUMS));
+    report();
+    /* the fifth sample was taken in a wind slab: it goes */
+    changed(stakebook_withdraw(count, 4, xs, ROOM, ys, ROOM, sums, STAKEBOOK_SUMS));
+    changed(stakebook_withdraw(count, 7, xs, ROOM, ys, ROOM, sums, STAKEBOOK_SUMS));
+    fitted(stakebook_fit(count, 1, xs, ROOM, ys, ROOM, sums, STAKEBOOK_SUMS, scratch, ROOM, coefficients, STAKEBOOK_TERMS));
+    fitted(stakebook_validate(count, 3, STAKEBOOK_CUSTOM_DEGREE, 2, STAKEBOOK_BIC, xs, ROOM, ys, ROOM, sums, STAKEBOOK_SUMS, scratch, ROOM,
+                              coefficients, STAKEBOOK_TERMS));
+    band(1, 1);
+    band(2, 1);
+    return 0;
+}
