@@ -9,6 +9,7 @@ use crate::coverage::Coverage;
 use crate::generate;
 use crate::journal;
 use crate::memory::Lent;
+use crate::port::Port;
 use crate::run::run;
 use crate::shrink::shrink;
 use crate::side::{Judge, Side};
@@ -183,11 +184,11 @@ fn text(name: &str) -> Vec<u8> {
     std::fs::read(&path).unwrap_or_else(|error| panic!("{}: {error}", path.display()))
 }
 
-/// Runs a text's calls, beside the ledger and polyfit, and answers what never happened of what is
+/// Runs a text's calls, beside the ledger, polyfit and the port, and answers what never happened of what is
 /// asked for.
 fn missing_in(name: &str, asked: fn(&str) -> bool) -> Vec<String> {
     let mut coverage = Coverage::default();
-    let outcome = run(&journal::list_of(&text(name)), &[], &mut coverage);
+    let outcome = run(&journal::list_of(&text(name)), &[&Port], &mut coverage);
     assert!(outcome.is_ok(), "{name}: {outcome:?}");
     assert!(coverage.by_reference > 0);
     coverage.missing().into_iter().filter(|key| asked(key)).collect()
