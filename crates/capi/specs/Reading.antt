@@ -1,17 +1,31 @@
 -- Reading a packed answer, as include/stakebook.h does, gives the answer back: no bit is lost. Assumes nothing.
 use mathlib.Core.Path.{_≡_, refl, ap, _∙_}
+use mathlib.Core.List.{List}
 use Prim.Native.Nat.{ℕ, _+_, _-_, _*_, _/_, _%_, _≤_, _<_}
 use native.Mathlib.Nat.{add-mul-div-right, div-eq-of-lt, mod-eq-of-lt, mod-eq-sub-div-mul, add-sub-cancel}
 use native.Mathlib.Omega.{arith}
+use lib.Ieee.{Float}
+use Rattle.statistics.specs.declared.DegreeBound.{DegreeBound}
+use Rattle.statistics.specs.declared.Confidence.{Confidence}
+use Rattle.statistics.specs.declared.Tolerance.{Tolerance}
+use Rattle.monomial.specs.Samples.{Sample}
+use Rattle.score.specs.declared.Criterion.{Criterion}
 use Rattle.book.specs.declared.Answer.{Answer}
 use Rattle.book.specs.declared.Answer.the-variants as books
+use Rattle.book.specs.Calls.{openOut, addOut, correctOut, withdrawOut, addFrameOut}
 use Rattle.query.specs.declared.FitAnswer.{FitAnswer}
 use Rattle.query.specs.declared.FitAnswer.the-variants as fits
 use Rattle.query.specs.declared.BandAnswer.{BandAnswer}
 use Rattle.query.specs.declared.BandAnswer.the-variants as bands
+use Rattle.query.specs.Fits.{fitOut, validateOut}
+use Rattle.query.specs.Bands.{bandOut}
+use Rattle.report.specs.declared.Settings.{Settings}
+use Rattle.report.specs.declared.Places.{Places}
 use Rattle.report.specs.declared.ReportAnswer.{ReportAnswer}
 use Rattle.report.specs.declared.ReportAnswer.the-variants as reports
-use Rattle.capi.specs.Packed.{packedRefusal, packedBook, packedFit, packedBand, packedCounts, packedReport, BookFits, FitFits, BandFits, ReportFits}
+use Rattle.report.specs.Reports.{reportOut}
+use Rattle.capi.specs.Packed.{bandInto, packedRefusal, packedBook, packedFit, packedBand, packedCounts, packedReport, BookFits, FitFits, BandFits, ReportFits}
+use Rattle.capi.specs.Fitting.{open-fits, add-fits, correct-fits, withdraw-fits, frame-fits, fit-fits, validate-fits, band-fits, report-fits}
 
 -- the number of the refusal, 0 if there is none
 abbrev pub numberIn : ℕ → ℕ
@@ -124,3 +138,38 @@ report-read (reports.Report d s o p) h =
     let hp = h .3 in
     (none-in (d .0) s o p hd hs ho hp, degree-in (d .0) s o p hd hs ho hp, solved-in (d .0) s o p hd hs ho hp, pruned-in (d .0) s o p hd hs ho hp, outliers-in (d .0) s o p hd hs ho hp)
 report-read (reports.Refused k) h = refusal-read k
+
+-- ---- so for every call, whatever it was given: the packed answer is read as the answer
+
+pub open-back : (sums : List Float) → BookRead (packedBook (openOut sums .answer)) (openOut sums .answer)
+open-back sums = book-read _ (open-fits sums)
+
+module _ (n : ℕ) (xs ys sums : List Float) where
+  pub add-back : (p : Sample) → BookRead (packedBook (addOut n p xs ys sums .answer)) (addOut n p xs ys sums .answer)
+  add-back p = book-read _ (add-fits n xs ys sums p)
+
+  pub correct-back : (i : ℕ) (y : Float) → BookRead (packedBook (correctOut n i y xs ys sums .answer)) (correctOut n i y xs ys sums .answer)
+  correct-back i y = book-read _ (correct-fits n xs ys sums i y)
+
+  pub withdraw-back : (i : ℕ) → BookRead (packedBook (withdrawOut n i xs ys sums .answer)) (withdrawOut n i xs ys sums .answer)
+  withdraw-back i = book-read _ (withdraw-fits n xs ys sums i)
+
+  pub frame-back : (f : List ℕ) → BookRead (packedBook (addFrameOut n f xs ys sums .answer)) (addFrameOut n f xs ys sums .answer)
+  frame-back f = book-read _ (frame-fits n xs ys sums f)
+
+  module _ (scratch coefficients : List Float) where
+    pub fit-back : (degree : ℕ) → (let a = fitOut n xs ys sums scratch coefficients degree .answer in FitRead (packedFit a) a)
+    fit-back degree = fit-read _ (fit-fits n xs ys sums scratch coefficients degree)
+
+    pub validate-back : (folds : ℕ) (bound : DegreeBound) (criterion : Criterion)
+        → (let a = validateOut n xs ys sums scratch coefficients folds bound criterion .answer in FitRead (packedFit a) a)
+    validate-back folds bound criterion = fit-read _ (validate-fits n xs ys sums scratch coefficients folds bound criterion)
+
+  pub band-back : (x : Float) (degree : ℕ) (confidence : Confidence) (tolerance : Tolerance) (scratch : List Float) (places : ℕ)
+      → (let a = bandInto places (bandOut n x degree confidence tolerance xs ys sums scratch) .answer in BandRead (packedBand a) a)
+  band-back x degree confidence tolerance scratch places =
+      band-read _ (band-fits n x degree confidence tolerance xs ys sums scratch places)
+
+  pub report-back : (settings : Settings) (places : Places)
+      → (let a = reportOut n settings xs ys sums places .answer in ReportRead (packedReport a) a)
+  report-back settings places = report-read _ (report-fits n settings xs ys sums places)
