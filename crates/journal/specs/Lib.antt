@@ -1,0 +1,3 @@
+-- What the program's contracts cite.
+pub mod Front
+pub mod Answers

@@ -1,0 +1,47 @@
+-- `replay::replay` meets its contract. Assumes nothing.
+use mathlib.Core.Path.{sym, _∙_}
+use borrow.Author.Needs.{needs}
+use borrow.Author.Tests.{not-true, not-false}
+use Rattle.replay.specs.Steps.{outputs, memory}
+use Rattle.replay.proofs.Turns.{replay-malformed, replay-ran}
+use Rattle.replay.proofs.replay.Statement.{statement}
+use Rattle.replay.proofs.replay.Tie as tie
+
+returns : tie.Need-returns
+returns c =
+    let at-args = c .before .before .before .before .before .before .before .before .before .before .before .before .before .before .before .before .args in
+    replay-malformed (at-args .kinds .now) (at-args .words .now) (at-args .numbers .now) (at-args .width) (memory (at-args .xs .now) (at-args .ys .now) (at-args .sums .now) (at-args .results .now) (outputs (at-args .scratch .now) (at-args .coefficients .now) (at-args .errors .now) (at-args .pruned .now) (at-args .lower .now) (at-args .upper .now) (at-args .outliers .now))) (sym (c .before .well-formed .ensures) ∙ not-true _ (c .if1 .taken))
+
+run-requires : tie.Need-run-requires
+run-requires c κs =
+    let at-well-formed = c .before .before .before .before .before .before .before .before .before .before .before .before .well-formed in
+    let at-if1 = c .before .before .before .before .before .before .before .before .before .before .before .if1 in
+    sym (at-well-formed .ensures) ∙ not-false _ (at-if1 .left)
+
+returns-2 : tie.Need-returns-2
+returns-2 c =
+    let at-args = c .before .before .before .before .before .before .before .before .before .before .before .before .before .before .before .before .before .before .before .before .before .before .before .before .before .before .before .before .before .before .before .before .before .before .before .before .before .before .before .before .before .before .before .before .before .before .before .before .before .before .args in
+    let at-well-formed = c .before .before .before .before .before .before .before .before .before .before .before .before .before .before .before .before .before .before .before .before .before .before .before .before .before .before .before .before .before .before .before .before .before .before .before .well-formed in
+    let at-if1 = c .before .before .before .before .before .before .before .before .before .before .before .before .before .before .before .before .before .before .before .before .before .before .before .before .before .before .before .before .before .before .before .before .before .before .if1 in
+    let at-run = c .before .before .before .before .before .before .before .before .before .before .before .before .before .before .before .before .before .before .before .before .before .before .run in
+    replay-ran (at-args .kinds .now) (at-args .words .now) (at-args .numbers .now) (at-args .width) (memory (at-args .xs .now) (at-args .ys .now) (at-args .sums .now) (at-args .results .now) (outputs (at-args .scratch .now) (at-args .coefficients .now) (at-args .errors .now) (at-args .pruned .now) (at-args .lower .now) (at-args .upper .now) (at-args .outliers .now))) (sym (at-well-formed .ensures) ∙ not-false _ (at-if1 .left)) _ _ (at-run .ensures)
+
+pub replay-spec : {M : Type 1} → statement M
+replay-spec =
+    tie.close
+    (tie.spec
+    (λ c κs. search needs)
+    returns
+    run-requires
+    (λ c. search needs)
+    (λ c. search needs)
+    (λ c. search needs)
+    (λ c. search needs)
+    (λ c. search needs)
+    (λ c. search needs)
+    (λ c. search needs)
+    (λ c. search needs)
+    (λ c. search needs)
+    (λ c. search needs)
+    (λ c. search needs)
+    returns-2)

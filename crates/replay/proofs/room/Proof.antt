@@ -1,0 +1,14 @@
+-- `replay::room` meets its contract. Assumes nothing.
+use borrow.Author.Needs.{needs}
+use borrow.Author.Tests.{eq-eqb, ne-eqb}
+use Rattle.replay.proofs.room.Statement.{statement}
+use Rattle.replay.proofs.room.Tie as tie
+
+returns : tie.Need-returns
+returns c = rw (eq-eqb (c .before .args .width) 0 (c .if1 .taken))
+
+returns-2 : tie.Need-returns-2
+returns-2 c = rw (ne-eqb (c .before .args .width) 0 (c .if1 .left))
+
+pub room-spec : {M : Type 1} → statement M
+room-spec = tie.close (tie.spec returns (λ c. search needs) returns-2)

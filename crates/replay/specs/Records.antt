@@ -1,0 +1,86 @@
+-- How a list of calls stands in lent buffers: the k-th call has 5 kinds from place 5 k on, 9 words from 9 k on, and 4 numbers from 4 k on.
+-- Definitions only.
+use mathlib.Core.Bool.{Bool, _&&_, _||_}
+use mathlib.Core.List.{List}
+use Prim.Native.Nat.{ℕ, zero, suc, _+_, _*_, _/_}
+use lib.Dec.{leb, eqb}
+use lib.ListN.{length, getD}
+use lib.Ieee.{Float, nan}
+use Rattle.loops.specs.Fold.{allOf}
+use Rattle.loops.specs.Places.{table}
+use Rattle.codes.specs.Codes.{boundOf, criterionOf, confidenceOf, toleranceOf}
+use Rattle.report.specs.declared.Settings.{Settings}
+use Rattle.report.specs.declared.Places.{Places}
+use Rattle.replay.specs.declared.Buffers.{Buffers}
+use Rattle.ledger.specs.Ledger.{Call, changes, reads, adds, corrects, withdraws}
+use Rattle.ledger.specs.Questions.{Question, reports}
+
+-- the kinds: of the call, of the bound, the criterion, the confidence and the tolerance;
+-- the words: the index, the bound's degree, and the lengths of scratch, coefficients, errors, pruning bytes, lower, upper and outlier bytes;
+-- the numbers: x, y, the Custom score, and the tolerance's number
+unfoldable pub settingsAt : List ℕ → List ℕ → List Float → ℕ → Settings
+settingsAt kinds words numbers k =
+    record {
+      bound = boundOf (getD kinds (5 * k + 1) 0) (getD words (9 * k + 1) 0);
+      criterion = criterionOf (getD kinds (5 * k + 2) 0);
+      confidence = confidenceOf (getD kinds (5 * k + 3) 0) (getD numbers (4 * k + 2) nan);
+      tolerance = toleranceOf (getD kinds (5 * k + 4) 0) (getD numbers (4 * k + 3) nan);
+    }
+
+unfoldable pub placesAt : List ℕ → ℕ → Places
+placesAt words k =
+    record {
+      scratch = getD words (9 * k + 2) 0;
+      coefficients = getD words (9 * k + 3) 0;
+      errors = getD words (9 * k + 4) 0;
+      pruned = getD words (9 * k + 5) 0;
+      lower = getD words (9 * k + 6) 0;
+      upper = getD words (9 * k + 7) 0;
+      outliers = getD words (9 * k + 8) 0;
+    }
+
+-- a call by its kind: 0 add, 1 correct, 2 withdraw, else report
+unfoldable pub callOf : ℕ → ℕ → Float → Float → Settings → Places → Call Question
+callOf zero i x y settings places = changes (adds (record { x = x; y = y }))
+callOf (suc zero) i x y settings places = changes (corrects i y)
+callOf (suc (suc zero)) i x y settings places = changes (withdraws i)
+callOf (suc (suc (suc kind))) i x y settings places = reads (reports settings places)
+
+unfoldable pub callAt : List ℕ → List ℕ → List Float → ℕ → Call Question
+callAt kinds words numbers k =
+    callOf (getD kinds (5 * k) 0) (getD words (9 * k) 0) (getD numbers (4 * k) nan) (getD numbers (4 * k + 1) nan) (settingsAt kinds words numbers k)
+    (placesAt words k)
+
+-- as many calls as there are whole records of kinds
+abbrev pub callCount : List ℕ → ℕ
+callCount kinds = length kinds / 5
+
+unfoldable pub callsOf : List ℕ → List ℕ → List Float → List (Call Question)
+callsOf kinds words numbers = table (callAt kinds words numbers) (callCount kinds)
+
+-- ---- well formed
+
+-- a buffer of so many places holds m windows of this width
+abbrev pub holds : ℕ → ℕ → ℕ → Bool
+holds width m places = eqb width 0 || leb m (places / width)
+
+-- a record's memory fits into windows of this width
+unfoldable pub fitsIn : ℕ → Places → Bool
+fitsIn width p =
+    leb (p .scratch) width && leb (p .coefficients) width && leb (p .errors) width && leb (p .pruned) width && leb (p .lower) width && leb (p .upper) width
+    && leb (p .outliers) width
+
+-- of every record
+unfoldable pub allFit : List ℕ → ℕ → ℕ → Bool
+allFit words width m = allOf (fitsIn width) (table (placesAt words) m)
+
+-- buffers of these lengths hold m records, five results a call, a window a call, and the 272 sums
+unfoldable pub hasRoom : ℕ → ℕ → ℕ → ℕ → Buffers → Bool
+hasRoom m words numbers width b =
+    leb m (words / 9) && leb m (numbers / 4) && leb m (b .results / 5) && leb 272 (b .sums) && holds width m (b .scratch) && holds width m (b .coefficients)
+    && holds width m (b .errors) && holds width m (b .pruned) && holds width m (b .lower) && holds width m (b .upper) && holds width m (b .outliers)
+
+-- they do, and every record's memory fits
+unfoldable pub wellFormed : List ℕ → List ℕ → List Float → ℕ → Buffers → Bool
+wellFormed kinds words numbers width b =
+    hasRoom (callCount kinds) (length words) (length numbers) width b && allFit words width (callCount kinds)

@@ -1,0 +1,461 @@
+// A list of calls in lent buffers, run by the book's own calls. The promise of `replay` is demand 3, of the code.
+use book::Answer;
+use book::Book;
+use report::Places;
+use report::ReportAnswer;
+use report::Settings;
+ghost use mathlib.Core.Path.{_≡_};
+ghost use mathlib.Core.Bool.{true};
+ghost use Prim.Native.Nat.{_+_, _*_, _≤_, _<_};
+ghost use lib.ListN.{length};
+ghost use Rattle.book.specs.Calls.{stateOf};
+ghost use Rattle.report.specs.Reports.{reportOut};
+ghost use Rattle.measure.specs.Written.{over};
+ghost use Rattle.replay.specs.Records.{settingsAt, placesAt, callOf, callAt, callsOf, holds, fitsIn, allFit, hasRoom, wellFormed};
+ghost use Rattle.replay.specs.Replay.{ReplayIs, Ran, buffersOf};
+ghost use Rattle.replay.specs.Steps.{resultsIn, settled, toldOf, Changed, Reported, Turned, Stands, Windows, outputs, memory};
+
+// How a replay ends: with the book after the last call, or because the buffers do not hold a list of calls.
+pub enum Replayed {
+    Book(Book),
+    Malformed,
+}
+
+// How many places the buffers have that are written.
+pub struct Buffers {
+    pub sums: usize,
+    pub results: usize,
+    pub scratch: usize,
+    pub coefficients: usize,
+    pub errors: usize,
+    pub pruned: usize,
+    pub lower: usize,
+    pub upper: usize,
+    pub outliers: usize,
+}
+
+// The book that goes on to the next call, and the results recorded of a call: the refusal's number, 0 for none; the book's count or the degree;
+// solved degrees; outliers; pruned terms.
+pub struct Done {
+    pub count: usize,
+    pub number: usize,
+    pub size: usize,
+    pub solved: usize,
+    pub outliers: usize,
+    pub pruned: usize,
+}
+
+// The settings of the k-th record.
+fn settings_at(kinds: &[u32], words: &[usize], numbers: &[f64], k: usize) -> Settings
+    requires { ⌜ Stands (now kinds) (now words) (now numbers) k ⌝ }
+    ensures { λ r. ⌜ r ≡ settingsAt (now (kinds .entry)) (now (words .entry)) (now (numbers .entry)) k ⌝ }
+{
+    let kind = 5 * k;
+    let word = 9 * k;
+    let number = 4 * k;
+    let bound = codes::bound(kinds[kind + 1], words[word + 1]);
+    let criterion = codes::criterion(kinds[kind + 2]);
+    let confidence = codes::confidence(kinds[kind + 3], numbers[number + 2]);
+    let tolerance = codes::tolerance(kinds[kind + 4], numbers[number + 3]);
+    Settings {
+        bound,
+        criterion,
+        confidence,
+        tolerance,
+    }
+}
+
+// The lengths of the k-th record.
+fn places_at(words: &[usize], k: usize) -> Places
+    requires { ⌜ 9 * k + 9 ≤ length (now words) ⌝ }
+    ensures { λ r. ⌜ r ≡ placesAt (now (words .entry)) k ⌝ }
+{
+    let word = 9 * k;
+    Places {
+        scratch: words[word + 2],
+        coefficients: words[word + 3],
+        errors: words[word + 4],
+        pruned: words[word + 5],
+        lower: words[word + 6],
+        upper: words[word + 7],
+        outliers: words[word + 8],
+    }
+}
+
+// Whether m windows fit into so many places.
+fn room(width: usize, m: usize, places: usize) -> bool
+    ensures { λ r. ⌜ r ≡ holds width m places ⌝ }
+{
+    if width == 0 {
+        return true;
+    }
+    m <= places / width
+}
+
+// Whether a record's memory fits into a window.
+fn fits_in(width: usize, p: Places) -> bool
+    ensures { λ r. ⌜ r ≡ fitsIn width p ⌝ }
+{
+    (p.scratch <= width)
+        & (p.coefficients <= width)
+        & (p.errors <= width)
+        & (p.pruned <= width)
+        & (p.lower <= width)
+        & (p.upper <= width)
+        & (p.outliers <= width)
+}
+
+// Whether that of the first m records does.
+fn all_fit(words: &[usize], width: usize, m: usize) -> bool
+    requires { ⌜ 9 * m ≤ length (now words) ⌝ }
+    ensures { λ r. ⌜ r ≡ allFit (now (words .entry)) width m ⌝ }
+{
+    let mut fit = true;
+    for k in 0..m {
+        let p = places_at(words, k);
+        fit = fit & fits_in(width, p);
+    }
+    fit
+}
+
+// Whether the buffers have room for m calls.
+fn has_room(m: usize, words: usize, numbers: usize, width: usize, b: Buffers) -> bool
+    ensures { λ r. ⌜ r ≡ hasRoom m words numbers width b ⌝ }
+{
+    (m <= words / 9)
+        & (m <= numbers / 4)
+        & (m <= b.results / 5)
+        & (272 <= b.sums)
+        & room(width, m, b.scratch)
+        & room(width, m, b.coefficients)
+        & room(width, m, b.errors)
+        & room(width, m, b.pruned)
+        & room(width, m, b.lower)
+        & room(width, m, b.upper)
+        & room(width, m, b.outliers)
+}
+
+// Whether the buffers hold a list of calls, with room for all that is written.
+fn well_formed(kinds: &[u32], words: &[usize], numbers: &[f64], width: usize, b: Buffers) -> bool
+    ensures { λ r. ⌜ r ≡ wellFormed (now (kinds .entry)) (now (words .entry)) (now (numbers .entry)) width b ⌝ }
+{
+    let calls = kinds.len() / 5;
+    if !has_room(calls, words.len(), numbers.len(), width, b) {
+        return false;
+    }
+    all_fit(words, width, calls)
+}
+
+// After the answer of a call that changes a book.
+fn settle(old: Book, a: Answer) -> Done
+    ensures { λ r. ⌜ r ≡ settled (old .count) a ⌝ }
+{
+    match a {
+        Answer::Book(b) => {
+            let n = b.count;
+            Done {
+                count: n,
+                number: 0,
+                size: n,
+                solved: 0,
+                outliers: 0,
+                pruned: 0,
+            }
+        }
+        Answer::Refused(k) => {
+            let n = old.count;
+            let number = k as usize;
+            Done {
+                count: n,
+                number,
+                size: 0,
+                solved: 0,
+                outliers: 0,
+                pruned: 0,
+            }
+        }
+    }
+}
+
+// After a report's.
+fn tell(old: Book, a: ReportAnswer) -> Done
+    ensures { λ r. ⌜ r ≡ toldOf (old .count) a ⌝ }
+{
+    let n = old.count;
+    match a {
+        ReportAnswer::Report {
+            degree,
+            solved,
+            outliers,
+            pruned,
+        } => {
+            let size = degree.0;
+            Done {
+                count: n,
+                number: 0,
+                size,
+                solved,
+                outliers,
+                pruned,
+            }
+        }
+        ReportAnswer::Refused(k) => {
+            let number = k as usize;
+            Done {
+                count: n,
+                number,
+                size: 0,
+                solved: 0,
+                outliers: 0,
+                pruned: 0,
+            }
+        }
+    }
+}
+
+// The five results of a call.
+fn put(d: Done, out: &mut [usize])
+    requires { ⌜ 5 ≤ length (now out) ⌝ }
+    ensures { λ _. ⌜ now (out .exit) ≡ over (resultsIn d) (now (out .entry)) ⌝ }
+{
+    out[0] = d.number;
+    out[1] = d.size;
+    out[2] = d.solved;
+    out[3] = d.outliers;
+    out[4] = d.pruned;
+}
+
+// A call that changes the book: 0 add, 1 correct, 2 withdraw.
+fn change(
+    book: Book,
+    kind: u32,
+    index: usize,
+    x: f64,
+    y: f64,
+    settings: Settings,
+    places: Places,
+    xs: &mut [f64],
+    ys: &mut [f64],
+    sums: &mut [f64],
+) -> Done
+    requires { ⌜ kind < 3 ⌝ }
+    ensures { λ r. ⌜ Changed (stateOf (book .count) (now (xs .entry)) (now (ys .entry)) (now (sums .entry))) (callOf kind index x y settings places) r (now (xs .exit)) (now (ys .exit)) (now (sums .exit)) ⌝ }
+{
+    if kind == 0 {
+        let a = book::add(book, x, y, xs, ys, sums);
+        return settle(book, a);
+    }
+    if kind == 1 {
+        let a = book::correct(book, index, y, xs, ys, sums);
+        return settle(book, a);
+    }
+    let a = book::withdraw(book, index, xs, ys, sums);
+    settle(book, a)
+}
+
+// A report into windows that are cut from place `at` on.
+fn report_at(
+    book: Book,
+    settings: Settings,
+    p: Places,
+    at: usize,
+    xs: &[f64],
+    ys: &[f64],
+    sums: &[f64],
+    scratch: &mut [f64],
+    coefficients: &mut [f64],
+    errors: &mut [f64],
+    pruned: &mut [u8],
+    lower: &mut [f64],
+    upper: &mut [f64],
+    outliers: &mut [u8],
+) -> Done
+    requires { ⌜ Windows at p (outputs (now scratch) (now coefficients) (now errors) (now pruned) (now lower) (now upper) (now outliers)) ⌝ }
+    ensures { λ r. ⌜ Reported (book .count) at (reportOut (book .count) settings (now (xs .entry)) (now (ys .entry)) (now (sums .entry)) p) r (outputs (now (scratch .entry)) (now (coefficients .entry)) (now (errors .entry)) (now (pruned .entry)) (now (lower .entry)) (now (upper .entry)) (now (outliers .entry))) (outputs (now (scratch .exit)) (now (coefficients .exit)) (now (errors .exit)) (now (pruned .exit)) (now (lower .exit)) (now (upper .exit)) (now (outliers .exit))) ⌝ }
+{
+    let s = at + p.scratch;
+    let c = at + p.coefficients;
+    let e = at + p.errors;
+    let b = at + p.pruned;
+    let l = at + p.lower;
+    let u = at + p.upper;
+    let o = at + p.outliers;
+    let a = report::report(
+        book,
+        settings,
+        xs,
+        ys,
+        sums,
+        &mut scratch[at..s],
+        &mut coefficients[at..c],
+        &mut errors[at..e],
+        &mut pruned[at..b],
+        &mut lower[at..l],
+        &mut upper[at..u],
+        &mut outliers[at..o],
+    );
+    tell(book, a)
+}
+
+// The k-th call. The book goes on.
+fn turn(
+    book: Book,
+    kinds: &[u32],
+    words: &[usize],
+    numbers: &[f64],
+    width: usize,
+    k: usize,
+    xs: &mut [f64],
+    ys: &mut [f64],
+    sums: &mut [f64],
+    results: &mut [usize],
+    scratch: &mut [f64],
+    coefficients: &mut [f64],
+    errors: &mut [f64],
+    pruned: &mut [u8],
+    lower: &mut [f64],
+    upper: &mut [f64],
+    outliers: &mut [u8],
+) -> Book
+    requires { ⌜ Stands (now kinds) (now words) (now numbers) k × (5 * k + 5 ≤ length (now results)) × Windows (width * k) (placesAt (now words) k) (outputs (now scratch) (now coefficients) (now errors) (now pruned) (now lower) (now upper) (now outliers)) ⌝ }
+    ensures { λ r. ⌜ Turned (callAt (now (kinds .entry)) (now (words .entry)) (now (numbers .entry)) k) width k (book .count) (memory (now (xs .entry)) (now (ys .entry)) (now (sums .entry)) (now (results .entry)) (outputs (now (scratch .entry)) (now (coefficients .entry)) (now (errors .entry)) (now (pruned .entry)) (now (lower .entry)) (now (upper .entry)) (now (outliers .entry)))) (r .count) (memory (now (xs .exit)) (now (ys .exit)) (now (sums .exit)) (now (results .exit)) (outputs (now (scratch .exit)) (now (coefficients .exit)) (now (errors .exit)) (now (pruned .exit)) (now (lower .exit)) (now (upper .exit)) (now (outliers .exit)))) ⌝ }
+{
+    let settings = settings_at(kinds, words, numbers, k);
+    let places = places_at(words, k);
+    let kind = kinds[5 * k];
+    let from = 5 * k;
+    let end = from + 5;
+    if kind < 3 {
+        let index = words[9 * k];
+        let number = 4 * k;
+        let x = numbers[number];
+        let y = numbers[number + 1];
+        let d = change(book, kind, index, x, y, settings, places, xs, ys, sums);
+        put(d, &mut results[from..end]);
+        return Book { count: d.count };
+    }
+    let d = report_at(
+        book,
+        settings,
+        places,
+        width * k,
+        xs,
+        ys,
+        sums,
+        scratch,
+        coefficients,
+        errors,
+        pruned,
+        lower,
+        upper,
+        outliers,
+    );
+    put(d, &mut results[from..end]);
+    Book { count: d.count }
+}
+
+// The calls of the buffers, one after another, from a book just opened.
+fn run(
+    kinds: &[u32],
+    words: &[usize],
+    numbers: &[f64],
+    width: usize,
+    xs: &mut [f64],
+    ys: &mut [f64],
+    sums: &mut [f64],
+    results: &mut [usize],
+    scratch: &mut [f64],
+    coefficients: &mut [f64],
+    errors: &mut [f64],
+    pruned: &mut [u8],
+    lower: &mut [f64],
+    upper: &mut [f64],
+    outliers: &mut [u8],
+) -> Book
+    requires { ⌜ wellFormed (now kinds) (now words) (now numbers) width (buffersOf (memory (now xs) (now ys) (now sums) (now results) (outputs (now scratch) (now coefficients) (now errors) (now pruned) (now lower) (now upper) (now outliers)))) ≡ true ⌝ }
+    ensures { λ r. ⌜ Ran (callsOf (now (kinds .entry)) (now (words .entry)) (now (numbers .entry))) width (r .count) (memory (now (xs .entry)) (now (ys .entry)) (now (sums .entry)) (now (results .entry)) (outputs (now (scratch .entry)) (now (coefficients .entry)) (now (errors .entry)) (now (pruned .entry)) (now (lower .entry)) (now (upper .entry)) (now (outliers .entry)))) (memory (now (xs .exit)) (now (ys .exit)) (now (sums .exit)) (now (results .exit)) (outputs (now (scratch .exit)) (now (coefficients .exit)) (now (errors .exit)) (now (pruned .exit)) (now (lower .exit)) (now (upper .exit)) (now (outliers .exit)))) ⌝ }
+{
+    let a = book::open(sums);
+    let first = settle(Book { count: 0 }, a);
+    let mut count = first.count;
+    let m = kinds.len() / 5;
+    let mut k = 0;
+    while k < m {
+        let book = turn(
+            Book { count: count },
+            kinds,
+            words,
+            numbers,
+            width,
+            k,
+            xs,
+            ys,
+            sums,
+            results,
+            scratch,
+            coefficients,
+            errors,
+            pruned,
+            lower,
+            upper,
+            outliers,
+        );
+        count = book.count;
+        k += 1;
+    }
+    Book { count: count }
+}
+
+// The calls are run where the buffers hold a list of calls; else nothing is written.
+pub fn replay(
+    kinds: &[u32],
+    words: &[usize],
+    numbers: &[f64],
+    width: usize,
+    xs: &mut [f64],
+    ys: &mut [f64],
+    sums: &mut [f64],
+    results: &mut [usize],
+    scratch: &mut [f64],
+    coefficients: &mut [f64],
+    errors: &mut [f64],
+    pruned: &mut [u8],
+    lower: &mut [f64],
+    upper: &mut [f64],
+    outliers: &mut [u8],
+) -> Replayed
+    ensures { λ r. ⌜ ReplayIs (now (kinds .entry)) (now (words .entry)) (now (numbers .entry)) width (memory (now (xs .entry)) (now (ys .entry)) (now (sums .entry)) (now (results .entry)) (outputs (now (scratch .entry)) (now (coefficients .entry)) (now (errors .entry)) (now (pruned .entry)) (now (lower .entry)) (now (upper .entry)) (now (outliers .entry)))) (memory (now (xs .exit)) (now (ys .exit)) (now (sums .exit)) (now (results .exit)) (outputs (now (scratch .exit)) (now (coefficients .exit)) (now (errors .exit)) (now (pruned .exit)) (now (lower .exit)) (now (upper .exit)) (now (outliers .exit)))) r ⌝ }
+{
+    let b = Buffers {
+        sums: sums.len(),
+        results: results.len(),
+        scratch: scratch.len(),
+        coefficients: coefficients.len(),
+        errors: errors.len(),
+        pruned: pruned.len(),
+        lower: lower.len(),
+        upper: upper.len(),
+        outliers: outliers.len(),
+    };
+    if !well_formed(kinds, words, numbers, width, b) {
+        return Replayed::Malformed;
+    }
+    let book = run(
+        kinds,
+        words,
+        numbers,
+        width,
+        xs,
+        ys,
+        sums,
+        results,
+        scratch,
+        coefficients,
+        errors,
+        pruned,
+        lower,
+        upper,
+        outliers,
+    );
+    Replayed::Book(book)
+}
