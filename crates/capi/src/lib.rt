@@ -4,15 +4,61 @@ mod packed;
 
 use basis::Degree;
 use book::Book;
+use query::BandAnswer;
+use report::ReportAnswer;
 use report::Settings;
+ghost use mathlib.Core.Path.{_≡_};
 ghost use mathlib.Core.List.{[]};
+ghost use Prim.Native.Nat.{_≤_};
 ghost use lib.ListN.{length};
 ghost use Rattle.book.specs.Calls.{openOut, addOut, correctOut, withdrawOut, addFrameOut};
+ghost use Rattle.measure.specs.Written.{over};
 ghost use Rattle.query.specs.Fits.{fitOut, validateOut};
 ghost use Rattle.query.specs.Bands.{bandOut};
 ghost use Rattle.report.specs.Reports.{reportOut};
 ghost use Rattle.codes.specs.Codes.{boundOf, criterionOf, confidenceOf, toleranceOf};
-ghost use Rattle.capi.specs.Packed.{BookPacked, FitPacked, BandPacked, bandInto, ReportPacked};
+ghost use Rattle.capi.specs.Packed.{packedCounts, packedReport, ReportFits, packedBand, bandNumbers, BookPacked, FitPacked, BandPacked, bandInto, ReportPacked};
+
+// The four numbers of a report, each in its field.
+fn counts(degree: usize, solved: usize, outliers: usize, pruned: usize) -> u64
+    requires { ⌜ (degree ≤ 15) × (solved ≤ 16) × (outliers ≤ 4096) × (pruned ≤ 16) ⌝ }
+    ensures { λ r. ⌜ r ≡ packedCounts degree solved outliers pruned ⌝ }
+{
+    let all = degree + solved * 0x100 + pruned * 0x1_0000 + outliers * 0x1_0000_0000;
+    all as u64
+}
+
+// A report: the degree in bits 0 to 7, the solved degrees in bits 8 to 15, the pruned terms in bits 16 to 23, the outliers in bits 32 to 47.
+fn packed_report(answer: ReportAnswer) -> u64
+    requires { ⌜ ReportFits answer ⌝ }
+    ensures { λ r. ⌜ r ≡ packedReport answer ⌝ }
+{
+    match answer {
+        ReportAnswer::Report {
+            degree,
+            solved,
+            outliers,
+            pruned,
+        } => counts(degree.0, solved, outliers, pruned),
+        ReportAnswer::Refused(k) => packed::refused(k),
+    }
+}
+
+// A band: 0, and its value, lower and upper are written.
+fn packed_band(answer: BandAnswer, numbers: &mut [f64]) -> u64
+    requires { ⌜ 3 ≤ length (now numbers) ⌝ }
+    ensures { λ r. ⌜ (r ≡ packedBand answer) × (now (numbers .exit) ≡ over (bandNumbers answer) (now (numbers .entry))) ⌝ }
+{
+    match answer {
+        BandAnswer::Band(b) => {
+            numbers[0] = b.value;
+            numbers[1] = b.lower;
+            numbers[2] = b.upper;
+            0
+        }
+        BandAnswer::Refused(k) => packed::refused(k),
+    }
+}
 
 // An empty book: the sums become those of no sample.
 #[no_mangle]
@@ -169,7 +215,7 @@ pub extern "C" fn stakebook_band(
         sums,
         scratch,
     );
-    packed::band(answer, numbers)
+    packed_band(answer, numbers)
 }
 
 // A report of the book.
@@ -202,7 +248,7 @@ pub extern "C" fn stakebook_report(
         confidence: codes::confidence(confidence, score),
         tolerance: codes::tolerance(tolerance, value),
     };
-    packed::report(report::report(
+    packed_report(report::report(
         Book { count },
         settings,
         xs,

@@ -15,7 +15,7 @@ returns-2 c =
     let at-if1 = c .before .before .before .before .before .before .before .before .before .before .if1 in
     let at-band = c .before .before .before .before .before .before .band in
     rw (← at-confidence .ensures, ← at-tolerance .ensures)
-    (band-packed _ _ _ _ (le-ltb _ _ (at-if1 .left)) _ _ _ _ (at-band .ensures) (c .before .before .band2 .ensures .0) (c .before .before .band2 .ensures .1))
+    (band-packed _ _ _ _ (le-ltb _ _ (at-if1 .left)) _ _ _ _ (at-band .ensures) (c .before .before .packed-band .ensures .0) (c .before .before .packed-band .ensures .1))
 
 pub stakebook-band-spec : {M : Type 1} → statement M
 stakebook-band-spec =

@@ -7,8 +7,8 @@ use Rattle.capi.proofs.Promises.{report-packed}
 use Rattle.capi.proofs.stakebook_report.Statement.{statement}
 use Rattle.capi.proofs.stakebook_report.Tie as tie
 
-report-requires-2 : tie.Need-report-requires-2
-report-requires-2 c κs =
+packed-report-requires : tie.Need-packed-report-requires
+packed-report-requires c κs =
     let at-args = c .before .before .before .before .before .before .before .before .before .before .before .before .before .before .before .before .before .before .before .before .before .before .before .before .before .before .before .before .before .before .before .before .before .before .before .before .args in
     let at-report = c .before .before .before .before .before .before .before .before .before .before .before .before .before .before .report in
     let places : Places =
@@ -31,7 +31,7 @@ returns c =
     let at-tolerance = c .before .before .before .before .before .before .before .before .before .before .before .before .before .before .before .before .before .before .before .before .before .before .before .tolerance in
     let at-report = c .before .before .before .before .before .before .before .before .before .before .before .before .before .before .before .report in
     rw (← at-bound .ensures, ← at-criterion .ensures, ← at-confidence .ensures, ← at-tolerance .ensures)
-    (report-packed (at-report .ensures) (c .report2 .ensures))
+    (report-packed (at-report .ensures) (c .packed-report .ensures))
 
 pub stakebook-report-spec : {M : Type 1} → statement M
 stakebook-report-spec =
@@ -42,7 +42,7 @@ stakebook-report-spec =
     (λ c κs. search needs)
     (λ c κs. search needs)
     (λ c κs. search needs)
-    report-requires-2
+    packed-report-requires
     (λ c. search needs)
     (λ c. search needs)
     (λ c. search needs)

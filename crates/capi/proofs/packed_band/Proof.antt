@@ -1,12 +1,12 @@
--- `capi::packed::band` meets its contract. Assumes nothing.
+-- `capi::packed_band` meets its contract. Assumes nothing.
 use mathlib.Core.Path.{refl}
 use native.Mathlib.Omega.{arith}
 use borrow.Author.Needs.{needs}
 use lib.ListN.{length-set}
 use Rattle.capi.specs.Packed.{packedBand, bandNumbers}
 use Rattle.capi.proofs.Promises.{three-written}
-use Rattle.capi.proofs.packed.band.Statement.{statement}
-use Rattle.capi.proofs.packed.band.Tie as tie
+use Rattle.capi.proofs.packed_band.Statement.{statement}
+use Rattle.capi.proofs.packed_band.Tie as tie
 
 slice-write-numbers-2 : tie.Need-slice-write-numbers-2
 slice-write-numbers-2 c =
@@ -24,8 +24,8 @@ returns-2 : tie.Need-returns-2
 unfolding packedBand bandNumbers
 returns-2 c = rw (c .before .before .answer2 .given .1) (c .refused .ensures, refl)
 
-pub band-spec : {M : Type 1} → statement M
-band-spec =
+pub packed-band-spec : {M : Type 1} → statement M
+packed-band-spec =
     tie.close
     (tie.spec
     (λ c. search needs)

@@ -1,8 +1,8 @@
--- `capi::packed::report` meets its contract. Assumes nothing.
+-- `capi::packed_report` meets its contract. Assumes nothing.
 use borrow.Author.Needs.{needs}
 use Rattle.capi.specs.Packed.{packedReport, ReportFits}
-use Rattle.capi.proofs.packed.report.Statement.{statement}
-use Rattle.capi.proofs.packed.report.Tie as tie
+use Rattle.capi.proofs.packed_report.Statement.{statement}
+use Rattle.capi.proofs.packed_report.Tie as tie
 
 counts-requires : tie.Need-counts-requires
 unfolding ReportFits
@@ -18,8 +18,8 @@ returns-2 : tie.Need-returns-2
 unfolding packedReport
 returns-2 c = rw (c .before .before .answer2 .given .1) (c .refused .ensures)
 
-pub report-spec : {M : Type 1} → statement M
-report-spec =
+pub packed-report-spec : {M : Type 1} → statement M
+packed-report-spec =
     tie.close
     (tie.spec
     (λ c. search needs)
