@@ -12,6 +12,7 @@ use lib.Count.{trailingZeros}
 use lib.Ieee.{Float, nan, inf, fin, binary64, sub, add, neg, sum, round, lt, le, eq, ofBits, up, down, size, span, climb, odd, units}
 use lib.Ieee.Fits.{down-pos}
 use lib.Ieee.Order.{round-mono}
+use Rattle.loops.specs.Cases.{never, and-first, and-second}
 use Rattle.loops.specs.Loop.{last, done, First, seek-first, seek-none, seek-nowhere}
 use Rattle.value.specs.Finite.{finite}
 use Rattle.choice.specs.declared.Scored.{Scored}
@@ -21,9 +22,6 @@ use Rattle.basis.specs.declared.OptionDegree.the-variants.{Some, None}
 use Rattle.value.specs.Numbers.{twoF, infinityF}
 use Rattle.value.specs.Order.{lt-itself, lt-trans}
 use Rattle.choice.specs.Choice.{degree, yields, leastOf, near, degreeOf, chosenOf}
-
-never : {G : Type 0} → false ≡ true → G
-never h = absurd (false≢true h)
 
 -- ---- the least
 
@@ -161,14 +159,6 @@ pub record Chosen (S : ℕ → Scored) (b d : ℕ) : Type 0 where
   pub close : le (sub binary64 (S d .score) (leastOf S b)) twoF ≡ true
   pub least-finite : finite (leastOf S b) ≡ true
   pub lowest : (e : ℕ) → e < d → S e .solved ≡ true → le (sub binary64 (S e .score) (leastOf S b)) twoF ≡ false
-
-and-first : (a b : Bool) → a && b ≡ true → a ≡ true
-and-first true b h = refl
-and-first false b h = h
-
-and-second : (a b : Bool) → a && b ≡ true → b ≡ true
-and-second true b h = h
-and-second false b h = never h
 
 near-solved : (a : Float) (s : Scored) → near a s ≡ true → s .solved ≡ true
 unfolding near

@@ -8,6 +8,7 @@ use lib.ListN.{length}
 use lib.Ieee.{Float, binary64, fits}
 use lib.Ieee.Fits.{sub-fits}
 use Rattle.loops.specs.All.{All}
+use Rattle.loops.specs.Cases.{and-second}
 use Rattle.loops.specs.Fold.{allOf, all-cons}
 use Rattle.value.specs.Absolute.{absF}
 use Rattle.value.specs.Finite.{finite}
@@ -47,10 +48,6 @@ kept k c [] h = tt
 kept k c (r ∷ rows) h =
     let p = all-cons finite (residual k c r) (map (residual k c) rows) h in
     ((subst T (sym (p .0)) tt, sub-fits binary64 (r .y) _), kept k c rows (p .1))
-
-and-second : (a b : Bool) → a && b ≡ true → b ≡ true
-and-second true b h = h
-and-second false b h = absurd (false≢true h)
 
 -- the sizes of the residuals of what is solved
 module _ (sums : List Float) (rows : List Row) (k : ℕ) (h : isSolved sums rows k ≡ true) where

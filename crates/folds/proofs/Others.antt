@@ -6,17 +6,11 @@ use native.Mathlib.Omega.{arith}
 use lib.ListN.{length, take, drop, drop-of-length-le}
 use lib.Seq.{take-append-le, drop-append-le}
 use lib.Ieee.{Float}
-use Rattle.loops.specs.Places.{table, map-part}
+use Rattle.loops.specs.Places.{table, take-table, map-part}
 use Rattle.monomial.specs.Samples.{sampleAt, samplesOf, samples-again}
 use Rattle.monomial.specs.Rows.{Row, rowOf, rowsOf}
 use Rattle.monomial.specs.Sums.{sumsOf, addRow, sums-again, rows-again, length-rows}
 use Rattle.folds.specs.Folds.{othersOf}
-
-take-table : {A : Type 0} (f : ℕ → A) (a n : ℕ) → a ≤ n → take a (table f n) ≡ table f a
-unfolding table
-take-table f zero n h = refl
-take-table f (suc a) zero h = absurd (omega arith)
-take-table f (suc a) (suc n) h = ap (λ l. f 0 ∷ l) (take-table (λ k. f (suc k)) a n (omega arith))
 
 -- one row more at the end
 others-snoc : (start end : ℕ) (rows : List Row) (r : Row) → start ≤ end → end ≤ length rows → othersOf start end (rows ++ (r ∷ [])) ≡ othersOf start end rows ++ (r ∷ [])

@@ -67,6 +67,13 @@ table-at f zero k d h = absurd (omega arith)
 table-at f (suc n) zero d h = refl
 table-at f (suc n) (suc k) d h = table-at (λ j. f (suc j)) n k d (omega arith)
 
+-- the first a values of a table
+pub take-table : {A : Type 0} (f : ℕ → A) (a n : ℕ) → a ≤ n → take a (table f n) ≡ table f a
+unfolding table
+take-table f zero n h = refl
+take-table f (suc a) zero h = absurd (omega arith)
+take-table f (suc a) (suc n) h = ap (λ l. f 0 ∷ l) (take-table (λ k. f (suc k)) a n (omega arith))
+
 -- a list of n places that were all set
 pub each-table : {A : Type 0} (f : ℕ → A) (n : ℕ) (s : List A) → length s ≡ n → each (λ k _. f k) n s ≡ table f n
 unfolding each table

@@ -8,6 +8,7 @@ use borrow.Author.Tests.{ltb-false}
 use lib.Dec.{leb, ltb, eqb}
 use lib.ListN.{getD}
 use lib.Ieee.{Float, nan, binary64, ofBits, lt}
+use Rattle.loops.specs.Cases.{or-false}
 use Rattle.loops.specs.Fold.{fold, fold-snoc}
 use Rattle.value.specs.Numbers.{infinityF}
 use Rattle.value.specs.Finite.{finite}
@@ -17,7 +18,7 @@ use Rattle.statistics.specs.declared.DegreeBound.{DegreeBound}
 use Rattle.statistics.specs.declared.Tolerance.{Tolerance}
 use Rattle.monomial.specs.Samples.{Sample, sampleAt, samplesOf, samples-again}
 use Rattle.monomial.specs.Sums.{xsOf}
-use Rattle.book.specs.Refusals.{by, firstOf, tooShort, allFinite, numbered, first-none, Room, long-enough, or-false}
+use Rattle.book.specs.Refusals.{by, firstOf, tooShort, allFinite, numbered, first-none, Room, long-enough}
 use Rattle.measure.specs.Given.{scoreFinite, toleranceFinite}
 
 -- 1, of a call with scratch: the sums are shorter than 272 places, the count is above capacity, or scratch has under n places

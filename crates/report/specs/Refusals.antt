@@ -7,9 +7,10 @@ use Prim.Native.Nat.{ℕ, _≤_, _<_}
 use native.Mathlib.Omega.{arith}
 use borrow.Author.Tests.{ltb-false, eqb-false}
 use lib.Dec.{ltb, eqb}
+use Rattle.loops.specs.Cases.{or-false}
 use Rattle.statistics.specs.Degrees.{maxDegree}
 use Rattle.monomial.specs.Samples.{Sample}
-use Rattle.book.specs.Refusals.{by, firstOf, tooShort, allFinite, numbered, first-none, Room, long-enough, or-false}
+use Rattle.book.specs.Refusals.{by, firstOf, tooShort, allFinite, numbered, first-none, Room, long-enough}
 use Rattle.measure.specs.Given.{scoreFinite, toleranceFinite}
 use Rattle.report.specs.declared.Settings.{Settings}
 use Rattle.report.specs.declared.Places.{Places}

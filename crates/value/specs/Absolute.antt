@@ -10,6 +10,7 @@ use lib.Dec.{T, eqb, eqb→eq}
 use lib.Pow.{pow-pos}
 use lib.Ieee.{Float, nan, inf, fin, binary64, neg, mul, lt, eq, fits, up, down}
 use lib.Ieee.Fits.{up-pos}
+use Rattle.loops.specs.Cases.{never}
 
 unfoldable pub absF : Float → Float
 absF nan = nan
@@ -17,12 +18,6 @@ absF (inf s) = inf false
 absF (fin s m e) = fin false m e
 
 -- ---- laws
-
-never : {G : Type 0} → false ≡ true → G
-never h = absurd (let z : _≡_ {A = ℕ} 0 1 = cc in omega arith)
-
-never′ : {G : Type 0} → true ≡ false → G
-never′ h = absurd (let z : _≡_ {A = ℕ} 0 1 = cc in omega arith)
 
 twice : (k : ℕ) → 2 ^ suc k ≡ 1 → ⊥
 twice k h = let a = pow-pos k in let b = pow-succ' 2 k in omega arith
@@ -60,10 +55,10 @@ abs-zero (fin s (suc m) e) f h = absurd (both (eqb (suc m * up e * 1) (0 * 1 * d
 pub abs-above : (x : Float) → lt x (fin false 0 (pos 0)) ≡ false → eq x (fin false 0 (pos 0)) ≡ false → x ≡ absF x
 unfolding absF lt eq
 abs-above nan h g = refl
-abs-above (inf true) h g = never′ h
+abs-above (inf true) h g = never (sym h)
 abs-above (inf false) h g = refl
 abs-above (fin false m e) h g = refl
-abs-above (fin true zero e) h g = never′ (let z : 0 * up e * 1 ≡ 0 = omega (arith, zero-mul (up e)) in let w : 0 * 1 * down e ≡ 0 = omega (arith, zero-mul (down e)) in rw (z, w) at g)
+abs-above (fin true zero e) h g = never (sym (let z : 0 * up e * 1 ≡ 0 = omega (arith, zero-mul (up e)) in let w : 0 * 1 * down e ≡ 0 = omega (arith, zero-mul (down e)) in rw (z, w) at g))
 abs-above (fin true (suc m) e) h g =
     absurd
     (let p = mul-pos {m = suc m} {n = up e} (omega arith) (up-pos e) in

@@ -7,9 +7,7 @@ use native.Mathlib.Omega.{arith}
 use borrow.Author.Tests.{ltb-true, lt-ltb, le-ltb}
 use lib.Ieee.{Float, nan, inf, fin, lt, up, down, below}
 use lib.Ieee.Fits.{down-pos}
-
-never : {G : Type 0} → false ≡ true → G
-never h = absurd (false≢true h)
+use Rattle.loops.specs.Cases.{never}
 
 -- nothing is below itself
 pub lt-itself : (x : Float) → lt x x ≡ false

@@ -6,7 +6,8 @@ use Prim.Native.Nat.{_-_}
 use borrow.Author.Needs.{needs}
 use lib.ListN.{length}
 use lib.Dec.{ltb, eqb}
-use Rattle.book.specs.Refusals.{first-of, first-end, or-false}
+use Rattle.loops.specs.Cases.{or-false}
+use Rattle.book.specs.Refusals.{first-of, first-end}
 use Rattle.measure.specs.Given.{short-first, rest-first}
 use Rattle.query.specs.Refusals.{noScratch, fitRefusal, lengths}
 use Rattle.query.proofs.refusals.fit_refusal.Statement.{statement}

@@ -5,7 +5,8 @@ use mathlib.Core.List.{[], _∷_}
 use Prim.Native.Nat.{ℕ}
 use borrow.Author.Needs.{needs}
 use lib.ListN.{length}
-use Rattle.book.specs.Refusals.{tooShort, first-of, first-end, long-enough, or-false}
+use Rattle.loops.specs.Cases.{or-false}
+use Rattle.book.specs.Refusals.{tooShort, first-of, first-end, long-enough}
 use Rattle.measure.specs.Given.{short-first, rest-first}
 use Rattle.report.specs.Refusals.{tooFew, reportRefusal}
 use lib.Dec.{ltb, eqb}
