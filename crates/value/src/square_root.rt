@@ -1,12 +1,15 @@
-// The square root, from integer work on the bits: 53 digits of a whole-number root, one a turn.
+// The square root, from integer work on the bits: a whole-number root of 53 digits. It is guessed in doubles, and the guess is held against the squares;
+// where that settles nothing, the digits are found one a turn.
 ghost use mathlib.Core.Path.{_≡_};
+ghost use mathlib.Core.Logic.{_⊎_};
 ghost use Prim.Native.Nat.{_+_, _*_, _^_, _<_, _≤_};
 ghost use lib.Ieee.{binary64, ofBits};
+use crate::bits::to_bits;
 ghost use Rattle.value.specs.Root.{rootF, rootOf, closestRoot};
 
 // The root of m * 2^52, to the nearest whole number: 53 binary digits, one a turn. After n turns
 // `root * root + rest` is the whole part of m * 4^n / 2^54, and `next` is what is left below the point.
-fn closest_root(m: u64) -> u64
+fn root_by_digits(m: u64) -> u64
     requires { ⌜ m < 2 ^ 54 ⌝ }
     ensures { λ r. ⌜ r ≡ closestRoot (m * 2 ^ 52) ⌝ }
 {
@@ -28,6 +31,78 @@ fn closest_root(m: u64) -> u64
         n += 1;
     }
     if root < rest { root + 1 } else { root }
+}
+
+// A guess at the root of m * 2^52: four of Newton's steps in doubles. Any guess would do: it is tried below, and not trusted.
+fn guess(m: u64) -> u64
+    requires { ⌜ m < 2 ^ 54 ⌝ }
+    ensures { λ r. ⌜ (2 ^ 52 ≤ r) × (r < 2 ^ 53) ⌝ }
+{
+    let b = if m < 0x20_0000_0000_0000 {
+        m + 0x3FE0_0000_0000_0000
+    } else {
+        m / 2 + 0x3FF0_0000_0000_0000
+    };
+    let v = f64::from_bits(b);
+    let mut y = f64::from_bits(b / 2 + 0x1FF8_0000_0000_0000);
+    y = (y + v / y) / 2.0;
+    y = (y + v / y) / 2.0;
+    y = (y + v / y) / 2.0;
+    y = (y + v / y) / 2.0;
+    to_bits(y) % 0x10_0000_0000_0000 + 0x10_0000_0000_0000
+}
+
+// How far the square of r is from m * 2^52, counted from 2^56: above it where r is too small. 0 where it is too far for 64 bits.
+fn distance(m: u64, r: u64) -> u64
+    requires { ⌜ (m < 2 ^ 54) × (r < 2 ^ 53) ⌝ }
+    ensures is { λ d. ⌜ (d ≡ 0) ⊎ (r * r + d ≡ m * 2 ^ 52 + 2 ^ 56) ⌝ }
+    ensures small { λ d. ⌜ d ≤ 2 ^ 57 ⌝ }
+{
+    let a = r / 0x400_0000;
+    let q = r % 0x400_0000;
+    let square = a * a;
+    let low = q * q;
+    if m < square {
+        return 0;
+    }
+    let over = m - square;
+    if over > 0x1000_0000 {
+        return 0;
+    }
+    let have = over * 0x400_0000 + 0x4000_0000;
+    let want = 2 * (a * q);
+    if have < want {
+        return 0;
+    }
+    let rest = have - want;
+    if rest > 0x8000_0000 {
+        return 0;
+    }
+    let left = rest * 0x400_0000;
+    if left < low {
+        return 0;
+    }
+    left - low
+}
+
+// The root of m * 2^52, to the nearest whole number: a guess, or a neighbour of it where the squares tell that this is nearer. A guess that is farther
+// off is not used.
+fn closest_root(m: u64) -> u64
+    requires { ⌜ m < 2 ^ 54 ⌝ }
+    ensures { λ r. ⌜ r ≡ closestRoot (m * 2 ^ 52) ⌝ }
+{
+    let r = guess(m);
+    let d = distance(m, r);
+    if (0x100_0000_0000_0000 < d + r) & (d <= 0x100_0000_0000_0000 + r) {
+        return r;
+    }
+    if (0x100_0000_0000_0000 + r < d) & (d <= 0x100_0000_0000_0002 + 3 * r) {
+        return r + 1;
+    }
+    if (0x100_0000_0000_0002 < d + 3 * r) & (d + r <= 0x100_0000_0000_0000) {
+        return r - 1;
+    }
+    root_by_digits(m)
 }
 
 // The bits of the root of c * 2^j, counted in units of 2^-2148.

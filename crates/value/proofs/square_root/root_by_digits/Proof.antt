@@ -1,10 +1,10 @@
--- `value::closest_root` meets its contract. The invariant and one turn of the loop are in `proofs/Numbers.antt`. Assumes nothing.
+-- `value::root_by_digits` meets its contract. The invariant and one turn of the loop are in `proofs/Numbers.antt`. Assumes nothing.
 use Prim.Native.Nat.{_-_, _^_, _<_}
 use mathlib.Core.Logic.{⊎-elim}
 use native.Mathlib.Omega.{arith}
 use Rattle.value.proofs.SquareRoot.Numbers.{Run, starts, room-53, turn-one, turn-zero, ends-up, ends-down}
-use Rattle.value.proofs.square_root.closest_root.Statement.{statement}
-use Rattle.value.proofs.square_root.closest_root.Tie as tie
+use Rattle.value.proofs.square_root.root_by_digits.Statement.{statement}
+use Rattle.value.proofs.square_root.root_by_digits.Tie as tie
 
 abbrev Inv-loop : tie.InvT-loop
 Inv-loop m root₀ rest₀ next₀ n₀ root rest next n = Run m root rest next n
@@ -71,8 +71,8 @@ returns-2 c =
     let l = c .before .before in
     ends-down (l .before .args .m) (l .loop .root) (l .loop .rest) (l .loop .next) (l .loop .n) (l .before .pre) (l .loop .inv) (c .before .loop-test .left) (c .if2 .left)
 
-pub closest-root-spec : {M : Type 1} → statement M
-closest-root-spec =
+pub root-by-digits-spec : {M : Type 1} → statement M
+root-by-digits-spec =
     tie.close
     (tie.spec
     Inv-loop
