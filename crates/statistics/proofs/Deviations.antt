@@ -1,18 +1,18 @@
 -- Deviations |x − d|: their bits, that they have no sign, that those from +0 are the numbers themselves; and the median by the number's evenness.
 -- Assumes nothing.
-use mathlib.Core.Path.{_≡_, refl, sym, ap, subst, _∙_}
+use mathlib.Core.Path.{_≡_, refl, sym, ap, ap₂, subst, _∙_}
 use mathlib.Core.Bool.{Bool, true, false, not, _&&_, Bool·beq}
 use mathlib.Core.List.{List, [], _∷_, map}
 use Prim.Native.Nat.{ℕ, zero, suc, _+_, _-_, _*_, _/_, _%_, _^_, _≤_, _<_, zero-le}
 use native.Mathlib.Nat.{zero-add, add-assoc, mul-one, zero-mul, sub-zero}
 use native.Mathlib.Omega.{arith}
 use borrow.Author.Tests.{eq-eqb, ne-eqb, eqb-false, le-ltb}
-use lib.Dec.{T, ltb, eqb, eqb→eq}
+use lib.Dec.{T, leb, ltb, eqb, eqb→eq}
 use lib.IntN.{ℤ}
 use lib.ListN.{length, getD, take, length-map}
 use lib.Seq.{length-take-le, getD-take}
-use lib.Ieee.{Float, nan, inf, fin, binary64, round, units, odd, sum, add, sub, neg, div, toBits, ofBits, fits, isNan, nanBits, low, prec, emax, up, down, size}
-use lib.Ieee.Bits.{cond-no, nanBits-above}
+use lib.Ieee.{Float, nan, inf, fin, binary64, round, units, odd, sum, add, sub, neg, div, le, toBits, ofBits, fits, isNan, nanBits, low, prec, emax, up, down, size}
+use lib.Ieee.Bits.{cond-no, nanBits-is, ofBits-fits, toBits-ofBits}
 use lib.Ieee.Fits.{round-is, sub-fits}
 use Rattle.loops.specs.All.{All, all-at, all-map}
 use Rattle.loops.specs.Cases.{choose}
@@ -20,7 +20,8 @@ use Rattle.loops.specs.Places.{map-at}
 use Rattle.value.specs.Absolute.{absF, flat}
 use Rattle.value.specs.Exact.{round-itself}
 use Rattle.value.specs.Finite.{finite}
-use Rattle.value.specs.Keys.{bits-le}
+use Rattle.value.specs.Keys.{bits-le, le-key}
+use Rattle.value.specs.Nan.{bits-some as pattern-some}
 use Rattle.value.specs.Numbers.{zeroF, twoF}
 use Rattle.value.proofs.Positive.{round-plain, plain-some}
 use Rattle.statistics.specs.Medians.{sort, midpoint, medianOf, deviations, Plain, Size, abs-plain}
@@ -40,6 +41,10 @@ low-part a b e h = omega arith
 
 low-same : (b : ℕ) → b ≤ 0x7FF0_0000_0000_0000 → b % 0x8000_0000_0000_0000 ≡ b
 low-same b h = omega arith
+
+inf-sign : toBits binary64 (inf true) ≡ 0xFFF0_0000_0000_0000
+unfolding toBits
+inf-sign = refl
 
 inf-bits : toBits binary64 (inf true) % 0x8000_0000_0000_0000 ≡ toBits binary64 (inf false)
 unfolding toBits
@@ -61,9 +66,28 @@ abs-some (fin s m e) p = tt
 
 -- the bits at a place are no NaN's
 pub bits-some : (b : ℕ) → b ≤ 0x7FF0_0000_0000_0000 → T (not (nanBits binary64 b))
-bits-some b h =
-    let q : b % 0x8000_0000_0000_0000 ≤ 0x7FF0_0000_0000_0000 = omega arith in
-    subst (λ (t : Bool). T (not t)) (sym (nanBits-above binary64 b ∙ le-ltb 0x7FF0_0000_0000_0000 (b % 0x8000_0000_0000_0000) q)) tt
+bits-some b h = pattern-some b (omega arith)
+
+-- bits up to +infinity's are those of a double with no sign
+plain-pattern : (v : Float) → T (fits binary64 v) → T (not (isNan v)) → toBits binary64 v ≤ 0x7FF0_0000_0000_0000 → Plain v
+unfolding fits isNan
+plain-pattern nan f n h = absurd n
+plain-pattern (inf true) f n h = absurd (omega (arith, inf-sign))
+plain-pattern (inf false) f n h = tt
+plain-pattern (fin true m e) f n h = absurd (omega (arith, sign-bits m e))
+plain-pattern (fin false m e) f n h = f
+
+bits-back : (b : ℕ) → b ≤ 0x7FF0_0000_0000_0000 → toBits binary64 (ofBits binary64 b) ≡ b
+bits-back b h = toBits-ofBits binary64 b (omega arith) (subst (λ (t : Bool). T (not t)) (nanBits-is binary64 b) (bits-some b h))
+
+pub bits-plain : (b : ℕ) → b ≤ 0x7FF0_0000_0000_0000 → Plain (ofBits binary64 b)
+bits-plain b h =
+    plain-pattern (ofBits binary64 b) (ofBits-fits binary64 b) (subst (λ (t : Bool). T (not t)) (nanBits-is binary64 b) (bits-some b h))
+    (subst (λ (n : ℕ). n ≤ 0x7FF0_0000_0000_0000) (sym (bits-back b h)) h)
+
+-- the order of such bits is that of the doubles
+pub bits-order : (a b : ℕ) → a ≤ 0x7FF0_0000_0000_0000 → b ≤ 0x7FF0_0000_0000_0000 → le (ofBits binary64 a) (ofBits binary64 b) ≡ leb a b
+bits-order a b h k = le-key (ofBits binary64 a) (ofBits binary64 b) (bits-plain a h) (bits-plain b k) ∙ ap₂ leb (bits-back a h) (bits-back b k)
 
 -- ---- the deviations of the first n of a list
 

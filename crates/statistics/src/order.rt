@@ -13,17 +13,20 @@ ghost use Rattle.statistics.specs.Counting.{one, count, upto, AtPlace, n
 // The bits of |x − d|.
 fn key(x: f64, d: f64) -> u64
     requires { ⌜ Plain (absF (sub binary64 x d)) ⌝ }
-    ensures { λ r. ⌜ r ≡ toBits binary64 (absF (sub binary64 x d)) ⌝ }
+    ensures is { λ r. ⌜ r ≡ toBits binary64 (absF (sub binary64 x d)) ⌝ }
+    ensures small { λ r. ⌜ r ≤ 0x7FF0_0000_0000_0000 ⌝ }
 {
     let v = x - d;
     f64::to_bits(v) % 0x8000_0000_0000_0000
 }
 
-// 1 where k is at most b, else 0.
+// 1 where k is at most b, else 0. The bits are compared as doubles, which are in the same order, since a machine compares two doubles at once more
+// cheaply than two whole numbers of 64 bits.
 fn tally(k: u64, b: u64) -> usize
+    requires { ⌜ (k ≤ 0x7FF0_0000_0000_0000) × (b ≤ 0x7FF0_0000_0000_0000) ⌝ }
     ensures { λ r. ⌜ (r ≡ one (leb k b)) × (r ≤ 1) ⌝ }
 {
-    if k <= b {
+    if f64::from_bits(k) <= f64::from_bits(b) {
         return 1;
     }
     0
@@ -31,7 +34,7 @@ fn tally(k: u64, b: u64) -> usize
 
 // How many have bits up to b.
 fn count_upto(a: &[f64], n: usize, d: f64, b: u64) -> usize
-    requires { ⌜ (n ≤ length (now a)) × All Plain (deviations d (take n (now a))) ⌝ }
+    requires { ⌜ (n ≤ length (now a)) × All Plain (deviations d (take n (now a))) × (b ≤ 0x7FF0_0000_0000_0000) ⌝ }
     ensures { λ r. ⌜ r ≡ count (upto b) (deviations d (take n (now (a .entry)))) ⌝ }
 {
     let mut found: usize = 0;

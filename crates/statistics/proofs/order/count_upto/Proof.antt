@@ -33,7 +33,7 @@ loop-again : tie.Need-loop-again Inv-loop μ-loop
 loop-again c =
     let at-args = c .before .before .before .before .before .before .args in
     let at-loop = c .before .before .before .before .loop in
-    (omega arith, omega arith, count-turn (at-args .d) (at-args .a .now) (at-loop .i) (omega arith) _ (c .before .key .ensures) (at-args .b) _ _ (at-loop .inv .2) (c .tally .ensures .0))
+    (omega arith, omega arith, count-turn (at-args .d) (at-args .a .now) (at-loop .i) (omega arith) _ (c .before .key .ensures .0) (at-args .b) _ _ (at-loop .inv .2) (c .tally .ensures .0))
 
 returns : tie.Need-returns Inv-loop μ-loop
 returns c =

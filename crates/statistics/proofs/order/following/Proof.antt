@@ -39,8 +39,8 @@ loop-again c =
     let l : at-loop .i < length (at-args .a .now) = omega arith in (
       omega arith,
       omega arith,
-      count-turn (at-args .d) (at-args .a .now) (at-loop .i) l _ (c .before .before .key .ensures) (at-args .b) _ _ (at-loop .inv .2) (c .before .tally .ensures .0),
-      least-turn (at-args .d) (at-args .a .now) (at-loop .i) l _ (c .before .before .key .ensures) (at-args .b + 1) _ _ (at-loop .inv .3) (c .nearer .ensures),
+      count-turn (at-args .d) (at-args .a .now) (at-loop .i) l _ (c .before .before .key .ensures .0) (at-args .b) _ _ (at-loop .inv .2) (c .before .tally .ensures .0),
+      least-turn (at-args .d) (at-args .a .now) (at-loop .i) l _ (c .before .before .key .ensures .0) (at-args .b + 1) _ _ (at-loop .inv .3) (c .nearer .ensures),
     )
 
 returns : tie.Need-returns Inv-loop μ-loop

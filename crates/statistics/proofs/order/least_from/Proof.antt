@@ -32,7 +32,7 @@ loop-again : tie.Need-loop-again Inv-loop μ-loop
 loop-again c =
     let at-args = c .before .before .before .before .before .before .args in
     let at-loop = c .before .before .before .before .loop in
-    (omega arith, least-turn (at-args .d) (at-args .a .now) (at-loop .i) (omega arith) _ (c .before .key .ensures) (at-args .b) _ _ (at-loop .inv .1) (c .nearer .ensures))
+    (omega arith, least-turn (at-args .d) (at-args .a .now) (at-loop .i) (omega arith) _ (c .before .key .ensures .0) (at-args .b) _ _ (at-loop .inv .1) (c .nearer .ensures))
 
 returns : tie.Need-returns Inv-loop μ-loop
 returns c =
