@@ -1,7 +1,7 @@
 //! The benchmark: the same calls on the same samples by every side, in one run, as a table.
 //!
 //! Each time is the best of many calls. Ratios come first: the further side (the port) by the judge, which is a
-//! plain transcription, and polyfit by the port.
+//! plain transcription, and polyfit and GSL by the port. Where a side has no such call, its places are empty.
 
 use std::hint::black_box;
 use std::time::{Duration, Instant};
@@ -11,6 +11,7 @@ use judge::statistics::{Confidence, DegreeBound, Tolerance};
 use judge::Sample;
 
 use crate::call::Call;
+use crate::gsl;
 use crate::memory::{Lent, Memory};
 use crate::reference;
 use crate::side::{Judge, Side};
@@ -95,16 +96,39 @@ fn by_reference(call: &Call, samples: &[Sample]) -> Option<f64> {
     }
 }
 
+/// GSL's time, where it is installed and has such a call.
+fn by_gsl(call: &Call, samples: &[Sample]) -> Option<f64> {
+    match *call {
+        Call::Fit { degree } => {
+            gsl::fit(samples, degree)?;
+            Some(best(|| drop(black_box(gsl::fit(samples, degree)))))
+        }
+        Call::Report(Settings { bound: DegreeBound::Custom(bound), .. }) => {
+            gsl::report(samples, bound)?;
+            Some(best(|| drop(black_box(gsl::report(samples, bound)))))
+        }
+        _ => None,
+    }
+}
+
+/// A number where there is one.
+fn cell(value: Option<f64>, places: usize) -> String {
+    value.map_or(String::new(), |value| format!("{value:.places$}"))
+}
+
 fn print_row(name: &str, call: &Call, count: usize, samples: &[Sample], port: &dyn Side) {
     let plain = by_side(&Judge, call, count, samples);
     let ported = by_side(port, call, count, samples);
-    let theirs = by_reference(call, samples);
-    let ratio = theirs.map_or("".into(), |time| format!("{:.1}", time / ported));
-    let time = theirs.map_or("".into(), |time| format!("{time:.4}"));
+    let (theirs, gsl) = (by_reference(call, samples), by_gsl(call, samples));
+    let ratio = |time: Option<f64>| cell(time.map(|time| time / ported), 1);
     println!(
-        "| {name} | {} | {:.2} | {ratio} | {ported:.4} | {plain:.4} | {time} |",
+        "| {name} | {} | {:.2} | {} | {} | {ported:.4} | {plain:.4} | {} | {} |",
         samples.len(),
-        ported / plain
+        ported / plain,
+        ratio(theirs),
+        ratio(gsl),
+        cell(theirs, 4),
+        cell(gsl, 4)
     );
 }
 
@@ -131,8 +155,8 @@ fn print_rows(count: usize, port: &dyn Side) {
 
 /// Prints the table.
 pub fn run(port: &dyn Side) {
-    println!("| Call | n | port / plain | polyfit / port | port, ms | plain, ms | polyfit, ms |");
-    println!("|---|---|---|---|---|---|---|");
+    println!("| Call | n | port / plain | polyfit / port | GSL / port | port, ms | plain, ms | polyfit, ms | GSL, ms |");
+    println!("|---|---|---|---|---|---|---|---|---|");
     for count in COUNTS {
         print_rows(count, port);
     }

@@ -15,6 +15,7 @@ mod bench;
 mod call;
 mod coverage;
 mod generate;
+mod gsl;
 mod journal;
 mod memory;
 mod port;
