@@ -1,6 +1,8 @@
-//! GSL's multifit, for the benchmark: a singular value decomposition where polyfit's and the port's is an elimination, so the numbers differ in their last
-//! digits. It is there only where `build.rs` found GSL installed.
+//! A fit and a report by GSL's functions, for the benchmark: `gsl_multifit_linear` is a singular value decomposition where the port's is an elimination,
+//! so the numbers differ in their last digits. It is there only where `build.rs` found GSL installed.
 
+#[cfg(gsl)]
+use judge::statistics::huber_loss;
 use judge::Sample;
 
 /// What GSL's functions take and give. The layouts are those of gsl_vector_double.h and gsl_matrix_double.h.
@@ -38,6 +40,13 @@ mod sys {
             chisq: *mut f64,
             work: *mut c_void,
         ) -> c_int;
+        pub fn gsl_multifit_linear_residuals(
+            x: *const Matrix,
+            y: *const Vector,
+            c: *const Vector,
+            r: *mut Vector,
+        ) -> c_int;
+        pub fn gsl_stats_mad0(data: *const f64, stride: usize, n: usize, work: *mut f64) -> f64;
         pub fn gsl_multifit_linear_est(
             x: *const Vector,
             c: *const Vector,
@@ -53,7 +62,7 @@ mod sys {
 pub struct Fit {
     pub coefficients: Vec<f64>,
     covariance: Vec<f64>,
-    chisq: f64,
+    residuals: Vec<f64>,
 }
 
 #[cfg(gsl)]
@@ -74,33 +83,48 @@ fn powers(x: f64, k: usize) -> impl Iterator<Item = f64> {
     std::iter::successors(Some(1.0), move |power| Some(power * x)).take(k)
 }
 
-/// `gsl_multifit_linear` of the powers of x.
+/// `gsl_multifit_linear` of the powers of x, and its residuals.
 #[cfg(gsl)]
 pub fn fit(samples: &[Sample], degree: usize) -> Option<Fit> {
     let (n, k) = (samples.len(), degree + 1);
     let mut rows: Vec<f64> = samples.iter().flat_map(|sample| powers(sample.x, k)).collect();
     let mut y: Vec<f64> = samples.iter().map(|sample| sample.y).collect();
-    let mut fit = Fit { coefficients: vec![0.0; k], covariance: vec![0.0; k * k], chisq: 0.0 };
+    let mut fit =
+        Fit { coefficients: vec![0.0; k], covariance: vec![0.0; k * k], residuals: vec![0.0; n] };
     let (x, y) = (matrix(&mut rows, k), vector(&mut y));
     let mut c = vector(&mut fit.coefficients);
     let mut cov = matrix(&mut fit.covariance, k);
+    let mut r = vector(&mut fit.residuals);
+    let mut chisq = 0.0;
     // SAFETY: every view has the length of the places it stands for, which live past the call; the workspace is for n rows of k.
     let status = unsafe {
         let work = sys::gsl_multifit_linear_alloc(n, k);
-        let status = sys::gsl_multifit_linear(&x, &y, &mut c, &mut cov, &mut fit.chisq, work);
+        let status = sys::gsl_multifit_linear(&x, &y, &mut c, &mut cov, &mut chisq, work);
+        sys::gsl_multifit_linear_residuals(&x, &y, &c, &mut r);
         sys::gsl_multifit_linear_free(work);
         status
     };
     (status == 0).then_some(fit)
 }
 
-/// Each degree up to the bound fitted and scored by AIC; then the best one's value and its error at every sample, which is what a band is drawn from.
+/// AIC of the Huber losses, as a report scores a degree; the median deviation is GSL's.
+#[cfg(gsl)]
+fn score(fit: &Fit) -> f64 {
+    let n = fit.residuals.len();
+    let sizes: Vec<f64> = fit.residuals.iter().map(|residual| residual.abs()).collect();
+    let mut work = vec![0.0; n];
+    // SAFETY: both have n places.
+    let deviation = unsafe { sys::gsl_stats_mad0(sizes.as_ptr(), 1, n, work.as_mut_ptr()) };
+    let loss: f64 = fit.residuals.iter().map(|residual| huber_loss(*residual, deviation)).sum();
+    n as f64 * (loss / n as f64).ln() + 2.0 * fit.coefficients.len() as f64
+}
+
+/// Each degree up to the bound fitted and scored; then the best one's value and its error at every sample, which is what a band is drawn from.
 #[cfg(gsl)]
 pub fn report(samples: &[Sample], bound: usize) -> Option<Vec<(f64, f64)>> {
-    let n = samples.len() as f64;
-    let score = |fit: &Fit| n * (fit.chisq / n).ln() + 2.0 * fit.coefficients.len() as f64;
     let fits = (0..=bound).filter_map(|degree| fit(samples, degree));
-    let mut best = fits.min_by(|a, b| score(a).total_cmp(&score(b)))?;
+    let scored = fits.map(|fit| (score(&fit), fit));
+    let (_, mut best) = scored.min_by(|a, b| a.0.total_cmp(&b.0))?;
     let k = best.coefficients.len();
     let c = vector(&mut best.coefficients);
     let cov = matrix(&mut best.covariance, k);
