@@ -15,7 +15,7 @@ use lib.Seq.{take-suc}
 use lib.Ieee.{Float, nan, binary64, sub, toBits, ofBits}
 use lib.Ieee.Bits.{ofBits-toBits}
 use Rattle.loops.specs.All.{All, all-at}
-use Rattle.loops.specs.Cases.{by-test, either}
+use Rattle.loops.specs.Cases.{by-test, either, never, and-first, and-second}
 use Rattle.loops.specs.Fold.{fold, fold-map-again}
 use Rattle.value.specs.Absolute.{absF}
 use Rattle.value.specs.Keys.{bits-le, plain-fits}
@@ -82,17 +82,9 @@ upto-all (x ∷ xs) a =
 
 -- ---- the least bits that are b or above
 
-and-left : (a b : Bool) → a && b ≡ true → a ≡ true
-and-left true b h = refl
-and-left false b h = h
-
-and-right : (a b : Bool) → a && b ≡ true → b ≡ true
-and-right true b h = h
-and-right false b h = absurd (let z : _≡_ {A = ℕ} 0 1 = cc in omega arith)
-
 and-not : (a b : Bool) → a && b ≡ false → a ≡ true → b ≡ false
 and-not true b h q = h
-and-not false b h q = absurd (let z : _≡_ {A = ℕ} 0 1 = cc in omega arith)
+and-not false b h q = never q
 
 -- what a turn makes of v: v itself, or the bits k, which are then b or above and below v
 record Turn (b k v r : ℕ) : Type 0 where
@@ -105,7 +97,7 @@ unfolding nearer
 turn b k v =
     by-test (leb b k && ltb k v)
     (λ t. rw t
-    (let p = leb-true b k (and-left (leb b k) (ltb k v) t) in let q = ltb-true k v (and-right (leb b k) (ltb k v) t) in
+    (let p = leb-true b k (and-first (leb b k) (ltb k v) t) in let q = ltb-true k v (and-second (leb b k) (ltb k v) t) in
     record { low = omega arith; over = λ _. le-refl k; kind = inr (refl, p) }))
     (λ t. rw t
     (record { low = le-refl v; over = λ h. ltb-false k v (and-not (leb b k) (ltb k v) t (le-leb b k h)); kind = inl refl }))

@@ -66,23 +66,85 @@ fn least_from(a: &[f64], n: usize, d: f64, b: u64) -> u64
     v
 }
 
-// The bits at place m, from 0. They lie from lo to hi, and `below` of the bits are under lo. This range is halved until m are under lo, so that the least
-// from lo on stands at place m, or until lo is hi: 63 times at the most.
+// The middle one of three: the bits of the first number, of the last, and of one between. A guess at those at a place in the middle.
+fn sampled(a: &[f64], n: usize, d: f64) -> u64
+    requires { ⌜ (n ≤ length (now a)) × All Plain (deviations d (take n (now a))) × (0 < n) ⌝ }
+{
+    let x = key(a[0], d);
+    let y = key(a[n / 2], d);
+    let z = key(a[n - 1], d);
+    if (x < y) == (y < z) {
+        return y;
+    }
+    if (x < y) == (z < x) {
+        return x;
+    }
+    z
+}
+
+// The bits where place m would be if the numbers lay evenly between those with the bits lo and hi, `below` under lo and `upto` up to hi. A guess.
+fn by_rank(lo: u64, hi: u64, below: usize, upto: usize, m: usize) -> u64 {
+    let low = value::from_bits(lo);
+    let under = std::num::nearest_u64_to_f64(below as u64);
+    let rank = std::num::nearest_u64_to_f64(m as u64) - under + 0.5;
+    let all = std::num::nearest_u64_to_f64(upto as u64) - under;
+    value::to_bits(low + (value::from_bits(hi) - low) * (rank / all))
+}
+
+// k, or the end of the range from lo to hi, without hi, that it is past.
+fn within(k: u64, lo: u64, hi: u64) -> u64
+    requires { ⌜ lo < hi ⌝ }
+    ensures { λ r. ⌜ (lo ≤ r) × (r < hi) ⌝ }
+{
+    if k < lo {
+        return lo;
+    }
+    if k < hi {
+        return k;
+    }
+    hi - 1
+}
+
+// Where the range from lo to hi is cut: first at some number of the list, then by rank, each fourth time in half so that it shrinks soon whatever the
+// numbers are; while hi is still +infinity, at four times lo. A bad cut costs a pass, no more.
+fn cut(first: u64, turn: u64, lo: u64, hi: u64, below: usize, upto: usize, m: usize) -> u64
+    requires { ⌜ (lo < hi) × (hi ≤ 0x7FF0_0000_0000_0000) ⌝ }
+    ensures { λ r. ⌜ (lo ≤ r) × (r < hi) ⌝ }
+{
+    if turn == 0 {
+        return within(first, lo, hi);
+    }
+    if turn == 4 {
+        return lo + (hi - lo) / 2;
+    }
+    if hi == 0x7FF0_0000_0000_0000 {
+        return within(lo + 0x20_0000_0000_0000, lo, hi);
+    }
+    within(by_rank(lo, hi, below, upto, m), lo, hi)
+}
+
+// The bits at place m, from 0. They lie from lo to hi, and `below` of the bits are under lo, `upto` up to hi. The range is cut until m are under lo, so
+// that the least from lo on stands at place m, or until lo is hi.
 fn select(a: &[f64], n: usize, d: f64, m: usize) -> u64
     requires { ⌜ (n ≤ length (now a)) × All Plain (deviations d (take n (now a))) × (m < n) ⌝ }
     ensures { λ r. ⌜ AtPlace (deviations d (take n (now (a .entry)))) m r ⌝ }
 {
+    let first = sampled(a, n, d);
     let mut lo: u64 = 0;
     let mut hi: u64 = 0x7FF0_0000_0000_0000;
     let mut below: usize = 0;
+    let mut upto: usize = n;
+    let mut turn: u64 = 0;
     while lo < hi {
         if below == m {
             return least_from(a, n, d, lo);
         }
-        let mid = lo + (hi - lo) / 2;
+        let mid = cut(first, turn, lo, hi, below, upto, m);
         let found = count_upto(a, n, d, mid);
+        turn = turn % 4 + 1;
         if m < found {
             hi = mid;
+            upto = found;
         } else {
             lo = mid + 1;
             below = found;

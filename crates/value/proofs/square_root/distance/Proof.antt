@@ -20,12 +20,6 @@ returns c = (inl refl, omega arith)
 returns-2 : tie.Need-returns-2
 returns-2 c = (inl refl, omega arith)
 
-mul-have : tie.Need-mul-have
-mul-have c = search needs
-
-add-have : tie.Need-add-have
-add-have c = search needs
-
 mul-want : tie.Need-mul-want
 mul-want c = omega (arith, both-parts (c .before .before .args .r) (c .before .before .pre .1))
 
@@ -37,9 +31,6 @@ returns-3 c = (inl refl, omega arith)
 
 returns-4 : tie.Need-returns-4
 returns-4 c = (inl refl, omega arith)
-
-mul-left : tie.Need-mul-left
-mul-left c = search needs
 
 returns-5 : tie.Need-returns-5
 returns-5 c = (inl refl, omega arith)
@@ -62,12 +53,12 @@ distance-spec =
     mul-low
     returns
     returns-2
-    mul-have
-    add-have
+    (λ c. search needs)
+    (λ c. search needs)
     mul-want
     mul-want-2
     returns-3
     returns-4
-    mul-left
+    (λ c. search needs)
     returns-5
     returns-6)
