@@ -111,6 +111,15 @@ impl Report<'_> {
     }
 }
 
+/// Calls a function of the library: its numbers, then the slices that it is lent.
+macro_rules! lend {
+    ($function:ident($($number:expr),*; $($slice:expr),*)) => {
+        // SAFETY: the slices are this book's own or local, so they are apart, and each has the
+        // length given. A frame, which stands among the numbers, is only read.
+        unsafe { sys::$function($($number),*, $($slice.as_mut_ptr(), $slice.len()),*) }
+    };
+}
+
 /// The answer, unless it is a refusal.
 fn judged(answer: u64) -> Result<u64, Refusal> {
     match Refusal::of(sys::refusal(answer)) {
@@ -182,78 +191,29 @@ impl Book {
 
     /// One sample at the end. Refused by [`Refusal::NotFinite`] and [`Refusal::Full`].
     pub fn add(&mut self, x: f64, y: f64) -> Result<(), Refusal> {
-        // SAFETY: the three slices are this book's own, apart, of the lengths given.
-        let answer = unsafe {
-            sys::stakebook_add(
-                self.count,
-                x,
-                y,
-                self.xs.as_mut_ptr(),
-                self.xs.len(),
-                self.ys.as_mut_ptr(),
-                self.ys.len(),
-                self.sums.as_mut_ptr(),
-                SUMS,
-            )
-        };
+        let answer = lend!(stakebook_add(self.count, x, y; self.xs, self.ys, self.sums));
         self.changed(answer)
     }
 
     /// Sample `i` gets a new y. Refused by [`Refusal::NotFinite`] and [`Refusal::NoSuchSample`].
     pub fn correct(&mut self, i: usize, y: f64) -> Result<(), Refusal> {
-        // SAFETY: the three slices are this book's own, apart, of the lengths given.
-        let answer = unsafe {
-            sys::stakebook_correct(
-                self.count,
-                i,
-                y,
-                self.xs.as_ptr(),
-                self.xs.len(),
-                self.ys.as_mut_ptr(),
-                self.ys.len(),
-                self.sums.as_mut_ptr(),
-                SUMS,
-            )
-        };
+        let answer = lend!(stakebook_correct(self.count, i, y; self.xs, self.ys, self.sums));
         self.changed(answer)
     }
 
     /// Sample `i` goes, and later ones move down one. Refused by [`Refusal::NoSuchSample`].
     pub fn withdraw(&mut self, i: usize) -> Result<(), Refusal> {
-        // SAFETY: the three slices are this book's own, apart, of the lengths given.
-        let answer = unsafe {
-            sys::stakebook_withdraw(
-                self.count,
-                i,
-                self.xs.as_mut_ptr(),
-                self.xs.len(),
-                self.ys.as_mut_ptr(),
-                self.ys.len(),
-                self.sums.as_mut_ptr(),
-                SUMS,
-            )
-        };
+        let answer = lend!(stakebook_withdraw(self.count, i; self.xs, self.ys, self.sums));
         self.changed(answer)
     }
 
     /// All samples of a frame at the end, or none. Refused by [`Refusal::FrameLength`],
     /// [`Refusal::FrameVersion`], [`Refusal::NotFinite`] and [`Refusal::Full`].
     pub fn add_frame(&mut self, frame: &[u8]) -> Result<(), Refusal> {
-        // SAFETY: the frame is only read; the three slices are this book's own, apart, of the
-        // lengths given.
-        let answer = unsafe {
-            sys::stakebook_add_frame(
-                self.count,
-                frame.as_ptr(),
-                frame.len(),
-                self.xs.as_mut_ptr(),
-                self.xs.len(),
-                self.ys.as_mut_ptr(),
-                self.ys.len(),
-                self.sums.as_mut_ptr(),
-                SUMS,
-            )
-        };
+        let answer = lend!(stakebook_add_frame(
+            self.count, frame.as_ptr(), frame.len();
+            self.xs, self.ys, self.sums
+        ));
         self.changed(answer)
     }
 
@@ -264,23 +224,10 @@ impl Book {
     /// The curve of this degree. Refused by [`Refusal::NoSamples`], [`Refusal::DegreeTooHigh`] and
     /// [`Refusal::Unsolved`].
     pub fn fit(&mut self, degree: usize) -> Result<Fit, Refusal> {
-        // SAFETY: all slices are this book's own, apart, of the lengths given.
-        let answer = unsafe {
-            sys::stakebook_fit(
-                self.count,
-                degree,
-                self.xs.as_ptr(),
-                self.xs.len(),
-                self.ys.as_ptr(),
-                self.ys.len(),
-                self.sums.as_ptr(),
-                SUMS,
-                self.scratch.as_mut_ptr(),
-                self.scratch.len(),
-                self.coefficients.as_mut_ptr(),
-                TERMS,
-            )
-        };
+        let answer = lend!(stakebook_fit(
+            self.count, degree;
+            self.xs, self.ys, self.sums, self.scratch, self.coefficients
+        ));
         self.fitted(answer)
     }
 
@@ -294,26 +241,10 @@ impl Book {
         criterion: Criterion,
     ) -> Result<Fit, Refusal> {
         let (bound, most) = bound.numbers();
-        // SAFETY: all slices are this book's own, apart, of the lengths given.
-        let answer = unsafe {
-            sys::stakebook_validate(
-                self.count,
-                folds,
-                bound,
-                most,
-                criterion.number(),
-                self.xs.as_ptr(),
-                self.xs.len(),
-                self.ys.as_ptr(),
-                self.ys.len(),
-                self.sums.as_ptr(),
-                SUMS,
-                self.scratch.as_mut_ptr(),
-                self.scratch.len(),
-                self.coefficients.as_mut_ptr(),
-                TERMS,
-            )
-        };
+        let answer = lend!(stakebook_validate(
+            self.count, folds, bound, most, criterion.number();
+            self.xs, self.ys, self.sums, self.scratch, self.coefficients
+        ));
         self.fitted(answer)
     }
 
@@ -330,28 +261,10 @@ impl Book {
         let (confidence, score) = confidence.numbers();
         let (tolerance, value) = tolerance.numbers();
         let mut numbers = [0.0; 3];
-        // SAFETY: all slices are this book's own or local, apart, of the lengths given.
-        let answer = unsafe {
-            sys::stakebook_band(
-                self.count,
-                x,
-                degree,
-                confidence,
-                score,
-                tolerance,
-                value,
-                self.xs.as_ptr(),
-                self.xs.len(),
-                self.ys.as_ptr(),
-                self.ys.len(),
-                self.sums.as_ptr(),
-                SUMS,
-                self.scratch.as_mut_ptr(),
-                self.scratch.len(),
-                numbers.as_mut_ptr(),
-                numbers.len(),
-            )
-        };
+        let answer = lend!(stakebook_band(
+            self.count, x, degree, confidence, score, tolerance, value;
+            self.xs, self.ys, self.sums, self.scratch, numbers
+        ));
         judged(answer)?;
         let [value, lower, upper] = numbers;
         Ok(Band { value, lower, upper })
@@ -364,39 +277,12 @@ impl Book {
         let (bound, most) = settings.bound.numbers();
         let (confidence, score) = settings.confidence.numbers();
         let (tolerance, value) = settings.tolerance.numbers();
-        // SAFETY: all slices are this book's own, apart, of the lengths given.
-        let answer = unsafe {
-            sys::stakebook_report(
-                self.count,
-                bound,
-                most,
-                settings.criterion.number(),
-                confidence,
-                score,
-                tolerance,
-                value,
-                self.xs.as_ptr(),
-                self.xs.len(),
-                self.ys.as_ptr(),
-                self.ys.len(),
-                self.sums.as_ptr(),
-                SUMS,
-                self.scratch.as_mut_ptr(),
-                self.scratch.len(),
-                self.coefficients.as_mut_ptr(),
-                TERMS,
-                self.errors.as_mut_ptr(),
-                TERMS,
-                self.pruned.as_mut_ptr(),
-                TERMS,
-                self.lower.as_mut_ptr(),
-                self.lower.len(),
-                self.upper.as_mut_ptr(),
-                self.upper.len(),
-                self.outliers.as_mut_ptr(),
-                self.outliers.len(),
-            )
-        };
+        let answer = lend!(stakebook_report(
+            self.count, bound, most, settings.criterion.number(), confidence, score, tolerance,
+            value;
+            self.xs, self.ys, self.sums, self.scratch, self.coefficients, self.errors,
+            self.pruned, self.lower, self.upper, self.outliers
+        ));
         let answer = judged(answer)?;
         let (n, k) = (self.count, sys::degree(answer) + 1);
         Ok(Report {

@@ -38,17 +38,13 @@ not-below : (v a : Float) (s : Scored) → lt v a ≡ false → lt v (yields s a
 unfolding yields
 not-below v a s h = go (s .solved && lt (s .score) a) refl
   where
-    later : (b c : Bool) → b && c ≡ true → c ≡ true
-    later true c h = h
-    later false c h = never h
-
     against : (t : Bool) → lt v (s .score) ≡ t → lt (s .score) a ≡ true → t ≡ false
     against false q k = refl
     against true q k = never (sym h ∙ lt-trans v (s .score) a q k)
 
     go : (t : Bool) → s .solved && lt (s .score) a ≡ t → lt v (cond t (s .score) a) ≡ false
     go false q = h
-    go true q = against (lt v (s .score)) refl (later (s .solved) (lt (s .score) a) q)
+    go true q = against (lt v (s .score)) refl (and-second (s .solved) (lt (s .score) a) q)
 
 -- a solved score is not below what the least yields to
 not-below-it : (a : Float) (s : Scored) → s .solved ≡ true → lt (s .score) (yields s a) ≡ false

@@ -8,7 +8,7 @@ use Prim.Native.Nat.{ℕ, suc, _+_, _≤_, _<_, zero-le}
 use native.Mathlib.Nat.{le-refl, le-trans, zero-add, add-comm}
 use native.Mathlib.Numerals.{add-one}
 use native.Mathlib.Omega.{arith}
-use borrow.Author.Tests.{ltb-true, ltb-false, leb-true, leb-false, le-leb, lt-leb}
+use borrow.Author.Tests.{ltb-true, ltb-false, lt-ltb, leb-true, leb-false, le-leb, lt-leb}
 use lib.Dec.{T, leb, ltb, le→leb, nleb→lt}
 use lib.ListN.{length, getD, take}
 use lib.Seq.{take-suc}
@@ -20,7 +20,7 @@ use Rattle.loops.specs.Fold.{fold, fold-map-again}
 use Rattle.value.specs.Absolute.{absF}
 use Rattle.value.specs.Keys.{bits-le, plain-fits}
 use Rattle.statistics.specs.Medians.{sort, deviations, Plain}
-use Rattle.statistics.specs.Counting.{one, count, upto, under, AtPlace, nearer, leastFrom}
+use Rattle.statistics.specs.Counting.{one, count, upto, under, AtPlace, Narrowed, nearer, farther, leastFrom, greatestUnder}
 use Rattle.statistics.proofs.Sorting.{place, all-sort, length-sort}
 
 -- ---- counts along a list
@@ -42,10 +42,18 @@ module _ (d : Float) (a : List Float) (i : ℕ) (h : i < length a) (k : ℕ) (e 
   unfolding deviations
   count-turn b found t q u = rw (q, u, e) (sym (count-again (upto b) (λ x. absF (sub binary64 x d)) a nan i h))
 
+  fold-turn : (f : ℕ → ℕ → ℕ) (z v r : ℕ) → v ≡ fold (λ w x. f (toBits binary64 x) w) z (deviations d (take i a)) → r ≡ f k v
+      → r ≡ fold (λ w x. f (toBits binary64 x) w) z (deviations d (take (i + 1) a))
+  unfolding deviations
+  fold-turn f z v r q u = rw (u, q, e) (sym (fold-map-again (λ w x. f (toBits binary64 x) w) z (λ x. absF (sub binary64 x d)) a nan i h))
+
   pub least-turn : (b v r : ℕ) → v ≡ leastFrom b (deviations d (take i a)) → r ≡ nearer b k v → r ≡ leastFrom b (deviations d (take (i + 1) a))
-  unfolding deviations leastFrom
-  least-turn b v r q u =
-      rw (u, q, e) (sym (fold-map-again (λ w x. nearer b (toBits binary64 x) w) 0x7FF0_0000_0000_0000 (λ x. absF (sub binary64 x d)) a nan i h))
+  unfolding leastFrom
+  least-turn b v r q u = fold-turn (nearer b) 0x7FF0_0000_0000_0000 v r q u
+
+  pub greatest-turn : (b v r : ℕ) → v ≡ greatestUnder b (deviations d (take i a)) → r ≡ farther b k v → r ≡ greatestUnder b (deviations d (take (i + 1) a))
+  unfolding greatestUnder
+  greatest-turn b v r q u = fold-turn (farther b) 0 v r q u
 
 -- a test that passes wherever another does counts as many
 one-mono : (a b : Bool) → (T a → T b) → one a ≤ one b
@@ -158,6 +166,75 @@ least-reached b v (x ∷ xs) h =
         inr (let a = f (e .1) in let d = g (omega (arith, z, e .0)) in omega (arith, a, d, mn))
     joined b k v w r p q m n mn pq f g e (inr z) = inr (omega arith)
 
+-- ---- the greatest bits under b
+
+-- what a turn makes of v: v itself, or the bits k, which are then under b and above v
+record Further (b k v r : ℕ) : Type 0 where
+  high : v ≤ r
+  over : k < b → k ≤ r
+  kind : (r ≡ v) ⊎ ((r ≡ k) × (k < b))
+
+further : (b k v : ℕ) → Further b k v (farther b k v)
+unfolding farther
+further b k v =
+    by-test (ltb k b && ltb v k)
+    (λ t. rw t
+    (let p = ltb-true k b (and-first (ltb k b) (ltb v k) t) in let q = ltb-true v k (and-second (ltb k b) (ltb v k) t) in
+    record { high = omega arith; over = λ _. le-refl k; kind = inr (refl, p) }))
+    (λ t. rw t
+    (record { high = le-refl v; over = λ h. ltb-false v k (and-not (ltb k b) (ltb v k) t (lt-ltb k b h)); kind = inl refl }))
+
+-- the greatest under b, a run that begins at v
+greatestOver : ℕ → ℕ → List Float → ℕ
+greatestOver b v l = fold (λ u x. farther b (toBits binary64 x) u) v l
+
+greatest-high : (b v : ℕ) (l : List Float) → v ≤ greatestOver b v l
+unfolding greatestOver fold
+greatest-high b v [] = le-refl v
+greatest-high b v (x ∷ xs) = le-trans (further b (toBits binary64 x) v .high) (greatest-high b (farther b (toBits binary64 x) v) xs)
+
+-- all that are under b are up to it
+greatest-upto : (b v : ℕ) (l : List Float) → count (under b) l ≤ count (upto (greatestOver b v l)) l
+unfolding greatestOver fold count
+greatest-upto b v [] = zero-le
+greatest-upto b v (x ∷ xs) =
+    let k = toBits binary64 x in
+    let w = farther b k v in
+    let r = greatestOver b w xs in
+    let ih = greatest-upto b w xs in
+    let h = one-mono (under b x) (upto r x) (λ t. le→leb k r (le-trans (further b k v .over (nleb→lt b k t)) (greatest-high b w xs))) in
+    omega (arith, ih, h)
+
+-- it is where the run began, or fewer are under it than under b
+greatest-under : (b v : ℕ) (l : List Float) → v ≤ b → (greatestOver b v l ≤ b) × ((greatestOver b v l ≡ v) ⊎ (count (under (greatestOver b v l)) l < count (under b) l))
+unfolding greatestOver fold count
+greatest-under b v [] h = (h, inl refl)
+greatest-under b v (x ∷ xs) h =
+    let k = toBits binary64 x in
+    let w = farther b k v in
+    let r = greatestOver b w xs in
+    let ih = greatest-under b w xs (from-turn b k v w h (further b k v .kind)) in
+    let more = count-mono (under r) (under b) xs (λ y t. under-yes b r (toBits binary64 y) (ih .0) t) in
+    let same = one-mono (under r x) (under b x) (under-yes b r k (ih .0)) in (
+      ih .0,
+      joined b k v w r (one (under r x)) (one (under b x)) (count (under r) xs) (count (under b) xs) more same
+          (λ g. ap (λ (t : Bool). one (not t)) (le-leb r k g)) (λ g. ap (λ (t : Bool). one (not t)) (lt-leb b k g)) (further b k v .kind) (ih .1),
+    )
+  where
+    from-turn : (b k v w : ℕ) → v ≤ b → (w ≡ v) ⊎ ((w ≡ k) × (k < b)) → w ≤ b
+    from-turn b k v w h (inl e) = omega arith
+    from-turn b k v w h (inr e) = omega (arith, e .0, e .1)
+
+    under-yes : (b r k : ℕ) → r ≤ b → T (not (leb r k)) → T (not (leb b k))
+    under-yes b r k h t = subst (λ (u : Bool). T (not u)) (sym (lt-leb b k (let g = nleb→lt r k t in omega arith))) tt
+
+    joined : (b k v w r p q m n : ℕ) → m ≤ n → p ≤ q → (r ≤ k → p ≡ 0) → (k < b → q ≡ 1) → (w ≡ v) ⊎ ((w ≡ k) × (k < b)) → (r ≡ w) ⊎ (m < n)
+        → (r ≡ v) ⊎ (p + m < q + n)
+    joined b k v w r p q m n mn pq f g (inl e) (inl z) = inl (z ∙ e)
+    joined b k v w r p q m n mn pq f g (inr e) (inl z) =
+        inr (let a = f (omega (arith, z, e .0)) in let d = g (e .1) in omega (arith, a, d, mn))
+    joined b k v w r p q m n mn pq f g e (inr z) = inr (omega arith)
+
 -- ---- places
 
 -- where m are under b, the least from b on stands at place m
@@ -175,14 +252,21 @@ least-place l a m b s e h =
     ends r (inl q) = rw (q, upto-all l a) h
     ends r (inr q) = omega arith
 
--- the next place
-pub next-place : (l : List Float) → All Plain l → (m b : ℕ) → AtPlace l m b → m + 1 < length l → count (upto b) l ≤ m + 1 → AtPlace l (m + 1) (leastFrom (b + 1) l)
-next-place l a m b p h g =
-    let s = p .small in let q = p .reached in let u = under-next b l in
-    least-place l a (m + 1) (b + 1) (omega arith) (omega arith) h
-
-pub same-place : (l : List Float) (m b : ℕ) → AtPlace l m b → m + 1 < count (upto b) l → AtPlace l (m + 1) b
-same-place l m b p h = record { small = p .small; below = le-trans (p .below) (omega arith); reached = h }
+-- where m + 1 are under b, the greatest under b stands at place m
+pub greatest-place : (l : List Float) (m b : ℕ) → b ≤ 0x7FF0_0000_0000_0000 → count (under b) l ≡ m + 1 → AtPlace l m (greatestUnder b l)
+unfolding greatestUnder greatestOver
+greatest-place l m b s e =
+    let r = greatestOver b 0 l in
+    let h = greatest-under b 0 l zero-le in
+    record {
+      small = le-trans (h .0) s;
+      below = ends r (h .1);
+      reached = let q = greatest-upto b 0 l in omega arith;
+    }
+  where
+    ends : (r : ℕ) → (r ≡ 0) ⊎ (count (under r) l < count (under b) l) → count (under r) l ≤ m
+    ends r (inl q) = rw (q, under-zero l) zero-le
+    ends r (inr q) = omega arith
 
 -- the double at a place
 pub placed : (l : List Float) → All Plain l → (m b : ℕ) → AtPlace l m b → m < length l → ofBits binary64 b ≡ getD (sort l) m nan
@@ -190,3 +274,19 @@ placed l a m b p h =
     ap (ofBits binary64) (sym (place l a b m nan (p .below) (p .reached)))
     ∙ ofBits-toBits binary64 (getD (sort l) m nan)
     (plain-fits (getD (sort l) m nan) (all-at Plain (sort l) m nan (all-sort Plain l a) (rw (← length-sort l) at h)))
+
+-- a range cut down: what stands at place m is the least from the bits on where m are under them, and else the bits' double
+module _ (l : List Float) (a : All Plain l) (m bits below : ℕ) (h : m < length l) (p : Narrowed l m bits below) where
+  pub least-stands : below ≡ m → AtPlace l m (leastFrom bits l)
+  least-stands e = least-place l a m bits (let s = p .small in omega arith) (sym (p .is) ∙ e) h
+
+  pub bits-stand : (below ≡ m → ⊥) → AtPlace l m bits
+  bits-stand n = record { small = p .small; below = rw (p .is) at (p .most); reached = past (p .reached) }
+    where
+      past : (below ≡ m) ⊎ (m < count (upto bits) l) → m < count (upto bits) l
+      past (inl e) = absurd (n e)
+      past (inr q) = q
+
+-- and so does the place before, where fewer are under the bits
+pub place-before : (l : List Float) (m b : ℕ) → AtPlace l (m + 1) b → count (under b) l ≤ m → AtPlace l m b
+place-before l m b p h = let q = p .reached in record { small = p .small; below = h; reached = omega arith }

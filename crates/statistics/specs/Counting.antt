@@ -1,7 +1,9 @@
 -- What the code counts to find the numbers in the middle without a sort. Not needed to read a public promise. Definitions only.
 -- The bits of doubles with no sign are in the order of the doubles, so a place of the list in order is told by two counts of bits.
 use mathlib.Core.Bool.{Bool, true, false, cond, not, _&&_}
+use mathlib.Core.Path.{_≡_}
 use mathlib.Core.List.{List, [], _∷_}
+use mathlib.Core.Logic.{_⊎_}
 use Prim.Native.Nat.{ℕ, _+_, _≤_, _<_}
 use lib.Dec.{leb, ltb}
 use lib.Ieee.{Float, binary64, toBits}
@@ -30,10 +32,25 @@ pub record AtPlace (l : List Float) (m b : ℕ) : Type 0 where
   pub below : count (under b) l ≤ m
   pub reached : m < count (upto b) l
 
+-- A range cut down to where place m is looked for: `below` are under the bits, and they are m, or more than m are up to the bits.
+pub record Narrowed (l : List Float) (m bits below : ℕ) : Type 0 where
+  pub small : bits ≤ 0x7FF0_0000_0000_0000
+  pub is : below ≡ count (under bits) l
+  pub most : below ≤ m
+  pub reached : (below ≡ m) ⊎ (m < count (upto bits) l)
+
 -- of k and v: k where it is b or above, and below v
 unfoldable pub nearer : ℕ → ℕ → ℕ → ℕ
 nearer b k v = cond (leb b k && ltb k v) k v
 
+-- of k and v: k where it is under b, and above v
+unfoldable pub farther : ℕ → ℕ → ℕ → ℕ
+farther b k v = cond (ltb k b && ltb v k) k v
+
 -- the least bits that are b or above, and else +infinity's
 unfoldable pub leastFrom : ℕ → List Float → ℕ
 leastFrom b l = fold (λ v x. nearer b (toBits binary64 x) v) 0x7FF0_0000_0000_0000 l
+
+-- the greatest bits under b, and else +0's
+unfoldable pub greatestUnder : ℕ → List Float → ℕ
+greatestUnder b l = fold (λ v x. farther b (toBits binary64 x) v) 0 l

@@ -3,12 +3,12 @@
 ghost use mathlib.Core.Path.{_≡_};
 ghost use Prim.Native.Nat.{_+_, _≤_, _<_};
 ghost use lib.Dec.{leb};
-ghost use lib.ListN.{length, take};
-ghost use lib.Ieee.{binary64, sub, toBits};
+ghost use lib.ListN.{length, getD, take};
+ghost use lib.Ieee.{nan, binary64, sub, toBits};
 ghost use Rattle.loops.specs.All.{All};
 ghost use Rattle.value.specs.Absolute.{absF};
-ghost use Rattle.statistics.specs.Medians.{Plain, deviations, midpoint as midpointF, medianOf};
-ghost use Rattle.statistics.specs.Counting.{one, count, upto, AtPlace, nearer as nearerF, leastFrom};
+ghost use Rattle.statistics.specs.Medians.{Plain, sort, deviations, midpoint as midpointF, medianOf};
+ghost use Rattle.statistics.specs.Counting.{one, count, upto, under, Narrowed, nearer as nearerF, farther as fartherF, leastFrom};
 
 // The bits of |x − d|.
 fn key(x: f64, d: f64) -> u64
@@ -49,6 +49,16 @@ fn nearer(b: u64, k: u64, v: u64) -> u64
     ensures { λ r. ⌜ r ≡ nearerF b k v ⌝ }
 {
     if (b <= k) & (k < v) {
+        return k;
+    }
+    v
+}
+
+// Of k and v: k where it is under b, and above v.
+fn farther(b: u64, k: u64, v: u64) -> u64
+    ensures { λ r. ⌜ r ≡ fartherF b k v ⌝ }
+{
+    if (k < b) & (v < k) {
         return k;
     }
     v
@@ -123,11 +133,17 @@ fn cut(first: u64, turn: u64, lo: u64, hi: u64, below: usize, upto: usize, m: us
     within(by_rank(lo, hi, below, upto, m), lo, hi)
 }
 
-// The bits at place m, from 0. They lie from lo to hi, and `below` of the bits are under lo, `upto` up to hi. The range is cut until m are under lo, so
-// that the least from lo on stands at place m, or until lo is hi.
-fn select(a: &[f64], n: usize, d: f64, m: usize) -> u64
+// Where a place is looked for: bits, and how many are under them.
+struct Place {
+    bits: u64,
+    below: usize,
+}
+
+// Looks for place m, from 0. Its bits lie from lo to hi; `below` are under lo, `upto` up to hi. The range is cut until m are under lo, so that the least
+// from lo on stands at place m, or until lo is hi, which stands there itself.
+fn narrow(a: &[f64], n: usize, d: f64, m: usize) -> Place
     requires { ⌜ (n ≤ length (now a)) × All Plain (deviations d (take n (now a))) × (m < n) ⌝ }
-    ensures { λ r. ⌜ AtPlace (deviations d (take n (now (a .entry)))) m r ⌝ }
+    ensures { λ r. ⌜ Narrowed (deviations d (take n (now (a .entry)))) m (r .bits) (r .below) ⌝ }
 {
     let first = sampled(a, n, d);
     let mut lo: u64 = 0;
@@ -137,7 +153,7 @@ fn select(a: &[f64], n: usize, d: f64, m: usize) -> u64
     let mut turn: u64 = 0;
     while lo < hi {
         if below == m {
-            return least_from(a, n, d, lo);
+            return Place { bits: lo, below };
         }
         let mid = cut(first, turn, lo, hi, below, upto, m);
         let found = count_upto(a, n, d, mid);
@@ -150,25 +166,19 @@ fn select(a: &[f64], n: usize, d: f64, m: usize) -> u64
             below = found;
         }
     }
-    hi
+    Place { bits: lo, below }
 }
 
-// The bits at place m + 1, from those at place m: the same, or the least above them.
-fn following(a: &[f64], n: usize, d: f64, m: usize, b: u64) -> u64
-    requires { ⌜ (n ≤ length (now a)) × All Plain (deviations d (take n (now a))) × (m + 1 < n) × AtPlace (deviations d (take n (now a))) m b ⌝ }
-    ensures { λ r. ⌜ AtPlace (deviations d (take n (now (a .entry)))) (m + 1) r ⌝ }
+// The number at place m.
+fn select(a: &[f64], n: usize, d: f64, m: usize) -> f64
+    requires { ⌜ (n ≤ length (now a)) × All Plain (deviations d (take n (now a))) × (m < n) ⌝ }
+    ensures { λ r. ⌜ r ≡ getD (sort (deviations d (take n (now (a .entry))))) m nan ⌝ }
 {
-    let mut found: usize = 0;
-    let mut v: u64 = 0x7FF0_0000_0000_0000;
-    for i in 0..n {
-        let k = key(a[i], d);
-        found = found + tally(k, b);
-        v = nearer(b + 1, k, v);
+    let c = narrow(a, n, d, m);
+    if c.below == m {
+        return f64::from_bits(least_from(a, n, d, c.bits));
     }
-    if m + 1 < found {
-        return b;
-    }
-    v
+    f64::from_bits(c.bits)
 }
 
 // The midpoint of the two middle values.
@@ -176,6 +186,35 @@ fn midpoint(low: f64, high: f64) -> f64
     ensures { λ r. ⌜ r ≡ midpointF low high ⌝ }
 {
     (low + high) / 2.0
+}
+
+// The midpoint of the greatest number whose bits are under b and the least one whose bits are not, at places m and m + 1.
+fn midpoint_at(a: &[f64], n: usize, d: f64, m: usize, b: u64) -> f64
+    requires { ⌜ (n ≤ length (now a)) × All Plain (deviations d (take n (now a))) × (m + 1 < n) × (b ≤ 0x7FF0_0000_0000_0000) × (count (under b) (deviations d (take n (now a))) ≡ m + 1) ⌝ }
+    ensures { λ r. ⌜ r ≡ midpointF (getD (sort (deviations d (take n (now (a .entry))))) m nan) (getD (sort (deviations d (take n (now (a .entry))))) (m + 1) nan) ⌝ }
+{
+    let mut low: u64 = 0;
+    let mut high: u64 = 0x7FF0_0000_0000_0000;
+    for i in 0..n {
+        let k = key(a[i], d);
+        low = farther(b, k, low);
+        high = nearer(b, k, high);
+    }
+    midpoint(f64::from_bits(low), f64::from_bits(high))
+}
+
+// The midpoint of the numbers at places m and m + 1. Where more than m + 1 are up to the bits at place m + 1, and no more than m under them, both are
+// the same.
+fn select_midpoint(a: &[f64], n: usize, d: f64, m: usize) -> f64
+    requires { ⌜ (n ≤ length (now a)) × All Plain (deviations d (take n (now a))) × (m + 1 < n) ⌝ }
+    ensures { λ r. ⌜ r ≡ midpointF (getD (sort (deviations d (take n (now (a .entry))))) m nan) (getD (sort (deviations d (take n (now (a .entry))))) (m + 1) nan) ⌝ }
+{
+    let c = narrow(a, n, d, m + 1);
+    if c.below == m + 1 {
+        return midpoint_at(a, n, d, m, c.bits);
+    }
+    let both = f64::from_bits(c.bits);
+    midpoint(both, both)
 }
 
 // The median of the deviations.
@@ -186,11 +225,8 @@ pub fn median_from(a: &[f64], n: usize, d: f64) -> f64
     if n == 0 {
         return 0.0;
     }
-    let m = n / 2;
     if n % 2 == 1 {
-        return f64::from_bits(select(a, n, d, m));
+        return select(a, n, d, n / 2);
     }
-    let low = select(a, n, d, m - 1);
-    let high = following(a, n, d, m - 1, low);
-    midpoint(f64::from_bits(low), f64::from_bits(high))
+    select_midpoint(a, n, d, n / 2 - 1)
 }

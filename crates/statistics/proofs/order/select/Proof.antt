@@ -1,76 +1,46 @@
--- `statistics::order::select` meets its contract. The invariant: the bits at place m lie from lo to hi, and `below` are under lo. Assumes nothing.
-use mathlib.Core.Path.{_≡_, sym, subst, _∙_}
-use Prim.Native.Nat.{_-_, _≤_, _<_}
-use native.Mathlib.Omega.{arith}
+-- `statistics::order::select` meets its contract. Assumes nothing.
+use mathlib.Core.Path.{sym, subst}
 use borrow.Author.Needs.{needs}
-use lib.ListN.{take}
+use Prim.Native.Nat.{_<_}
+use lib.ListN.{length, take}
 use Rattle.statistics.specs.Medians.{deviations}
-use Rattle.statistics.specs.Counting.{count, upto as bitsUpto, under, AtPlace}
-use Rattle.statistics.proofs.Counts.{under-next, under-zero, upto-all, least-place}
-use Rattle.statistics.proofs.Deviations.{length-deviations}
+use Rattle.statistics.specs.Counting.{AtPlace}
+use Rattle.statistics.proofs.Counts.{least-stands, bits-stand, placed}
+use Rattle.statistics.proofs.Deviations.{length-deviations, bits-some}
 use Rattle.statistics.proofs.order.select.Statement.{statement}
 use Rattle.statistics.proofs.order.select.Tie as tie
 
-abbrev Inv-loop : tie.InvT-loop
-Inv-loop a n d m first lo₀ hi₀ below₀ upto₀ turn₀ lo hi below upto turn =
-    (lo ≤ hi) × (hi ≤ 0x7FF0_0000_0000_0000) × (below ≡ count (under lo) (deviations d (take n a))) × (below ≤ m) × (m < count (bitsUpto hi) (deviations d (take n a)))
-
-abbrev μ-loop : tie.MeasureT-loop
-μ-loop a n d m first lo₀ hi₀ below₀ upto₀ turn₀ lo hi below upto turn = hi - lo
-
-sampled-requires : tie.Need-sampled-requires Inv-loop μ-loop
-sampled-requires c κs = let p = c .before .pre in (p .0, p .1, omega arith)
-
-loop-holds : tie.Need-loop-holds Inv-loop μ-loop
-loop-holds c =
-    let s = c .before .before in
-    let l = deviations (s .args .d) (take (s .args .n) (s .args .a .now)) in
-    let e = length-deviations (s .args .d) (s .args .n) (s .args .a .now) (s .pre .0) in
-    (omega arith, omega arith, sym (under-zero l), omega arith, rw (upto-all l (s .pre .1), e) (s .pre .2))
-
-returns : tie.Need-returns Inv-loop μ-loop
-returns c =
-    let at-loop = c .before .before .before .loop in
-    let s = c .before .before .before .before .before .before in
+-- m are under the bits: the least from there on stands at place m
+least : (c : tie.After-least-from) → AtPlace (deviations (c .before .before .before .before .before .args .d) (take (c .before .before .before .before .before .args .n) (c .before .before .before .before .before .args .a .now))) (c .before .before .before .before .before .args .m) (c .least-from .result)
+least c =
+    let s = c .before .before .before .before .before in
     let l = deviations (s .args .d) (take (s .args .n) (s .args .a .now)) in
     let e = length-deviations (s .args .d) (s .args .n) (s .args .a .now) (s .pre .0) in
     subst (AtPlace l (s .args .m)) (sym (c .least-from .ensures))
-    (least-place l (s .pre .1) (s .args .m) (at-loop .lo) (omega arith) (sym (at-loop .inv .2) ∙ c .before .if1 .taken) (rw e (s .pre .2)))
+    (least-stands l (s .pre .1) (s .args .m) _ _ (rw e (s .pre .2)) (c .before .before .before .narrow .ensures) (c .before .if1 .taken))
 
-loop-again : tie.Need-loop-again Inv-loop μ-loop
-loop-again c =
-    let at-loop = c .before .before .before .before .before .loop in
-    (omega arith, omega arith, at-loop .inv .2, at-loop .inv .3, rw (c .before .count-upto .ensures) at (c .if2 .taken))
-
-loop-again-2 : tie.Need-loop-again-2 Inv-loop μ-loop
-loop-again-2 c =
-    let at-loop = c .before .before .before .before .before .loop in
-    let s = c .before .before .before .before .before .before .before .before in
+returns : tie.Need-returns
+returns c =
+    let s = c .before .before .before .before .before in
     let l = deviations (s .args .d) (take (s .args .n) (s .args .a .now)) in
-    (omega arith, at-loop .inv .1, c .before .count-upto .ensures ∙ sym (under-next (c .before .before .cut .result) l), c .if2 .left, at-loop .inv .4)
+    let e = length-deviations (s .args .d) (s .args .n) (s .args .a .now) (s .pre .0) in
+    placed l (s .pre .1) (s .args .m) _ (least c) (rw e (s .pre .2))
 
-returns-2 : tie.Need-returns-2 Inv-loop μ-loop
+returns-2 : tie.Need-returns-2
 returns-2 c =
-    let z : c .before .loop .lo ≡ c .before .loop .hi = omega arith in
-    let low = rw z at (c .before .loop .inv .2) in
-    record { small = c .before .loop .inv .1; below = rw low at (c .before .loop .inv .3); reached = c .before .loop .inv .4 }
+    let s = c .before .before .before .before .before in
+    let l = deviations (s .args .d) (take (s .args .n) (s .args .a .now)) in
+    let e = length-deviations (s .args .d) (s .args .n) (s .args .a .now) (s .pre .0) in
+    let h : s .args .m < length l = rw e (s .pre .2) in
+    placed l (s .pre .1) (s .args .m) _ (bits-stand l (s .pre .1) (s .args .m) _ _ h (c .before .before .before .narrow .ensures) (c .before .if1 .left)) h
 
 pub select-spec : {M : Type 1} → statement M
 select-spec =
     tie.close
     (tie.spec
-    Inv-loop
-    μ-loop
-    sampled-requires
-    loop-holds
     (λ c κs. search needs)
+    (λ c κs. search needs)
+    (λ c. bits-some _ (least c .small))
     returns
-    (λ c κs. search needs)
-    (λ c κs. let s = c .before .before .before .before .before .before in (s .pre .0, s .pre .1, omega arith))
-    (λ c. search needs)
-    (λ c. search needs)
-    loop-again
-    (λ c. search needs)
-    (λ c. search needs)
-    loop-again-2
+    (λ c. bits-some _ (c .before .before .before .narrow .ensures .small))
     returns-2)
