@@ -116,7 +116,8 @@ fn cell(value: Option<f64>, places: usize) -> String {
     value.map_or(String::new(), |value| format!("{value:.places$}"))
 }
 
-fn print_row(name: &str, call: &Call, count: usize, samples: &[Sample], port: &dyn Side) {
+/// Prints a row and answers the port's time.
+fn print_row(name: &str, call: &Call, count: usize, samples: &[Sample], port: &dyn Side) -> f64 {
     let plain = by_side(&Judge, call, count, samples);
     let ported = by_side(port, call, count, samples);
     let (theirs, gsl) = (by_reference(call, samples), by_gsl(call, samples));
@@ -130,16 +131,57 @@ fn print_row(name: &str, call: &Call, count: usize, samples: &[Sample], port: &d
         cell(theirs, 4),
         cell(gsl, 4)
     );
+    ported
+}
+
+/// x⁰ to x¹⁵ in 14 products, as document 01's power gives them.
+fn powers_once(x: f64) -> [f64; 16] {
+    let mut p = [1.0; 16];
+    p[1] = x;
+    for half in [1, 2, 4] {
+        p[2 * half] = p[half] * p[half];
+        for low in 1..2 * half {
+            p[2 * half + low] = p[low] * p[2 * half];
+        }
+    }
+    p
+}
+
+/// The sums folded afresh in plain Rust, each sample's powers worked out once: what a withdrawal is held against.
+fn plain_fold(samples: &[Sample]) -> [f64; 272] {
+    let mut sums = [0.0; 272];
+    for sample in samples {
+        let row = powers_once(sample.x);
+        for i in 0..16 {
+            for j in 0..16 {
+                sums[16 * i + j] += row[i] * row[j];
+            }
+            sums[256 + i] += row[i] * sample.y;
+        }
+    }
+    sums
+}
+
+/// What is said below the table.
+#[derive(Default)]
+struct Further {
+    /// A withdrawal by a plain fold, for each count.
+    withdrawals: Vec<f64>,
+    /// The port's reports with the highest bound, for each count that allows it.
+    reports: Vec<(usize, f64)>,
 }
 
 /// The calls that do not depend on a bound, then those that do.
-fn print_rows(count: usize, port: &dyn Side) {
+fn print_rows(count: usize, port: &dyn Side, further: &mut Further) {
     let samples = samples(count);
     let middle = count / 2;
     let add = Call::Add(samples[count - 1]);
     print_row("add", &add, count - 1, &samples, port);
     print_row("correct", &Call::Correct { index: middle, y: 1.0 }, count, &samples, port);
-    print_row("withdraw", &Call::Withdraw { index: middle }, count, &samples, port);
+    let withdraw = Call::Withdraw { index: middle };
+    let withdrawal = print_row("withdraw", &withdraw, count, &samples, port);
+    let fold = best(|| drop(black_box(plain_fold(black_box(&samples)))));
+    further.withdrawals.push(withdrawal / fold);
     for degree in BOUNDS.into_iter().filter(|degree| *degree < count) {
         let bound = DegreeBound::Custom(degree);
         let (criterion, confidence) = (Criterion::Aic, Confidence::P95);
@@ -147,17 +189,44 @@ fn print_rows(count: usize, port: &dyn Side) {
         let fit = Call::Fit { degree };
         print_row(&format!("fit, degree {degree}"), &fit, count, &samples, port);
         let report = Call::Report(settings);
-        print_row(&format!("report, bound {degree}"), &report, count, &samples, port);
+        let name = format!("report, bound {degree}");
+        let reported = print_row(&name, &report, count, &samples, port);
+        if Some(&degree) == BOUNDS.last() {
+            further.reports.push((count, reported));
+        }
         let validate = Call::Validate { folds: FOLDS, bound, criterion };
         print_row(&format!("validate, bound {degree}"), &validate, count, &samples, port);
     }
 }
 
-/// Prints the table.
+/// Prints the table, how a withdrawal compares with a plain fold, and how a report grows with n.
 pub fn run(port: &dyn Side) {
     println!("| Call | n | port / plain | polyfit / port | GSL / port | port, ms | plain, ms | polyfit, ms | GSL, ms |");
     println!("|---|---|---|---|---|---|---|---|---|");
+    let mut further = Further::default();
     for count in COUNTS {
-        print_rows(count, port);
+        print_rows(count, port, &mut further);
+    }
+    println!();
+    for (count, ratio) in COUNTS.iter().zip(further.withdrawals) {
+        println!("A withdrawal of {count} by a plain fold with powers once: {ratio:.2}");
+    }
+    for pair in further.reports.windows(2) {
+        let ((few, before), (many, after)) = (pair[0], pair[1]);
+        let (samples, time) = (many as f64 / few as f64, after / before);
+        println!("A report from n {few} to n {many}: {samples:.1} times the samples, {time:.1} times as long");
+    }
+}
+
+#[cfg(test)]
+mod tests {
+    use super::*;
+
+    /// The plain fold has the bits of document 01's, so that what is timed is the same sums.
+    #[test]
+    fn plain_fold_is_a_fold() {
+        let samples = samples(100);
+        let bits = |sums: &[f64]| sums.iter().map(|sum| sum.to_bits()).collect::<Vec<_>>();
+        assert_eq!(bits(&plain_fold(&samples)), bits(&judge::sums::folded_afresh(&samples)));
     }
 }
