@@ -88,6 +88,16 @@ fn constant_points(list: &mut Vec<u64>) {
     list.extend([0x4000_020C_6DAD_D3B0, 0x4000_0224_E06F_6C60]);
 }
 
+/// One last bit under the square of a number of 27 binary digits: the root rounds up to that number.
+fn under_squares(list: &mut Vec<u64>) {
+    for root in [0x400_0002u64, 0x5A8_2799, 0x600_0001, 0x7FF_FFFF] {
+        let under = root * root - 1;
+        // Of 53 binary digits, or of 54 with an even one last.
+        let (exponent, digits) = if under < 1 << 53 { (1023, under) } else { (1024, under / 2) };
+        list.push(((exponent - 1) << 52) + digits);
+    }
+}
+
 /// Random patterns: any positive exponent, any bits, and near 1.
 fn random_values(list: &mut Vec<u64>, random: &mut Xorshift) {
     for _ in 0..84 {
@@ -109,6 +119,7 @@ fn inputs() -> Vec<u64> {
     plain_values(&mut list, &mut random);
     split_points(&mut list);
     constant_points(&mut list);
+    under_squares(&mut list);
     random_values(&mut list, &mut random);
     let mut seen = std::collections::HashSet::new();
     list.retain(|bits| seen.insert(*bits));
