@@ -180,7 +180,9 @@ fn print_rows(count: usize, port: &dyn Side, further: &mut Further) {
     print_row("correct", &Call::Correct { index: middle, y: 1.0 }, count, &samples, port);
     let withdraw = Call::Withdraw { index: middle };
     let withdrawal = print_row("withdraw", &withdraw, count, &samples, port);
-    let fold = best(|| drop(black_box(plain_fold(black_box(&samples)))));
+    let fold = best(|| {
+        black_box(plain_fold(black_box(&samples)));
+    });
     further.withdrawals.push(withdrawal / fold);
     for degree in BOUNDS.into_iter().filter(|degree| *degree < count) {
         let bound = DegreeBound::Custom(degree);

@@ -4,7 +4,7 @@ use judge::fit::Settings;
 use judge::frame;
 use judge::ledger::Ledger;
 use judge::refusals::Lengths;
-use judge::statistics::{t_score, Confidence, DegreeBound, Tolerance};
+use judge::statistics::{t_score, with_t, Confidence, DegreeBound, Tolerance, LEVELS};
 use judge::sums::{PLACES, TERMS};
 use judge::Sample;
 
@@ -253,19 +253,11 @@ fn interpolated(random: &mut Random) -> Vec<Step> {
 
 /// For every confidence, terms just below and just above its t score: pruned and kept.
 fn beside_t_scores(random: &mut Random, df: usize) -> Vec<Step> {
-    let levels = [
-        Confidence::P80,
-        Confidence::P90,
-        Confidence::P95,
-        Confidence::P98,
-        Confidence::P99,
-        Confidence::P999,
-    ];
     let mut maker = Maker::new(random, df + 1);
-    for confidence in levels {
+    for confidence in LEVELS {
         for part in [1.0 - 2e-6, 1.0 + 2e-6] {
             maker.call(Call::Open);
-            maker.add_all(&samples::with_t(df, part * t_score(confidence, df)));
+            maker.add_all(&with_t(df, part * t_score(confidence, df)));
             let (bound, tolerance) = (DegreeBound::Custom(0), Tolerance::None);
             let criterion = arguments::criterion(maker.random);
             let settings = Settings { bound, criterion, confidence, tolerance };

@@ -188,20 +188,6 @@ pub fn overflowing_mean(random: &mut Random) -> Vec<Sample> {
     pairs.iter().map(|&(x, y)| Sample { x, y: y * unit }).collect()
 }
 
-/// df + 1 samples whose mean over its error is the given t, nearly: the mean, with 1 and −1 by turns
-/// added.
-pub fn with_t(df: usize, t: f64) -> Vec<Sample> {
-    let n = df + 1;
-    let turned = (n - n % 2) as f64;
-    let error = (turned / df as f64 / n as f64).sqrt();
-    let turn = |i: usize| match i {
-        _ if i + 1 == n && n % 2 == 1 => 0.0,
-        _ if i.is_multiple_of(2) => 1.0,
-        _ => -1.0,
-    };
-    (0..n).map(|i| Sample { x: i as f64, y: t * error + turn(i) }).collect()
-}
-
 /// Seeds from which `at_pivot_edge` finds samples; about one in a hundred does.
 const PIVOT_EDGE_SEEDS: [u64; 12] =
     [53, 618, 949, 1009, 1093, 1172, 1570, 1631, 2147, 2164, 2548, 2930];

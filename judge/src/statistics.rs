@@ -1,6 +1,7 @@
 //! Document 01, "Statistics", after polyfit's `statistics.rs`.
 
 use crate::numbers::{abs, square_root};
+use crate::Sample;
 
 /// `Confidence`: six levels, or a score of the caller's own.
 #[derive(Debug, Clone, Copy, PartialEq)]
@@ -13,6 +14,16 @@ pub enum Confidence {
     P999,
     Custom(f64),
 }
+
+/// The six levels.
+pub const LEVELS: [Confidence; 6] = [
+    Confidence::P80,
+    Confidence::P90,
+    Confidence::P95,
+    Confidence::P98,
+    Confidence::P99,
+    Confidence::P999,
+];
 
 /// `DegreeBound`: three ways to bound the degree by the number of samples, or a bound of the caller's own.
 #[derive(Debug, Clone, Copy, PartialEq)]
@@ -100,6 +111,20 @@ pub fn t_score(confidence: Confidence, df: usize) -> f64 {
         Confidence::P999 => row[5],
         Confidence::Custom(_) => z_score(confidence),
     }
+}
+
+/// df + 1 samples whose mean over its error is the given t, nearly: the mean, with 1 and −1 by turns
+/// added.
+pub fn with_t(df: usize, t: f64) -> Vec<Sample> {
+    let n = df + 1;
+    let turned = (n - n % 2) as f64;
+    let error = (turned / df as f64 / n as f64).sqrt();
+    let turn = |i: usize| match i {
+        _ if i + 1 == n && n % 2 == 1 => 0.0,
+        _ if i.is_multiple_of(2) => 1.0,
+        _ => -1.0,
+    };
+    (0..n).map(|i| Sample { x: i as f64, y: t * error + turn(i) }).collect()
 }
 
 /// The largest whole r with r to the given power at most n.

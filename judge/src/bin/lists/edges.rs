@@ -3,7 +3,7 @@
 use judge::fit::Settings;
 use judge::frame::encode;
 use judge::request::{Name, Request};
-use judge::statistics::{t_score, Confidence, DegreeBound, Tolerance};
+use judge::statistics::{self, t_score, Confidence, DegreeBound, Tolerance, LEVELS};
 use judge::sums::TERMS;
 use judge::Sample;
 
@@ -21,15 +21,6 @@ const PIT: [(f64, f64); 8] = [
     (1.25, 107.0),
     (1.5, 206.0),
     (1.75, 166.0),
-];
-
-const LEVELS: [Confidence; 6] = [
-    Confidence::P80,
-    Confidence::P90,
-    Confidence::P95,
-    Confidence::P98,
-    Confidence::P99,
-    Confidence::P999,
 ];
 
 /// Sums with a first pivot of 2⁻⁵², which the inverse doubles: the second pivot is then 2⁻¹⁰ for the
@@ -265,18 +256,9 @@ fn settings(list: &mut List) {
     }
 }
 
-/// df + 1 samples whose mean over its error is the given t, nearly: the mean, with 1 and −1 by turns
-/// added.
+/// Samples of a given t, as pairs.
 fn with_t(df: usize, t: f64) -> Vec<(f64, f64)> {
-    let n = df + 1;
-    let turned = (n - n % 2) as f64;
-    let error = (turned / df as f64 / n as f64).sqrt();
-    let turn = |i: usize| match i {
-        _ if i + 1 == n && n % 2 == 1 => 0.0,
-        _ if i.is_multiple_of(2) => 1.0,
-        _ => -1.0,
-    };
-    (0..n).map(|i| (i as f64, t * error + turn(i))).collect()
+    statistics::with_t(df, t).iter().map(|sample| (sample.x, sample.y)).collect()
 }
 
 fn pruning(list: &mut List) {
