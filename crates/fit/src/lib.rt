@@ -28,8 +28,7 @@ fn residual(k: CoefficientCount, c: &[f64; 16], x: f64, y: f64) -> f64
     requires { ⌜ k .0 ≤ 16 ⌝ }
     ensures { λ r. ⌜ r ≡ residualF (k .0) (now (c .entry)) (rowOf (record { x = x; y = y })) ⌝ }
 {
-    let terms = value::powers(x);
-    y - monomial::fitted(k, c, &terms)
+    y - monomial::fitted_at(k, c, x)
 }
 
 // The first n places of scratch become the sizes of the residuals. Answers whether every residual is finite.

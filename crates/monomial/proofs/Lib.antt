@@ -1,2 +1,3 @@
 -- Lemmas for the proofs.
+pub mod Low
 pub mod Parts

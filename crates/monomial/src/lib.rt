@@ -5,8 +5,9 @@ ghost use mathlib.Core.List.{_++_};
 ghost use Prim.Native.Nat.{_+_, _≤_};
 ghost use lib.Ieee.{binary64, add};
 ghost use lib.ListN.{length, take, drop};
-ghost use Rattle.loops.specs.Places.{each};
+ghost use Rattle.loops.specs.Places.{each, table};
 ghost use Rattle.value.specs.Numbers.{zeroF};
+ghost use Rattle.value.specs.Power.{powerF};
 ghost use Rattle.monomial.specs.Samples.{samplesOf};
 ghost use Rattle.monomial.specs.Rows.{rowOf, rowsOf, fitted as fittedF};
 ghost use Rattle.monomial.specs.Sums.{productOf, addRow, sumsOf};
@@ -22,6 +23,43 @@ pub fn fitted(k: CoefficientCount, c: &[f64; 16], terms: &[f64; 16]) -> f64
         v = v + c[j] * terms[j];
     }
     v
+}
+
+// The fitted value of up to four coefficients at x, for which few powers are worked out.
+fn fitted_low(k: CoefficientCount, c: &[f64; 16], x: f64) -> f64
+    requires { ⌜ k .0 ≤ 4 ⌝ }
+    ensures { λ r. ⌜ r ≡ fittedF (k .0) (now (c .entry)) (table (powerF x) 16) ⌝ }
+{
+    let n = k.0;
+    if n == 0 {
+        return 0.0;
+    }
+    let v0 = 0.0 + c[0] * 1.0;
+    if n == 1 {
+        return v0;
+    }
+    let v1 = v0 + c[1] * x;
+    if n == 2 {
+        return v1;
+    }
+    let x2 = x * x;
+    let v2 = v1 + c[2] * x2;
+    if n == 3 {
+        return v2;
+    }
+    v2 + c[3] * (x * x2)
+}
+
+// The fitted value at x.
+pub fn fitted_at(k: CoefficientCount, c: &[f64; 16], x: f64) -> f64
+    requires { ⌜ k .0 ≤ 16 ⌝ }
+    ensures { λ r. ⌜ r ≡ fittedF (k .0) (now (c .entry)) (table (powerF x) 16) ⌝ }
+{
+    if k.0 <= 4 {
+        return fitted_low(k, c, x);
+    }
+    let terms = value::powers(x);
+    fitted(k, c, &terms)
 }
 
 // Adds the products of two term values to the 256 places of A.

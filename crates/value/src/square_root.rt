@@ -33,7 +33,8 @@ fn root_by_digits(m: u64) -> u64
     if root < rest { root + 1 } else { root }
 }
 
-// A guess at the root of m * 2^52: four of Newton's steps in doubles. Any guess would do: it is tried below, and not trusted.
+// A guess at the root of m * 2^52: a parabola within one part in 190 of the root from 1 to 4, then three of Newton's steps, in doubles. Any guess would
+// do: it is tried below, and not trusted.
 fn guess(m: u64) -> u64
     requires { ⌜ m < 2 ^ 54 ⌝ }
     ensures { λ r. ⌜ (2 ^ 52 ≤ r) × (r < 2 ^ 53) ⌝ }
@@ -44,8 +45,7 @@ fn guess(m: u64) -> u64
         m / 2 + 0x3FF0_0000_0000_0000
     };
     let v = f64::from_bits(b);
-    let mut y = f64::from_bits(b / 2 + 0x1FF8_0000_0000_0000);
-    y = (y + v / y) / 2.0;
+    let mut y = 0.51908 + v * (0.52537 - v * 0.039375);
     y = (y + v / y) / 2.0;
     y = (y + v / y) / 2.0;
     y = (y + v / y) / 2.0;

@@ -1,16 +1,13 @@
 -- `value::guess` meets its contract. Assumes nothing.
 use mathlib.Core.Logic.{⊎-elim}
 use native.Mathlib.Omega.{arith}
-use Rattle.value.specs.Nan.{bits-some}
 use borrow.Author.Needs.{needs}
+use Rattle.value.specs.Nan.{bits-some}
 use Rattle.value.proofs.square_root.guess.Statement.{statement}
 use Rattle.value.proofs.square_root.guess.Tie as tie
 
 float-from-bits-v : tie.Need-float-from-bits-v
 float-from-bits-v c = ⊎-elim (λ w. bits-some _ (omega (arith, w))) (λ w. bits-some _ (omega (arith, w))) (c .if1 .came)
-
-float-from-bits-y : tie.Need-float-from-bits-y
-float-from-bits-y c = ⊎-elim (λ w. bits-some _ (omega (arith, w))) (λ w. bits-some _ (omega (arith, w))) (c .before .if1 .came)
 
 pub guess-spec : {M : Type 1} → statement M
 guess-spec =
@@ -19,8 +16,6 @@ guess-spec =
     (λ c. search needs)
     (λ c. search needs)
     float-from-bits-v
-    (λ c. search needs)
-    float-from-bits-y
     (λ c κs. search needs)
     (λ c. search needs)
     (λ c. search needs))
