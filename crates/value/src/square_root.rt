@@ -2,6 +2,7 @@
 // where that settles nothing, the digits are found one a turn.
 ghost use mathlib.Core.Path.{_≡_};
 ghost use mathlib.Core.Logic.{_⊎_};
+ghost use mathlib.Core.Bool.{cond};
 ghost use Prim.Native.Nat.{_+_, _*_, _^_, _<_, _≤_};
 ghost use lib.Ieee.{binary64, ofBits};
 use crate::bits::to_bits;
@@ -85,22 +86,27 @@ fn distance(m: u64, r: u64) -> u64
     left - low
 }
 
-// The root of m * 2^52, to the nearest whole number: a guess, or a neighbour of it where the squares tell that this is nearer. A guess that is farther
-// off is not used.
+// 1 where a test holds, else 0.
+fn one(t: bool) -> u64
+    ensures is { λ r. ⌜ r ≡ cond t 1 0 ⌝ }
+    ensures small { λ r. ⌜ r ≤ 1 ⌝ }
+{
+    if t {
+        return 1;
+    }
+    0
+}
+
+// The root of m * 2^52, to the nearest whole number: a guess, or the next number above or below where the squares tell that this is nearer. A guess that
+// is farther off is not used.
 fn closest_root(m: u64) -> u64
     requires { ⌜ m < 2 ^ 54 ⌝ }
     ensures { λ r. ⌜ r ≡ closestRoot (m * 2 ^ 52) ⌝ }
 {
     let r = guess(m);
     let d = distance(m, r);
-    if (0x100_0000_0000_0000 < d + r) & (d <= 0x100_0000_0000_0000 + r) {
-        return r;
-    }
-    if (0x100_0000_0000_0000 + r < d) & (d <= 0x100_0000_0000_0002 + 3 * r) {
-        return r + 1;
-    }
-    if (0x100_0000_0000_0002 < d + 3 * r) & (d + r <= 0x100_0000_0000_0000) {
-        return r - 1;
+    if (0x100_0000_0000_0002 < d + 3 * r) & (d <= 0x100_0000_0000_0002 + 3 * r) {
+        return r + one(0x100_0000_0000_0000 + r < d) - one(d + r <= 0x100_0000_0000_0000);
     }
     root_by_digits(m)
 }

@@ -1,13 +1,13 @@
 -- A guessed root held against the squares: what `distance` measures, and that the guess or a neighbour is then the closest. Assumes nothing.
-use mathlib.Core.Path.{_≡_, sym, ap, _∙_}
-use mathlib.Core.Bool.{Bool, true, cond, _&&_}
+use mathlib.Core.Path.{_≡_, refl, sym, ap, _∙_}
+use mathlib.Core.Bool.{Bool, true, false, cond, _&&_}
 use mathlib.Core.Logic.{_⊎_, ⊎-elim}
 use Prim.Native.Nat.{ℕ, zero, suc, _+_, _-_, _*_, _/_, _%_, _^_, _≤_, _<_}
 use native.Mathlib.Nat.{mul-add, add-mul, mul-assoc, mul-comm, mul-left-comm, mul-le-mul}
 use native.Mathlib.Numerals.{add-one}
 use native.Mathlib.Omega.{arith}
 use lib.Dec.{ltb, leb}
-use borrow.Author.Tests.{lt-ltb, le-ltb, ltb-true, leb-true}
+use borrow.Author.Tests.{lt-ltb, le-ltb, ltb-true, ltb-false, leb-true, leb-false}
 use Rattle.loops.specs.Cases.{either, and-first, and-second}
 use Rattle.value.specs.Root.{closestRoot}
 use Rattle.value.proofs.SquareRoot.Numbers.{next-square, closestRoot-is}
@@ -56,29 +56,38 @@ beneath n (suc q) h a l =
 pub closest : (n r : ℕ) → n < 4 ^ 53 → r * r < n + r → n ≤ r * r + r → r ≡ closestRoot n
 closest n r h a b = either (r * r) n (at-least n r h b) (beneath n r h a)
 
-one-less : (m r d : ℕ) → m < 2 ^ 54 → r < 2 ^ 53 → (d ≡ 0) ⊎ (r * r + d ≡ m * 2 ^ 52 + 2 ^ 56) → (0x100_0000_0000_0002 < d + 3 * r) × (d + r ≤ 0x100_0000_0000_0000)
-    → r - 1 ≡ closestRoot (m * 2 ^ 52)
-one-less m zero d h k e t = absurd (omega arith)
-one-less m (suc q) d h k e t =
+-- ---- what the tests of `closest_root` settle: d is r's distance, and less than three half places either way
+near : (a b c d : ℕ) → ltb a b && leb c d ≡ true → (a < b) × (c ≤ d)
+near a b c d t = (ltb-true a b (and-first (ltb a b) (leb c d) t), leb-true c d (and-second (ltb a b) (leb c d) t))
+
+one-less : (n r d : ℕ) → n < 4 ^ 53 → r * r + d ≡ n + 2 ^ 56 → 0x100_0000_0000_0002 < d + 3 * r → d + r ≤ 0x100_0000_0000_0000 → r - 1 ≡ closestRoot n
+one-less n zero d h e a b = absurd (omega arith)
+one-less n (suc q) d h e a b =
     let s = next-square q in
     let back : suc q - 1 ≡ q = omega arith in
-    back ∙ ⊎-elim (λ z. absurd (omega arith)) (λ w. closest (m * 2 ^ 52) q (omega arith) (omega arith) (omega arith)) e
+    back ∙ closest n q h (omega arith) (omega arith)
 
-both : (a b c d : ℕ) → ltb a b && leb c d ≡ true → (a < b) × (c ≤ d)
-both a b c d t = (ltb-true a b (and-first (ltb a b) (leb c d) t), leb-true c d (and-second (ltb a b) (leb c d) t))
+one-more : (n r d : ℕ) → n < 4 ^ 53 → r * r + d ≡ n + 2 ^ 56 → 0x100_0000_0000_0000 + r < d → d ≤ 0x100_0000_0000_0002 + 3 * r → r + 1 ≡ closestRoot n
+one-more n r d h e a b = let s = next-square r in add-one r ∙ closest n (suc r) h (omega arith) (omega arith)
 
--- ---- what the tests of `closest_root` settle
-module _ (m r d : ℕ) (h : m < 2 ^ 54) (k : r < 2 ^ 53) (e : (d ≡ 0) ⊎ (r * r + d ≡ m * 2 ^ 52 + 2 ^ 56)) where
-  pub stays : ltb 0x100_0000_0000_0000 (d + r) && leb d (0x100_0000_0000_0000 + r) ≡ true → r ≡ closestRoot (m * 2 ^ 52)
-  stays t =
-      let b = both 0x100_0000_0000_0000 (d + r) d (0x100_0000_0000_0000 + r) t in
-      ⊎-elim (λ z. absurd (omega arith)) (λ q. closest (m * 2 ^ 52) r (omega arith) (omega arith) (omega arith)) e
+-- by the two tests: one above, one below, or r itself
+moved : (n r d : ℕ) → n < 4 ^ 53 → r * r + d ≡ n + 2 ^ 56 → (0x100_0000_0000_0002 < d + 3 * r) × (d ≤ 0x100_0000_0000_0002 + 3 * r) → (s t : Bool)
+    → ltb (0x100_0000_0000_0000 + r) d ≡ s → leb (d + r) 0x100_0000_0000_0000 ≡ t → r + cond s 1 0 - cond t 1 0 ≡ closestRoot n
+moved n r d h e k true true p q =
+    let a : 0x100_0000_0000_0000 + r < d = ltb-true _ _ p in
+    let b : d + r ≤ 0x100_0000_0000_0000 = leb-true _ _ q in
+    absurd (omega arith)
+moved n r d h e k true false p q = let z : r + 1 - 0 ≡ r + 1 = omega arith in z ∙ one-more n r d h e (ltb-true _ _ p) (k .1)
+moved n r d h e k false true p q = let z : r + 0 - 1 ≡ r - 1 = omega arith in z ∙ one-less n r d h e (k .0) (leb-true _ _ q)
+moved n r d h e k false false p q =
+    let a : d ≤ 0x100_0000_0000_0000 + r = ltb-false _ _ p in
+    let b : 0x100_0000_0000_0000 < d + r = leb-false _ _ q in
+    let z : r + 0 - 0 ≡ r = omega arith in
+    z ∙ closest n r h (omega arith) (omega arith)
 
-  pub steps-up : ltb (0x100_0000_0000_0000 + r) d && leb d (0x100_0000_0000_0002 + 3 * r) ≡ true → r + 1 ≡ closestRoot (m * 2 ^ 52)
-  steps-up t =
-      let b = both (0x100_0000_0000_0000 + r) d d (0x100_0000_0000_0002 + 3 * r) t in
-      let s = next-square r in
-      add-one r ∙ ⊎-elim (λ z. absurd (omega arith)) (λ q. closest (m * 2 ^ 52) (suc r) (omega arith) (omega arith) (omega arith)) e
-
-  pub steps-down : ltb 0x100_0000_0000_0002 (d + 3 * r) && leb (d + r) 0x100_0000_0000_0000 ≡ true → r - 1 ≡ closestRoot (m * 2 ^ 52)
-  steps-down t = one-less m r d h k e (both 0x100_0000_0000_0002 (d + 3 * r) (d + r) 0x100_0000_0000_0000 t)
+pub settled : (m r d : ℕ) → m < 2 ^ 54 → r < 2 ^ 53 → (d ≡ 0) ⊎ (r * r + d ≡ m * 2 ^ 52 + 2 ^ 56)
+    → ltb 0x100_0000_0000_0002 (d + 3 * r) && leb d (0x100_0000_0000_0002 + 3 * r) ≡ true
+    → r + cond (ltb (0x100_0000_0000_0000 + r) d) 1 0 - cond (leb (d + r) 0x100_0000_0000_0000) 1 0 ≡ closestRoot (m * 2 ^ 52)
+settled m r d h k e t =
+    let b = near 0x100_0000_0000_0002 (d + 3 * r) d (0x100_0000_0000_0002 + 3 * r) t in
+    ⊎-elim (λ z. absurd (omega arith)) (λ q. moved (m * 2 ^ 52) r d (omega arith) q b _ _ refl refl) e
