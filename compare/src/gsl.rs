@@ -140,12 +140,12 @@ pub fn report(samples: &[Sample], bound: usize) -> Option<Vec<(f64, f64)>> {
 }
 
 #[cfg(not(gsl))]
-pub fn fit(_: &[Sample], _: usize) -> Option<()> {
+pub fn fit(_: &[Sample], _: usize) -> Option<Vec<f64>> {
     None
 }
 
 #[cfg(not(gsl))]
-pub fn report(_: &[Sample], _: usize) -> Option<()> {
+pub fn report(_: &[Sample], _: usize) -> Option<Vec<(f64, f64)>> {
     None
 }
 
