@@ -1,16 +1,16 @@
 -- The fitted value of up to four coefficients, one after the other. Assumes nothing.
-use mathlib.Core.Path.{_≡_, refl, sym, ap, _∙_}
+use mathlib.Core.Path.{_≡_, refl, sym, ap}
 use mathlib.Core.List.{List}
 use Prim.Native.Nat.{ℕ, _+_, _<_}
 use native.Mathlib.Omega.{arith}
 use lib.Dec.{T}
 use lib.ListN.{getD}
-use lib.Ieee.{Float, nan, binary64, add, mul, fits, ofBits}
+use lib.Ieee.{Float, nan, binary64, add, mul, fits}
 use lib.Ieee.Fits.{mul-fits}
 use Rattle.loops.specs.Fold.{fold}
 use Rattle.loops.specs.Places.{table, table-at}
 use Rattle.value.specs.Exact.{one-times}
-use Rattle.value.specs.Numbers.{zeroF}
+use Rattle.value.specs.Numbers.{zeroF, oneF}
 use Rattle.value.specs.Power.{powerF, powerFrom, powerTurns}
 use Rattle.value.specs.Total.{total-again}
 use Rattle.monomial.specs.Rows.{fitted}
@@ -39,11 +39,11 @@ module _ (c : List Float) (x : Float) (f : T (fits binary64 x)) where
   unfolding powerF powerFrom powerTurns
   power-3 = ap (λ (y : Float). mul binary64 y (mul binary64 x x)) (one-times x f)
 
-  power-0 : powerF x 0 ≡ ofBits binary64 0x3FF0_0000_0000_0000
+  power-0 : powerF x 0 ≡ oneF
   unfolding powerF powerFrom powerTurns
   power-0 = refl
 
-  pub one-term : add binary64 zeroF (mul binary64 (getD c 0 nan) (ofBits binary64 0x3FF0_0000_0000_0000)) ≡ fitted 1 c (table (powerF x) 16)
+  pub one-term : add binary64 zeroF (mul binary64 (getD c 0 nan) oneF) ≡ fitted 1 c (table (powerF x) 16)
   one-term = one-more 0 _ _ (omega arith) none power-0
 
   pub two-terms : (v : Float) → v ≡ fitted 1 c (table (powerF x) 16) → add binary64 v (mul binary64 (getD c 1 nan) x) ≡ fitted 2 c (table (powerF x) 16)

@@ -5,14 +5,15 @@ use mathlib.Core.Bool.{Bool, true, false, not, _&&_, _||_}
 use Prim.Native.Nat.{ℕ, zero, suc, _+_, _-_, _*_, _/_, _%_, _^_, _≤_, _<_}
 use native.Mathlib.Nat.{le-refl, le-trans, le-of-eq, le-antisymm, le-of-lt, lt-of-le-of-lt, lt-of-lt-of-le, zero-add, zero-mul, mul-right-comm, mul-le-mul-right, le-div-iff-mul-le, div-lt-iff-lt-mul, mul-lt-mul-of-pos-right, mul-pos}
 use native.Mathlib.Omega.{arith}
-use lib.Dec.{T, leb, ltb, eqb, leb→le, le→leb, ltb→lt, lt→ltb, eqb→eq, eqb-refl, nleb→lt, lit<, T-not}
+use lib.Dec.{T, leb, ltb, eqb, leb→le, le→leb, ltb→lt, lt→ltb, eqb→eq, eqb-refl, lit<, T-not}
 use lib.Pow.{pow-add, pow-pos}
 use lib.IntN.{ℤ}
-use lib.Ieee.{Float, nan, inf, fin, binary64, le, lt, eq, fits, up, down, size, toBits, ofBits}
+use lib.Ieee.{Float, nan, inf, fin, binary64, le, fits, up, down, size, toBits, ofBits}
 use lib.Ieee.Digits.{size-lt, size-reaches, size-le}
 use lib.Ieee.Fits.{kept-lt, down-pos, and-l, and-r}
 use lib.Ieee.Nearest.{div-mono}
 use lib.Ieee.Bits.{ofBits-toBits}
+use Rattle.loops.specs.Cases.{either}
 use Rattle.value.specs.Numbers.{plain}
 
 -- the bits of a magnitude of n of the smallest values
@@ -31,13 +32,6 @@ toBits-fin m e = ap (λ (z : ℕ). z + units m e / 2 ^ dropped (units m e)) (zer
 
 size-mono : (n k : ℕ) → n ≤ k → size n ≤ size k
 size-mono n k h = size-le n (size k) (lt-of-le-of-lt h (size-lt k))
-
-either : (a b : ℕ) {G : Type 0} → (a ≤ b → G) → (b < a → G) → G
-either a b {G} f g = go (leb a b) refl
-  where
-    go : (t : Bool) → leb a b ≡ t → G
-    go true e = f (leb→le a b (subst T (sym e) tt))
-    go false e = g (nleb→lt a b (subst (λ (t : Bool). T (not t)) (sym e) tt))
 
 -- what is kept has all 53 digits where some are dropped
 kept-ge : (n : ℕ) → 0 < dropped n → 4503599627370496 ≤ n / 2 ^ dropped n

@@ -1,6 +1,6 @@
 -- The order of doubles, NaNs and infinities among them. Assumes nothing.
 use mathlib.Core.Path.{_≡_, refl}
-use mathlib.Core.Bool.{Bool, true, false, not, _&&_, false≢true}
+use mathlib.Core.Bool.{Bool, true, false, not, _&&_}
 use Prim.Native.Nat.{ℕ, zero, suc, _+_, _*_, _<_}
 use native.Mathlib.Nat.{mul-right-comm, mul-lt-mul-of-pos-right, lt-of-mul-lt-mul-right, mul-pos, zero-mul}
 use native.Mathlib.Omega.{arith}

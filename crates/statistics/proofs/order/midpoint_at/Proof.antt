@@ -1,6 +1,6 @@
 -- `statistics::order::midpoint_at` meets its contract. The invariant: low is the greatest under b and high the least from b on, so far. Assumes nothing.
 use mathlib.Core.Path.{_≡_, refl, sym, ap₂, subst, _∙_}
-use Prim.Native.Nat.{ℕ, _+_, _-_, _≤_, _<_}
+use Prim.Native.Nat.{_+_, _-_, _≤_, _<_}
 use native.Mathlib.Omega.{arith}
 use borrow.Author.Needs.{needs}
 use lib.ListN.{length, take}
