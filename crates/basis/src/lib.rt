@@ -1,8 +1,15 @@
 // The degree of a polynomial and its number of coefficients, two types that are never taken for each other.
 // They are converted as polyfit's `Basis::k` and `Basis::degree` do.
 ghost use mathlib.Core.Path.{_≡_};
-ghost use Prim.Native.Nat.{_+_, _<_};
+ghost use Prim.Native.Nat.{_≤_};
 ghost use Rattle.basis.specs.Basis.{degreeOf};
+ghost use Rattle.basis.specs.Counts.{countOf};
+
+// What the term values are: the powers of x, or the products of a power of x and a power of z.
+pub enum Basis {
+    Curve,
+    Surface,
+}
 
 pub struct Degree(pub usize);
 
@@ -16,12 +23,16 @@ pub enum OptionDegree {
 }
 
 impl Degree {
-    // `Basis::k`: degree + 1.
-    pub fn k(self) -> CoefficientCount
-        requires { ⌜ self .0 < 18446744073709551615 ⌝ }
-        ensures { λ r. ⌜ r .0 ≡ self .0 + 1 ⌝ }
+    // `Basis::k`.
+    pub fn k(self, basis: Basis) -> CoefficientCount
+        requires { ⌜ self .0 ≤ 15 ⌝ }
+        ensures { λ r. ⌜ r .0 ≡ countOf basis (self .0) ⌝ }
     {
-        CoefficientCount(self.0 + 1)
+        let d = self.0;
+        match basis {
+            Basis::Curve => CoefficientCount(d + 1),
+            Basis::Surface => CoefficientCount((d + 1) * (d + 2) / 2),
+        }
     }
 }
 

@@ -24,8 +24,10 @@ use Rattle.score.specs.declared.Criterion.{Criterion}
 use Rattle.choice.specs.Choice.{solvedCount}
 use Rattle.choice.specs.Laws.{chosen}
 use Rattle.choice.specs.declared.Scored.{Scored}
+use Rattle.basis.specs.Counts.{countOf}
+use Rattle.basis.specs.declared.Basis.the-variants.{Curve}
 use Rattle.fit.specs.Solved.{isSolved}
-use Rattle.fit.specs.Chosen.{tried, choiceOf, curveCounts}
+use Rattle.fit.specs.Chosen.{tried, choiceOf, countsOf}
 use Rattle.folds.specs.Folds.{validated, validatedChoice}
 use Rattle.solve.specs.Solve.{solve}
 use Rattle.covariance.specs.declared.Band.{Band}
@@ -34,7 +36,7 @@ use Rattle.covariance.specs.Pruning.{prunes, prunedAt, prunedBytes}
 use Rattle.covariance.specs.Bands.{bandAt, outlies, outlierOf, outliersOf}
 use Rattle.frame.specs.Frame.{decode}
 use Rattle.book.specs.Refusals.{by, numbered, openRefusal, addRefusal, correctRefusal, withdrawRefusal, frameAddRefusal, open-numbers, add-numbers, correct-numbers, withdraw-numbers, frame-numbers, add-room, correct-room, withdraw-room, frame-room}
-use Rattle.book.specs.Calls.{Out, stateOf, settle, refused, openOut, addOut, correctOut, withdrawOut, addFrameOut}
+use Rattle.book.specs.Calls.{columnsOf, Out, stateOf, settle, refused, openOut, addOut, correctOut, withdrawOut, addFrameOut}
 use Rattle.book.specs.Many.{many-added, added-is}
 use Rattle.measure.specs.Measures.{inverseFails, measureRefusal, covarianceAt}
 use Rattle.query.specs.Refusals.{fitRefusal, validateRefusal, bandRefusal, fit-numbers, validate-numbers, band-numbers, fit-room, validate-room}
@@ -101,7 +103,7 @@ solved-most S b =
 
 -- ---- the calls that change a book
 
-book-fits : (k : ℕ) (good : Out) (xs ys sums : List Float) → k ≤ 12 → (k ≡ 0 → BookFits (good .answer)) → BookFits (settle k good (refused k xs ys sums) .answer)
+book-fits : (k : ℕ) (good : Out) (xs ys sums : List Float) → k ≤ 12 → (k ≡ 0 → BookFits (good .answer)) → BookFits (settle k good (refused k (columnsOf xs ys) sums) .answer)
 unfolding BookFits
 book-fits zero good xs ys sums h g = g refl
 book-fits (suc k) good xs ys sums h g = (omega arith, h)
@@ -112,28 +114,28 @@ open-fits sums =
     book-fits (openRefusal (length sums)) _ [] [] sums (omega (arith, among _ (open-numbers (length sums)))) (λ e. omega arith)
 
 module _ (n : ℕ) (xs ys sums : List Float) where
-  pub add-fits : (p : Sample) → BookFits (addOut n p xs ys sums .answer)
+  pub add-fits : (p : Sample) → BookFits (addOut n p (columnsOf xs ys) sums .answer)
   unfolding addOut BookFits
   add-fits p =
       book-fits (addRefusal n p (length xs ∷ length ys ∷ []) (length sums)) _ xs ys sums
       (omega (arith, among _ (add-numbers n p (length xs ∷ length ys ∷ []) (length sums))))
       (λ e. add-room n (length xs) (length ys) (length sums) p e .0 .most)
 
-  pub correct-fits : (i : ℕ) (y : Float) → BookFits (correctOut n i y xs ys sums .answer)
+  pub correct-fits : (i : ℕ) (y : Float) → BookFits (correctOut n i y (columnsOf xs ys) sums .answer)
   unfolding correctOut BookFits
   correct-fits i y =
       book-fits (correctRefusal n i y (length xs ∷ length ys ∷ []) (length sums)) _ xs ys sums
       (omega (arith, among _ (correct-numbers n i y (length xs ∷ length ys ∷ []) (length sums))))
       (λ e. correct-room n (length xs) (length ys) (length sums) i y e .0 .most)
 
-  pub withdraw-fits : (i : ℕ) → BookFits (withdrawOut n i xs ys sums .answer)
+  pub withdraw-fits : (i : ℕ) → BookFits (withdrawOut n i (columnsOf xs ys) sums .answer)
   unfolding withdrawOut BookFits
   withdraw-fits i =
       book-fits (withdrawRefusal n i (length xs ∷ length ys ∷ []) (length sums)) _ xs ys sums
       (omega (arith, among _ (withdraw-numbers n i (length xs ∷ length ys ∷ []) (length sums))))
       (λ e. omega (arith, withdraw-room n (length xs) (length ys) (length sums) i e .0 .most))
 
-  pub frame-fits : (f : List ℕ) → BookFits (addFrameOut n f xs ys sums .answer)
+  pub frame-fits : (f : List ℕ) → BookFits (addFrameOut n f (columnsOf xs ys) sums .answer)
   unfolding addFrameOut BookFits
   frame-fits f =
       let s = stateOf n xs ys sums in
@@ -145,9 +147,9 @@ module _ (n : ℕ) (xs ys sums : List Float) where
 
 past-fits : (n degree : ℕ) (samples : List Sample) (sums : List Float) → degree ≤ 15 → FitFits (fitPast n degree samples sums .answer)
 unfolding fitPast FitFits
-past-fits n degree samples sums h = go (isSolved sums (rowsOf samples) (degree + 1)) refl
+past-fits n degree samples sums h = go (isSolved sums (rowsOf samples) (countOf Curve degree)) refl
   where
-    go : (t : Bool) → isSolved sums (rowsOf samples) (degree + 1) ≡ t → FitFits (fitPast n degree samples sums .answer)
+    go : (t : Bool) → isSolved sums (rowsOf samples) (countOf Curve degree) ≡ t → FitFits (fitPast n degree samples sums .answer)
     go true e = rw e h
     go false e = rw e (omega arith, omega arith)
 
@@ -180,7 +182,7 @@ module _ (n : ℕ) (xs ys sums scratch coefficients : List Float) where
           → FitFits (validatePast n o (samplesOf n xs ys) (take 272 sums) .answer)
       chosen-fits h None e = (omega arith, omega arith)
       chosen-fits h (Some d) e =
-          let w = chosen (λ d. validated criterion (rowsOf (samplesOf n xs ys)) folds (d + 1)) (maxDegree bound n + 1) (d .0) e in
+          let w = chosen (λ d. validated criterion (rowsOf (samplesOf n xs ys)) folds (countOf Curve d)) (maxDegree bound n + 1) (d .0) e in
           past-fits n (d .0) _ _ (omega (arith, w .within))
 
 -- ---- the band
@@ -215,7 +217,7 @@ band-fits n x degree confidence tolerance xs ys sums scratch places =
     into-fits places _
     (out-settles (bandRefusal n x degree confidence tolerance samples (length xs ∷ length ys ∷ []) (length sums) (length scratch)) _
     (omega (arith, among _ (band-numbers n x degree confidence tolerance samples (length xs ∷ length ys ∷ []) (length sums) (length scratch))))
-    (band-settles (measureRefusal (take 272 sums) (rowsOf samples) (degree + 1)) _ (measure-most _ _ _)))
+    (band-settles (measureRefusal (take 272 sums) (rowsOf samples) (countOf Curve degree)) _ (measure-most _ _ _)))
 
 -- ---- the report
 
@@ -235,23 +237,23 @@ module _ (n : ℕ) (settings : Settings) (samples : List Sample) (sums : List Fl
   written-fits : (degree solved : ℕ) (c v : List Float) → degree ≤ 15 → solved ≤ 16 → ReportFits (writtenBy n settings samples degree solved c v .answer)
   unfolding ReportFits writtenBy
   written-fits degree solved c v h k =
-      (h, k, outliers-most (degree + 1) c v (settings .tolerance) _ _ samples few, pruned-most (degree + 1) c _ _)
+      (h, k, outliers-most (countOf Curve degree) c v (settings .tolerance) _ _ samples few, pruned-most (countOf Curve degree) c _ _)
 
   choice-solved : reportChoice n settings samples sums .solved ≤ 16
   unfolding reportChoice choiceOf
   choice-solved =
-      let counts = curveCounts (maxDegree (settings .bound) n) in
-      omega (arith, solved-most (tried (settings .criterion) sums (rowsOf samples) counts) (length counts), length-table (λ (d : ℕ). d + 1) (maxDegree (settings .bound) n + 1))
+      let counts = countsOf Curve (maxDegree (settings .bound) n) in
+      omega (arith, solved-most (tried (settings .criterion) sums (rowsOf samples) counts) (length counts), length-table (countOf Curve) (maxDegree (settings .bound) n + 1))
 
   chosen-fits : (o : OptionDegree) → reportChoice n settings samples sums .chosen ≡ o
       → ReportFits (reportOf n settings samples sums (reportChoice n settings samples sums .solved) o .answer)
   unfolding reportOf ReportFits
   chosen-fits None e = (omega arith, omega arith)
-  chosen-fits (Some d) e = go (inverseFails sums (d .0 + 1))
+  chosen-fits (Some d) e = go (inverseFails sums (countOf Curve (d .0)))
     where
       go : (t : Bool)
           → ReportFits
-          (cond t (told 12) (writtenBy n settings samples (d .0) (reportChoice n settings samples sums .solved) (solve sums (d .0 + 1) .c) (covarianceAt sums (rowsOf samples) (d .0 + 1))) .answer)
+          (cond t (told 12) (writtenBy n settings samples (d .0) (reportChoice n settings samples sums .solved) (solve sums (countOf Curve (d .0)) .c) (covarianceAt sums (rowsOf samples) (countOf Curve (d .0)))) .answer)
       go true = (omega arith, omega arith)
       go false = written-fits (d .0) _ _ _ (omega (arith, chosen-solved n settings samples sums d e .0)) choice-solved
 

@@ -12,7 +12,7 @@ use Rattle.monomial.specs.Samples.{Sample}
 use Rattle.score.specs.declared.Criterion.{Criterion}
 use Rattle.book.specs.declared.Answer.{Answer}
 use Rattle.book.specs.declared.Answer.the-variants as books
-use Rattle.book.specs.Calls.{openOut, addOut, correctOut, withdrawOut, addFrameOut}
+use Rattle.book.specs.Calls.{columnsOf, openOut, addOut, correctOut, withdrawOut, addFrameOut}
 use Rattle.query.specs.declared.FitAnswer.{FitAnswer}
 use Rattle.query.specs.declared.FitAnswer.the-variants as fits
 use Rattle.query.specs.declared.BandAnswer.{BandAnswer}
@@ -145,16 +145,16 @@ pub open-back : (sums : List Float) → BookRead (packedBook (openOut sums .answ
 open-back sums = book-read _ (open-fits sums)
 
 module _ (n : ℕ) (xs ys sums : List Float) where
-  pub add-back : (p : Sample) → BookRead (packedBook (addOut n p xs ys sums .answer)) (addOut n p xs ys sums .answer)
+  pub add-back : (p : Sample) → BookRead (packedBook (addOut n p (columnsOf xs ys) sums .answer)) (addOut n p (columnsOf xs ys) sums .answer)
   add-back p = book-read _ (add-fits n xs ys sums p)
 
-  pub correct-back : (i : ℕ) (y : Float) → BookRead (packedBook (correctOut n i y xs ys sums .answer)) (correctOut n i y xs ys sums .answer)
+  pub correct-back : (i : ℕ) (y : Float) → BookRead (packedBook (correctOut n i y (columnsOf xs ys) sums .answer)) (correctOut n i y (columnsOf xs ys) sums .answer)
   correct-back i y = book-read _ (correct-fits n xs ys sums i y)
 
-  pub withdraw-back : (i : ℕ) → BookRead (packedBook (withdrawOut n i xs ys sums .answer)) (withdrawOut n i xs ys sums .answer)
+  pub withdraw-back : (i : ℕ) → BookRead (packedBook (withdrawOut n i (columnsOf xs ys) sums .answer)) (withdrawOut n i (columnsOf xs ys) sums .answer)
   withdraw-back i = book-read _ (withdraw-fits n xs ys sums i)
 
-  pub frame-back : (f : List ℕ) → BookRead (packedBook (addFrameOut n f xs ys sums .answer)) (addFrameOut n f xs ys sums .answer)
+  pub frame-back : (f : List ℕ) → BookRead (packedBook (addFrameOut n f (columnsOf xs ys) sums .answer)) (addFrameOut n f (columnsOf xs ys) sums .answer)
   frame-back f = book-read _ (frame-fits n xs ys sums f)
 
   module _ (scratch coefficients : List Float) where

@@ -11,7 +11,7 @@ ghost use mathlib.Core.Path.{_≡_};
 ghost use mathlib.Core.List.{[]};
 ghost use Prim.Native.Nat.{_≤_};
 ghost use lib.ListN.{length};
-ghost use Rattle.book.specs.Calls.{openOut, addOut, correctOut, withdrawOut, addFrameOut};
+ghost use Rattle.book.specs.Calls.{columnsOf, openOut, addOut, correctOut, withdrawOut, addFrameOut};
 ghost use Rattle.measure.specs.Written.{over};
 ghost use Rattle.query.specs.Fits.{fitOut, validateOut};
 ghost use Rattle.query.specs.Bands.{bandOut};
@@ -78,7 +78,7 @@ pub extern "C" fn stakebook_add(
     ys: &mut [f64],
     sums: &mut [f64],
 ) -> u64
-    ensures { λ r. ⌜ BookPacked (addOut count (record { x = x; y = y }) (now (xs .entry)) (now (ys .entry)) (now (sums .entry))) r (now (xs .exit)) (now (ys .exit)) (now (sums .exit)) ⌝ }
+    ensures { λ r. ⌜ BookPacked (addOut count (record { x = x; y = y }) (columnsOf (now (xs .entry)) (now (ys .entry))) (now (sums .entry))) r (now (xs .exit)) (now (ys .exit)) (now (sums .exit)) ⌝ }
 {
     packed::book(book::add(Book { count }, x, y, xs, ys, sums))
 }
@@ -93,7 +93,7 @@ pub extern "C" fn stakebook_correct(
     ys: &mut [f64],
     sums: &mut [f64],
 ) -> u64
-    ensures { λ r. ⌜ BookPacked (correctOut count i y (now (xs .entry)) (now (ys .entry)) (now (sums .entry))) r (now (xs .entry)) (now (ys .exit)) (now (sums .exit)) ⌝ }
+    ensures { λ r. ⌜ BookPacked (correctOut count i y (columnsOf (now (xs .entry)) (now (ys .entry))) (now (sums .entry))) r (now (xs .entry)) (now (ys .exit)) (now (sums .exit)) ⌝ }
 {
     packed::book(book::correct(Book { count }, i, y, xs, ys, sums))
 }
@@ -107,7 +107,7 @@ pub extern "C" fn stakebook_withdraw(
     ys: &mut [f64],
     sums: &mut [f64],
 ) -> u64
-    ensures { λ r. ⌜ BookPacked (withdrawOut count i (now (xs .entry)) (now (ys .entry)) (now (sums .entry))) r (now (xs .exit)) (now (ys .exit)) (now (sums .exit)) ⌝ }
+    ensures { λ r. ⌜ BookPacked (withdrawOut count i (columnsOf (now (xs .entry)) (now (ys .entry))) (now (sums .entry))) r (now (xs .exit)) (now (ys .exit)) (now (sums .exit)) ⌝ }
 {
     packed::book(book::withdraw(Book { count }, i, xs, ys, sums))
 }
@@ -121,7 +121,7 @@ pub extern "C" fn stakebook_add_frame(
     ys: &mut [f64],
     sums: &mut [f64],
 ) -> u64
-    ensures { λ r. ⌜ BookPacked (addFrameOut count (now (frame .entry)) (now (xs .entry)) (now (ys .entry)) (now (sums .entry))) r (now (xs .exit)) (now (ys .exit)) (now (sums .exit)) ⌝ }
+    ensures { λ r. ⌜ BookPacked (addFrameOut count (now (frame .entry)) (columnsOf (now (xs .entry)) (now (ys .entry))) (now (sums .entry))) r (now (xs .exit)) (now (ys .exit)) (now (sums .exit)) ⌝ }
 {
     packed::book(book::add_frame(Book { count }, frame, xs, ys, sums))
 }

@@ -27,7 +27,9 @@ use Rattle.score.specs.Score.{likelihoodOf, aicOf}
 use Rattle.score.specs.declared.Criterion.the-variants.{Aic}
 use Rattle.choice.specs.Choice.{degree, yields, leastOf, near, chosenOf, chosen-same}
 use Rattle.choice.specs.declared.Scored.{Scored}
-use Rattle.fit.specs.Chosen.{curveCounts, tried, choiceOf}
+use Rattle.basis.specs.Counts.{countOf}
+use Rattle.basis.specs.declared.Basis.the-variants.{Curve}
+use Rattle.fit.specs.Chosen.{countsOf, tried, choiceOf}
 use Rattle.fit.specs.Solved.{isSolved, scoredBy}
 use Rattle.cases.specs.Solutions.{line, twice, line-degree-1, line-score-0, line-score-1, twice-score-0, twice-score-1}
 
@@ -58,12 +60,12 @@ pub record Cases : Type 0 where
   pub t10 : take 2 (solve (sumsOf (rowsOf line)) 2 .c) ≡ num 1 ∷ num 2 ∷ []
   pub t10-solved : isSolved (sumsOf (rowsOf line)) (rowsOf line) 2 ≡ true
   -- the same by AIC, Custom 1, choose degree 0,
-  pub t11 : choiceOf Aic (sumsOf (rowsOf line)) (rowsOf line) (curveCounts (maxDegree (Custom (degree 1)) 3)) .chosen ≡ Some (degree 0)
+  pub t11 : choiceOf Aic (sumsOf (rowsOf line)) (rowsOf line) (countsOf Curve (maxDegree (Custom (degree 1)) 3)) .chosen ≡ Some (degree 0)
   -- whose score is exactly 2 above
   pub t11-above : sub binary64 (scoredBy Aic (sumsOf (rowsOf line)) (rowsOf line) (rowsOf line) 1 .score) (scoredBy Aic (sumsOf (rowsOf line)) (rowsOf line) (rowsOf line) 2 .score) ≡ twoF
   -- (2,1),(2,5), T11's settings: degree 1 unsolved, choice 0
   pub t12-unsolved : isSolved (sumsOf (rowsOf twice)) (rowsOf twice) 2 ≡ false
-  pub t12 : choiceOf Aic (sumsOf (rowsOf twice)) (rowsOf twice) (curveCounts (maxDegree (Custom (degree 1)) 2)) .chosen ≡ Some (degree 0)
+  pub t12 : choiceOf Aic (sumsOf (rowsOf twice)) (rowsOf twice) (countsOf Curve (maxDegree (Custom (degree 1)) 2)) .chosen ≡ Some (degree 0)
 
 -- ---- the parts
 
@@ -96,7 +98,7 @@ solved-is rows k t v e = ap (λ (s : Scored). s .solved) e
 -- ---- the theorem
 
 pub cases : Cases
-unfolding maxDegree root rootUpTo tScore tableScore entryAt cell milli zScore zAt thousandths zThousandths medianOf sort insert midpoint choiceOf tried table ofInt ofBits round size span climb odd units sum add div lt le eq trailingZeros
+unfolding maxDegree root rootUpTo tScore tableScore entryAt cell milli zScore zAt thousandths zThousandths medianOf sort insert midpoint choiceOf tried table ofInt ofBits round size span climb odd units sum add div lt le eq trailingZeros countOf
 cases =
     record {
       t1 = refl;

@@ -1,15 +1,14 @@
 // Covariance, errors, confidence bands, outliers and pruning: polyfit's `CurveFitCovariance`, `confidence_band`, `outliers` and
 // `prune_insignificant`.
+use basis::Basis;
 use basis::CoefficientCount;
 use statistics::Tolerance;
 ghost use mathlib.Core.Path.{_≡_};
 ghost use mathlib.Core.List.{_++_};
 ghost use Prim.Native.Nat.{_≤_, _<_};
 ghost use lib.ListN.{length, drop};
-ghost use Rattle.loops.specs.Places.{table};
-ghost use Rattle.value.specs.Power.{powerF};
-ghost use Rattle.monomial.specs.Samples.{samplesOf};
-ghost use Rattle.monomial.specs.Rows.{rowsOf};
+ghost use Rattle.monomial.specs.Terms.{termsAt};
+ghost use Rattle.monomial.specs.Rows.{rowsAt};
 ghost use Rattle.covariance.specs.Covariance.{covarianceOf, errorsOf, columnOf, predictionVariance};
 ghost use Rattle.covariance.specs.Marks.{mark as markF, ones};
 ghost use Rattle.covariance.specs.Bands.{widened, widthOf, bandOf, bandAt, outlies as outliesF, lowersOf, uppersOf, outliersOf};
@@ -107,23 +106,25 @@ pub fn confidence_band(tolerance: Tolerance, z: f64, sd: f64, value: f64, varian
     }
 }
 
-// The band at x.
+// The band at x and z, `score` the z score.
 pub fn band_at(
+    basis: Basis,
     k: CoefficientCount,
     c: &[f64; 16],
     covariance: &[f64; 256],
     tolerance: Tolerance,
-    z: f64,
+    score: f64,
     sd: f64,
     x: f64,
+    z: f64,
 ) -> Band
     requires { ⌜ k .0 ≤ 16 ⌝ }
-    ensures { λ r. ⌜ r ≡ bandAt (k .0) (now (c .entry)) (now (covariance .entry)) tolerance z sd (table (powerF x) 16) ⌝ }
+    ensures { λ r. ⌜ r ≡ bandAt (k .0) (now (c .entry)) (now (covariance .entry)) tolerance score sd (termsAt basis x z) ⌝ }
 {
-    let terms = value::powers(x);
+    let terms = monomial::terms_at(basis, x, z);
     let value = monomial::fitted(k, c, &terms);
     let variance = prediction_variance(k, &terms, covariance);
-    confidence_band(tolerance, z, sd, value, variance)
+    confidence_band(tolerance, score, sd, value, variance)
 }
 
 // Whether y is below the band or above it.
@@ -182,6 +183,7 @@ pub fn put_pruned(
 
 // The first n places become lower, upper and the outlier byte of each sample. Answers how many are outliers.
 pub fn put_bands(
+    basis: Basis,
     k: CoefficientCount,
     c: &[f64; 16],
     covariance: &[f64; 256],
@@ -189,21 +191,22 @@ pub fn put_bands(
     z: f64,
     sd: f64,
     xs: &[f64],
+    zs: &[f64],
     ys: &[f64],
     n: usize,
     lower: &mut [f64],
     upper: &mut [f64],
     outlier: &mut [u8],
 ) -> usize
-    requires { ⌜ (k .0 ≤ 16) × (n ≤ length (now xs)) × (n ≤ length (now ys)) × (n ≤ length (now lower)) × (n ≤ length (now upper)) × (n ≤ length (now outlier)) ⌝ }
-    ensures counted { λ r. ⌜ r ≡ ones (outliersOf (k .0) (now (c .entry)) (now (covariance .entry)) tolerance z sd (rowsOf (samplesOf n (now (xs .entry)) (now (ys .entry))))) ⌝ }
-    ensures lowers { λ _. ⌜ now (lower .exit) ≡ lowersOf (k .0) (now (c .entry)) (now (covariance .entry)) tolerance z sd (rowsOf (samplesOf n (now (xs .entry)) (now (ys .entry)))) ++ drop n (now (lower .entry)) ⌝ }
-    ensures uppers { λ _. ⌜ now (upper .exit) ≡ uppersOf (k .0) (now (c .entry)) (now (covariance .entry)) tolerance z sd (rowsOf (samplesOf n (now (xs .entry)) (now (ys .entry)))) ++ drop n (now (upper .entry)) ⌝ }
-    ensures bytes { λ _. ⌜ now (outlier .exit) ≡ outliersOf (k .0) (now (c .entry)) (now (covariance .entry)) tolerance z sd (rowsOf (samplesOf n (now (xs .entry)) (now (ys .entry)))) ++ drop n (now (outlier .entry)) ⌝ }
+    requires { ⌜ (k .0 ≤ 16) × (n ≤ length (now xs)) × (n ≤ length (now zs)) × (n ≤ length (now ys)) × (n ≤ length (now lower)) × (n ≤ length (now upper)) × (n ≤ length (now outlier)) ⌝ }
+    ensures counted { λ r. ⌜ r ≡ ones (outliersOf (k .0) (now (c .entry)) (now (covariance .entry)) tolerance z sd (rowsAt basis n (now (xs .entry)) (now (zs .entry)) (now (ys .entry)))) ⌝ }
+    ensures lowers { λ _. ⌜ now (lower .exit) ≡ lowersOf (k .0) (now (c .entry)) (now (covariance .entry)) tolerance z sd (rowsAt basis n (now (xs .entry)) (now (zs .entry)) (now (ys .entry))) ++ drop n (now (lower .entry)) ⌝ }
+    ensures uppers { λ _. ⌜ now (upper .exit) ≡ uppersOf (k .0) (now (c .entry)) (now (covariance .entry)) tolerance z sd (rowsAt basis n (now (xs .entry)) (now (zs .entry)) (now (ys .entry))) ++ drop n (now (upper .entry)) ⌝ }
+    ensures bytes { λ _. ⌜ now (outlier .exit) ≡ outliersOf (k .0) (now (c .entry)) (now (covariance .entry)) tolerance z sd (rowsAt basis n (now (xs .entry)) (now (zs .entry)) (now (ys .entry))) ++ drop n (now (outlier .entry)) ⌝ }
 {
     let mut count: usize = 0;
     for i in 0..n {
-        let band = band_at(k, c, covariance, tolerance, z, sd, xs[i]);
+        let band = band_at(basis, k, c, covariance, tolerance, z, sd, xs[i], zs[i]);
         let b = mark(outlies(band, ys[i]));
         lower[i] = band.lower;
         upper[i] = band.upper;

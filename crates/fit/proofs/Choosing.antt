@@ -10,11 +10,13 @@ use Rattle.loops.specs.Fold.{fold}
 use Rattle.loops.specs.Places.{each, table, table-at, length-table, map-table}
 use Rattle.value.specs.Numbers.{zeroF}
 use Rattle.basis.specs.declared.OptionDegree.{OptionDegree}
+use Rattle.basis.specs.Counts.{countOf}
+use Rattle.basis.specs.declared.Basis.{Basis}
 use Rattle.monomial.specs.Rows.{Row}
 use Rattle.score.specs.declared.Criterion.{Criterion}
 use Rattle.choice.specs.Choice.{chosenOf, solvedCount, scoredAt, chosen-same, count-same}
 use Rattle.choice.specs.declared.Scored.{Scored}
-use Rattle.fit.specs.Chosen.{curveCounts, tried, testsOf, choiceOf, scores-at}
+use Rattle.fit.specs.Chosen.{countsOf, tried, testsOf, choiceOf, scores-at}
 use Rattle.fit.specs.Solved.{scoredBy, pivotTests}
 
 -- no more pivots are tested than there are
@@ -22,25 +24,25 @@ pub tests-at-most : (sums : List Float) (k : ℕ) → pivotTests sums k ≤ k
 unfolding pivotTests
 tests-at-most sums k = omega arith
 
-module _ (criterion : Criterion) (sums : List Float) (rows : List Row) where
-  -- degree e has e + 1 coefficients
+module _ (basis : Basis) (criterion : Criterion) (sums : List Float) (rows : List Row) where
+  -- what is known of degree e
   abbrev pub known : ℕ → Scored
-  known e = scoredBy criterion sums rows rows (e + 1)
+  known e = scoredBy criterion sums rows rows (countOf basis e)
 
-  tried-known : (bound d : ℕ) → d < bound + 1 → tried criterion sums rows (curveCounts bound) d ≡ known d
+  tried-known : (bound d : ℕ) → d < bound + 1 → tried criterion sums rows (countsOf basis bound) d ≡ known d
   unfolding tried
-  tried-known bound d h = ap (scoredBy criterion sums rows rows) (table-at (λ e. e + 1) (bound + 1) d 0 h)
+  tried-known bound d h = ap (scoredBy criterion sums rows rows) (table-at (countOf basis) (bound + 1) d 0 h)
 
   pub choice-is : (bound : ℕ) (u : List Bool) (v : List Float) → bound + 1 ≤ 16
       → u ≡ each (λ e _. known e .solved) (bound + 1) (replicate 16 false) → v ≡ each (λ e _. known e .score) (bound + 1) (replicate 16 zeroF)
       → (p : OptionDegree) (m t : ℕ) → p ≡ chosenOf (scoredAt u v) (bound + 1) → m ≡ solvedCount (scoredAt u v) (bound + 1)
-      → t ≡ fold _+_ 0 (table (λ e. pivotTests sums (e + 1)) (bound + 1)) → record { chosen = p; solved = m; tests = t } ≡ choiceOf criterion sums rows (curveCounts bound)
+      → t ≡ fold _+_ 0 (table (λ e. pivotTests sums (countOf basis e)) (bound + 1)) → record { chosen = p; solved = m; tests = t } ≡ choiceOf criterion sums rows (countsOf basis bound)
   unfolding choiceOf testsOf
   choice-is bound u v l eu ev p m t ep em et =
-      rw (length-table (λ d. d + 1) (bound + 1), ep, em, et, chosen-same (scoredAt u v) S (bound + 1) same, count-same (scoredAt u v) S (bound + 1) same, ← (map-table (pivotTests sums) (λ d. d + 1) (bound + 1)))
+      rw (length-table (countOf basis) (bound + 1), ep, em, et, chosen-same (scoredAt u v) S (bound + 1) same, count-same (scoredAt u v) S (bound + 1) same, ← (map-table (pivotTests sums) (countOf basis) (bound + 1)))
     where
       S : ℕ → Scored
-      S = tried criterion sums rows (curveCounts bound)
+      S = tried criterion sums rows (countsOf basis bound)
 
       same : (d : ℕ) → d < bound + 1 → scoredAt u v d ≡ S d
       same d h = scores-at known (bound + 1) u v l eu ev d h ∙ sym (tried-known bound d h)

@@ -9,6 +9,8 @@ use lib.Ieee.{Float, nan}
 use Rattle.loops.specs.Fold.{fold}
 use Rattle.loops.specs.Places.{each, each-at, table}
 use Rattle.value.specs.Numbers.{zeroF}
+use Rattle.basis.specs.Counts.{countOf}
+use Rattle.basis.specs.declared.Basis.{Basis}
 use Rattle.monomial.specs.Rows.{Row}
 use Rattle.score.specs.declared.Criterion.{Criterion}
 use Rattle.choice.specs.Choice.{chosenOf, solvedCount, scoredAt}
@@ -16,9 +18,9 @@ use Rattle.choice.specs.declared.Scored.{Scored}
 use Rattle.fit.specs.declared.Choice.{Choice}
 use Rattle.fit.specs.Solved.{scoredBy, pivotTests}
 
--- the coefficient counts of the degrees 0 to the bound: k is degree + 1
-abbrev pub curveCounts : ℕ → List ℕ
-curveCounts bound = table (λ d. d + 1) (bound + 1)
+-- the coefficient counts of the degrees 0 to the last one to try
+abbrev pub countsOf : Basis → ℕ → List ℕ
+countsOf basis last = table (countOf basis) (last + 1)
 
 -- what is known of degree d, the d-th count to try
 unfoldable pub tried : Criterion → List Float → List Row → List ℕ → ℕ → Scored

@@ -8,8 +8,8 @@ use lib.Ieee.{Float, binary64, sub}
 use Rattle.loops.specs.Fold.{allOf, fold-map}
 use Rattle.loops.specs.Places.{each}
 use Rattle.value.specs.Absolute.{absF}
-use Rattle.monomial.specs.Samples.{Sample, sampleAt, samplesOf, each-samples}
-use Rattle.monomial.specs.Rows.{Row, rowOf, rowsOf, fitted}
+use Rattle.basis.specs.declared.Basis.{Basis}
+use Rattle.monomial.specs.Rows.{Row, rowAt, rowsAt, fitted, each-rows-at}
 
 -- y − fitted value, by k coefficients
 unfoldable pub residual : ℕ → List Float → Row → Float
@@ -20,16 +20,15 @@ residuals k c rows = map (residual k c) rows
 
 -- ---- laws
 
--- n places are written: the sizes of the residuals of n samples
-pub sizes-written : (k : ℕ) (c : List Float) (n : ℕ) (xs ys s : List Float) → n ≤ length s
-    → each (λ t _. absF (residual k c (rowOf (sampleAt xs ys t)))) n s ≡ map absF (residuals k c (rowsOf (samplesOf n xs ys))) ++ drop n s
+-- n places are written: the sizes of the residuals of n rows
+pub sizes-written : (k : ℕ) (c : List Float) (basis : Basis) (n : ℕ) (xs zs ys s : List Float) → n ≤ length s
+    → each (λ t _. absF (residual k c (rowAt basis xs zs ys t))) n s ≡ map absF (residuals k c (rowsAt basis n xs zs ys)) ++ drop n s
 unfolding residuals
-sizes-written k c n xs ys s h =
-    each-samples (λ p. absF (residual k c (rowOf p))) n xs ys s h
-    ∙ ap (λ l. l ++ drop n s) (sym (ap (map absF) (map-map (residual k c) rowOf (samplesOf n xs ys)) ∙ map-map absF (λ p. residual k c (rowOf p)) (samplesOf n xs ys)))
+sizes-written k c basis n xs zs ys s h =
+    each-rows-at basis xs zs ys (λ r. absF (residual k c r)) n s h
+    ∙ ap (λ l. l ++ drop n s) (sym (map-map absF (residual k c) (rowsAt basis n xs zs ys)))
 
--- a test of every residual of samples
-pub every-residual : (f : Float → Bool) (k : ℕ) (c : List Float) (ps : List Sample) → allOf (λ p. f (residual k c (rowOf p))) ps ≡ allOf f (residuals k c (rowsOf ps))
+-- a test of every residual
+pub every-residual : (f : Float → Bool) (k : ℕ) (c : List Float) (rows : List Row) → allOf (λ r. f (residual k c r)) rows ≡ allOf f (residuals k c rows)
 unfolding residuals
-every-residual f k c ps =
-    sym (ap (allOf f) (map-map (residual k c) rowOf ps) ∙ fold-map (λ b a. b && f a) (λ p. residual k c (rowOf p)) true ps)
+every-residual f k c rows = sym (fold-map (λ b a. b && f a) (residual k c) true rows)

@@ -1,4 +1,5 @@
 // Residuals, the attempt at a degree, and the choice of one.
+use basis::Basis;
 use basis::CoefficientCount;
 use basis::Degree;
 use basis::OptionDegree;
@@ -15,38 +16,41 @@ ghost use Rattle.value.specs.Finite.{finite};
 ghost use Rattle.value.specs.Total.{totalF};
 ghost use Rattle.statistics.specs.Losses.{losses};
 ghost use Rattle.statistics.specs.Medians.{Size};
-ghost use Rattle.monomial.specs.Samples.{samplesOf};
-ghost use Rattle.monomial.specs.Rows.{rowOf, rowsOf};
+ghost use Rattle.basis.specs.Counts.{countOf};
+ghost use Rattle.monomial.specs.Terms.{termsAt};
+ghost use Rattle.monomial.specs.Rows.{rowsAt};
 ghost use Rattle.score.specs.Score.{scoreOf};
 ghost use Rattle.fit.specs.Residuals.{residual as residualF, residuals};
 ghost use Rattle.fit.specs.Solved.{scoredBy, pivotTests};
-ghost use Rattle.fit.specs.Chosen.{curveCounts, choiceOf};
+ghost use Rattle.fit.specs.Chosen.{countsOf, choiceOf};
 ghost use Rattle.fit.specs.Promises.{Attempted};
 
-// y less the fitted value of x.
-fn residual(k: CoefficientCount, c: &[f64; 16], x: f64, y: f64) -> f64
+// y less the fitted value at x and z.
+fn residual(basis: Basis, k: CoefficientCount, c: &[f64; 16], x: f64, z: f64, y: f64) -> f64
     requires { ⌜ k .0 ≤ 16 ⌝ }
-    ensures { λ r. ⌜ r ≡ residualF (k .0) (now (c .entry)) (rowOf (record { x = x; y = y })) ⌝ }
+    ensures { λ r. ⌜ r ≡ residualF (k .0) (now (c .entry)) (record { terms = termsAt basis x z; y = y }) ⌝ }
 {
-    y - monomial::fitted_at(k, c, x)
+    y - monomial::fitted_at(basis, k, c, x, z)
 }
 
 // The first n places of scratch become the sizes of the residuals. Answers whether every residual is finite.
 pub fn sizes(
+    basis: Basis,
     xs: &[f64],
+    zs: &[f64],
     ys: &[f64],
     n: usize,
     k: CoefficientCount,
     c: &[f64; 16],
     scratch: &mut [f64],
 ) -> bool
-    requires { ⌜ (n ≤ length (now xs)) × (n ≤ length (now ys)) × (n ≤ length (now scratch)) × (k .0 ≤ 16) ⌝ }
-    ensures is { λ r. ⌜ r ≡ allOf finite (residuals (k .0) (now (c .entry)) (rowsOf (samplesOf n (now (xs .entry)) (now (ys .entry))))) ⌝ }
-    ensures written { λ _. ⌜ now (scratch .exit) ≡ map absF (residuals (k .0) (now (c .entry)) (rowsOf (samplesOf n (now (xs .entry)) (now (ys .entry))))) ++ drop n (now (scratch .entry)) ⌝ }
+    requires { ⌜ (n ≤ length (now xs)) × (n ≤ length (now zs)) × (n ≤ length (now ys)) × (n ≤ length (now scratch)) × (k .0 ≤ 16) ⌝ }
+    ensures is { λ r. ⌜ r ≡ allOf finite (residuals (k .0) (now (c .entry)) (rowsAt basis n (now (xs .entry)) (now (zs .entry)) (now (ys .entry)))) ⌝ }
+    ensures written { λ _. ⌜ now (scratch .exit) ≡ map absF (residuals (k .0) (now (c .entry)) (rowsAt basis n (now (xs .entry)) (now (zs .entry)) (now (ys .entry)))) ++ drop n (now (scratch .entry)) ⌝ }
 {
     let mut all = true;
     for i in 0..n {
-        let r = residual(k, c, xs[i], ys[i]);
+        let r = residual(basis, k, c, xs[i], zs[i], ys[i]);
         all = all & value::is_finite(r);
         scratch[i] = value::abs(r);
     }
@@ -62,15 +66,17 @@ pub struct Solution {
 
 // Solves k coefficients from the sums. Where it is solved, the first n places of scratch hold the sizes of the residuals.
 pub fn attempt(
+    basis: Basis,
     xs: &[f64],
+    zs: &[f64],
     ys: &[f64],
     n: usize,
     sums: &[f64],
     k: CoefficientCount,
     scratch: &mut [f64],
 ) -> Solution
-    requires { ⌜ (n ≤ length (now xs)) × (n ≤ length (now ys)) × (n ≤ length (now scratch)) × (272 ≤ length (now sums)) × (k .0 ≤ 16) ⌝ }
-    ensures { λ r. ⌜ Attempted (now (sums .entry)) (rowsOf (samplesOf n (now (xs .entry)) (now (ys .entry)))) (k .0) n (now (scratch .entry)) (now (scratch .exit)) r ⌝ }
+    requires { ⌜ (n ≤ length (now xs)) × (n ≤ length (now zs)) × (n ≤ length (now ys)) × (n ≤ length (now scratch)) × (272 ≤ length (now sums)) × (k .0 ≤ 16) ⌝ }
+    ensures { λ r. ⌜ Attempted (now (sums .entry)) (rowsAt basis n (now (xs .entry)) (now (zs .entry)) (now (ys .entry))) (k .0) n (now (scratch .entry)) (now (scratch .exit)) r ⌝ }
 {
     let s = solve::solve(sums, k);
     let c = s.c;
@@ -81,7 +87,7 @@ pub fn attempt(
             c,
         };
     }
-    let all = sizes(xs, ys, n, k, &c, &mut *scratch);
+    let all = sizes(basis, xs, zs, ys, n, k, &c, &mut *scratch);
     Solution {
         solved: all,
         tests: k.0,
@@ -107,7 +113,9 @@ pub struct Tried {
 
 // Solves k coefficients and scores them on the same n samples.
 pub fn trial(
+    basis: Basis,
     xs: &[f64],
+    zs: &[f64],
     ys: &[f64],
     n: usize,
     sums: &[f64],
@@ -115,12 +123,12 @@ pub fn trial(
     criterion: Criterion,
     scratch: &mut [f64],
 ) -> Tried
-    requires { ⌜ (n ≤ length (now xs)) × (n ≤ length (now ys)) × (n ≤ length (now scratch)) × (272 ≤ length (now sums)) × (k .0 ≤ 16) ⌝ }
-    ensures scored { λ r. ⌜ record { solved = r .solved; score = r .score } ≡ scoredBy criterion (now (sums .entry)) (rowsOf (samplesOf n (now (xs .entry)) (now (ys .entry)))) (rowsOf (samplesOf n (now (xs .entry)) (now (ys .entry)))) (k .0) ⌝ }
+    requires { ⌜ (n ≤ length (now xs)) × (n ≤ length (now zs)) × (n ≤ length (now ys)) × (n ≤ length (now scratch)) × (272 ≤ length (now sums)) × (k .0 ≤ 16) ⌝ }
+    ensures scored { λ r. ⌜ record { solved = r .solved; score = r .score } ≡ scoredBy criterion (now (sums .entry)) (rowsAt basis n (now (xs .entry)) (now (zs .entry)) (now (ys .entry))) (rowsAt basis n (now (xs .entry)) (now (zs .entry)) (now (ys .entry))) (k .0) ⌝ }
     ensures tests { λ r. ⌜ r .tests ≡ pivotTests (now (sums .entry)) (k .0) ⌝ }
     ensures within { λ _. ⌜ Within n (now (scratch .entry)) (now (scratch .exit)) ⌝ }
 {
-    let a = attempt(xs, ys, n, sums, k, &mut *scratch);
+    let a = attempt(basis, xs, zs, ys, n, sums, k, &mut *scratch);
     if !a.solved {
         return Tried {
             solved: false,
@@ -145,7 +153,9 @@ pub struct Choice {
 
 // The choice among the degrees 0 to the bound. Only scores are kept; `attempt` solves the chosen degree again.
 pub fn choose(
+    basis: Basis,
     xs: &[f64],
+    zs: &[f64],
     ys: &[f64],
     n: usize,
     sums: &[f64],
@@ -153,8 +163,8 @@ pub fn choose(
     criterion: Criterion,
     scratch: &mut [f64],
 ) -> Choice
-    requires { ⌜ (n ≤ length (now xs)) × (n ≤ length (now ys)) × (n ≤ length (now scratch)) × (272 ≤ length (now sums)) × (bound .0 ≤ 15) ⌝ }
-    ensures is { λ r. ⌜ r ≡ choiceOf criterion (now (sums .entry)) (rowsOf (samplesOf n (now (xs .entry)) (now (ys .entry)))) (curveCounts (bound .0)) ⌝ }
+    requires { ⌜ (n ≤ length (now xs)) × (n ≤ length (now zs)) × (n ≤ length (now ys)) × (n ≤ length (now scratch)) × (272 ≤ length (now sums)) × (bound .0 ≤ 15) × (countOf basis (bound .0) ≤ 16) ⌝ }
+    ensures is { λ r. ⌜ r ≡ choiceOf criterion (now (sums .entry)) (rowsAt basis n (now (xs .entry)) (now (zs .entry)) (now (ys .entry))) (countsOf basis (bound .0)) ⌝ }
     ensures within { λ _. ⌜ Within n (now (scratch .entry)) (now (scratch .exit)) ⌝ }
 {
     let b = bound.0 + 1;
@@ -162,15 +172,8 @@ pub fn choose(
     let mut score = [0.0; 16];
     let mut tests = 0;
     for d in 0..b {
-        let t = trial(
-            xs,
-            ys,
-            n,
-            sums,
-            CoefficientCount(d + 1),
-            criterion,
-            &mut *scratch,
-        );
+        let k = Degree(d).k(basis);
+        let t = trial(basis, xs, zs, ys, n, sums, k, criterion, &mut *scratch);
         solved[d] = t.solved;
         score[d] = t.score;
         tests = tests + t.tests;

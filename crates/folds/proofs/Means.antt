@@ -4,6 +4,8 @@ use mathlib.Core.List.{List}
 use Prim.Native.Nat.{ℕ, _+_}
 use lib.ListN.{getD}
 use lib.Ieee.{Float, nan}
+use Rattle.basis.specs.Counts.{countOf}
+use Rattle.basis.specs.declared.Basis.the-variants.{Curve}
 use Rattle.basis.specs.declared.OptionDegree.{OptionDegree}
 use Rattle.monomial.specs.Rows.{Row}
 use Rattle.score.specs.declared.Criterion.{Criterion}
@@ -16,4 +18,4 @@ pub validated-is : (criterion : Criterion) (rows : List Row) (folds bound : ℕ)
     → r ≡ validatedChoice criterion rows folds bound
 unfolding validatedChoice validated solvedScores
 validated-is criterion rows folds bound u v r t e =
-    e ∙ chosen-same (λ d. meanOf (getD u d nan) (getD v d 0)) (λ d. validated criterion rows folds (d + 1)) (bound + 1) (λ d h. ap₂ meanOf (t .total d h) (t .count d h))
+    e ∙ chosen-same (λ d. meanOf (getD u d nan) (getD v d 0)) (λ d. validated criterion rows folds (countOf Curve d)) (bound + 1) (λ d h. ap₂ meanOf (t .total d h) (t .count d h))

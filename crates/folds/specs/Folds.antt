@@ -15,6 +15,8 @@ use Rattle.loops.specs.Fold.{fold, fold-table}
 use Rattle.loops.specs.Places.{table}
 use Rattle.value.specs.Numbers.{zeroF, num}
 use Rattle.value.specs.Total.{totalF}
+use Rattle.basis.specs.Counts.{countOf}
+use Rattle.basis.specs.declared.Basis.the-variants.{Curve}
 use Rattle.basis.specs.declared.OptionDegree.{OptionDegree}
 use Rattle.monomial.specs.Rows.{Row}
 use Rattle.monomial.specs.Sums.{sumsOf}
@@ -48,7 +50,7 @@ foldScored criterion rows folds k f =
 
 -- what fold f says of degree d
 abbrev pub degreeScored : Criterion → List Row → ℕ → ℕ → ℕ → Scored
-degreeScored criterion rows folds d f = foldScored criterion rows folds (d + 1) f
+degreeScored criterion rows folds d f = foldScored criterion rows folds (countOf Curve d) f
 
 -- the scores of those that are solved; an unsolved one is skipped
 unfoldable pub solvedOf : List Scored → List Float
@@ -69,7 +71,7 @@ validated criterion rows folds k = let l = solvedScores criterion rows folds k i
 
 -- the chosen degree among 0 to the bound, or none: the least and the choice are those of a report
 unfoldable pub validatedChoice : Criterion → List Row → ℕ → ℕ → OptionDegree
-validatedChoice criterion rows folds bound = chosenOf (λ d. validated criterion rows folds (d + 1)) (bound + 1)
+validatedChoice criterion rows folds bound = chosenOf (λ d. validated criterion rows folds (countOf Curve d)) (bound + 1)
 
 -- ---- laws
 

@@ -1,5 +1,5 @@
 // k-fold cross-validation: polyfit's `new_kfold_cross_validated`.
-use basis::CoefficientCount;
+use basis::Basis;
 use basis::Degree;
 use basis::OptionDegree;
 use choice::Scored;
@@ -9,8 +9,9 @@ ghost use Prim.Native.Nat.{_+_, _≤_, _<_};
 ghost use lib.Ieee.{nan};
 ghost use lib.ListN.{length, getD};
 ghost use Rattle.loops.specs.Within.{Within};
-ghost use Rattle.monomial.specs.Samples.{samplesOf};
-ghost use Rattle.monomial.specs.Rows.{rowsOf};
+ghost use Rattle.basis.specs.Counts.{countOf};
+ghost use Rattle.basis.specs.declared.Basis.the-variants.{Curve};
+ghost use Rattle.monomial.specs.Rows.{rowsAt};
 ghost use Rattle.monomial.specs.Sums.{sumsOf};
 ghost use Rattle.choice.specs.Choice.{chosenOf};
 ghost use Rattle.fit.specs.Solved.{scoredBy};
@@ -40,7 +41,7 @@ fn end_of(n: usize, folds: usize, f: usize) -> usize
 // The 272 places become the sums over the samples before start and from end on.
 fn fold_others(xs: &[f64], ys: &[f64], n: usize, start: usize, end: usize, sums: &mut [f64])
     requires { ⌜ (n ≤ length (now xs)) × (n ≤ length (now ys)) × (start ≤ end) × (end ≤ n) × (length (now sums) ≡ 272) ⌝ }
-    ensures { λ _. ⌜ now (sums .exit) ≡ sumsOf (othersOf start end (rowsOf (samplesOf n (now (xs .entry)) (now (ys .entry))))) ⌝ }
+    ensures { λ _. ⌜ now (sums .exit) ≡ sumsOf (othersOf start end (rowsAt Curve n (now (xs .entry)) (now (xs .entry)) (now (ys .entry)))) ⌝ }
 {
     monomial::fold_sums(xs, ys, start, &mut *sums);
     for t in end..n {
@@ -48,7 +49,7 @@ fn fold_others(xs: &[f64], ys: &[f64], n: usize, start: usize, end: usize, sums:
     }
 }
 
-// k coefficients solved from the sums, and scored on the samples from start to end.
+// A degree solved from the sums, and scored on the samples from start to end.
 fn score_fold(
     xs: &[f64],
     ys: &[f64],
@@ -56,15 +57,16 @@ fn score_fold(
     start: usize,
     end: usize,
     sums: &[f64],
-    k: CoefficientCount,
+    degree: Degree,
     criterion: Criterion,
     scratch: &mut [f64],
 ) -> Scored
-    requires { ⌜ (n ≤ length (now xs)) × (n ≤ length (now ys)) × (n ≤ length (now scratch)) × (start ≤ end) × (end ≤ n) × (272 ≤ length (now sums)) × (k .0 ≤ 16) ⌝ }
-    ensures scored { λ r. ⌜ r ≡ scoredBy criterion (now (sums .entry)) (rowsOf (samplesOf n (now (xs .entry)) (now (ys .entry)))) (ownOf start end (rowsOf (samplesOf n (now (xs .entry)) (now (ys .entry))))) (k .0) ⌝ }
+    requires { ⌜ (n ≤ length (now xs)) × (n ≤ length (now ys)) × (n ≤ length (now scratch)) × (start ≤ end) × (end ≤ n) × (272 ≤ length (now sums)) × (degree .0 ≤ 15) ⌝ }
+    ensures scored { λ r. ⌜ r ≡ scoredBy criterion (now (sums .entry)) (rowsAt Curve n (now (xs .entry)) (now (xs .entry)) (now (ys .entry))) (ownOf start end (rowsAt Curve n (now (xs .entry)) (now (xs .entry)) (now (ys .entry)))) (countOf Curve (degree .0)) ⌝ }
     ensures within { λ _. ⌜ Within n (now (scratch .entry)) (now (scratch .exit)) ⌝ }
 {
-    let a = fit::attempt(xs, ys, n, sums, k, &mut *scratch);
+    let k = degree.k(Basis::Curve);
+    let a = fit::attempt(Basis::Curve, xs, xs, ys, n, sums, k, &mut *scratch);
     if !a.solved {
         return Scored {
             solved: false,
@@ -114,8 +116,8 @@ fn add_fold(
     counts: &mut [usize],
 )
     requires { ⌜ (n ≤ length (now xs)) × (n ≤ length (now ys)) × (n ≤ length (now scratch)) × (f < folds) × (b ≤ 16) ⌝ }
-    requires { ⌜ Tallied (degreeScored criterion (rowsOf (samplesOf n (now xs) (now ys))) folds) f b (now totals) (now counts) ⌝ }
-    ensures tallied { λ _. ⌜ Tallied (degreeScored criterion (rowsOf (samplesOf n (now (xs .entry)) (now (ys .entry)))) folds) (f + 1) b (now (totals .exit)) (now (counts .exit)) ⌝ }
+    requires { ⌜ Tallied (degreeScored criterion (rowsAt Curve n (now xs) (now xs) (now ys)) folds) f b (now totals) (now counts) ⌝ }
+    ensures tallied { λ _. ⌜ Tallied (degreeScored criterion (rowsAt Curve n (now (xs .entry)) (now (xs .entry)) (now (ys .entry))) folds) (f + 1) b (now (totals .exit)) (now (counts .exit)) ⌝ }
     ensures within { λ _. ⌜ Within n (now (scratch .entry)) (now (scratch .exit)) ⌝ }
 {
     let start = start_of(n, folds, f);
@@ -123,8 +125,17 @@ fn add_fold(
     let mut sums = [0.0; 272];
     fold_others(xs, ys, n, start, end, &mut sums);
     for d in 0..b {
-        let k = CoefficientCount(d + 1);
-        let s = score_fold(xs, ys, n, start, end, &sums, k, criterion, &mut *scratch);
+        let s = score_fold(
+            xs,
+            ys,
+            n,
+            start,
+            end,
+            &sums,
+            Degree(d),
+            criterion,
+            &mut *scratch,
+        );
         totals[d] = plus(s, totals[d]);
         counts[d] = more(s, counts[d]);
     }
@@ -172,7 +183,7 @@ pub fn choose_by_folds(
     scratch: &mut [f64],
 ) -> OptionDegree
     requires { ⌜ (n ≤ length (now xs)) × (n ≤ length (now ys)) × (n ≤ length (now scratch)) × (bound .0 ≤ 15) ⌝ }
-    ensures is { λ r. ⌜ r ≡ validatedChoice criterion (rowsOf (samplesOf n (now (xs .entry)) (now (ys .entry)))) folds (bound .0) ⌝ }
+    ensures is { λ r. ⌜ r ≡ validatedChoice criterion (rowsAt Curve n (now (xs .entry)) (now (xs .entry)) (now (ys .entry))) folds (bound .0) ⌝ }
     ensures within { λ _. ⌜ Within n (now (scratch .entry)) (now (scratch .exit)) ⌝ }
 {
     let b = bound.0 + 1;

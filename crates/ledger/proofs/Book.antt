@@ -2,25 +2,18 @@
 use mathlib.Core.Path.{_≡_, refl, ap, _∙_}
 use mathlib.Core.List.{List, [], _∷_, _++_}
 use lib.ListN.{length}
+use Rattle.runs.specs.Runs.{replies-at}
 use Rattle.monomial.specs.Samples.{Sample}
 use Rattle.report.specs.declared.Settings.{Settings}
 use Rattle.report.specs.declared.Places.{Places}
 use Rattle.report.specs.Refusals.{reportRefusal}
 use Rattle.report.specs.Reports.{reportOn}
-use Rattle.ledger.specs.Ledger.{Call, reads, Reading, Lent, lentOf, ledgerNext, ledgerReply, ledgerEnd, ledgerReplies}
+use Rattle.ledger.specs.Ledger.{reads, Lent, lentOf, ledgerNext, ledgerReply, ledger, ledgerEnd, ledgerReplies}
 use Rattle.ledger.specs.Questions.{reports, readOn}
 use Rattle.ledger.specs.Words.{Words}
 use Rattle.ledger.specs.Whole.{ledgerReport, AnyList}
 use Rattle.ledger.proofs.Whole.{whole-list}
 use Rattle.ledger.proofs.Words.{past-told, words-of}
-
--- the replies to a list of calls: those to the calls before one, the one's, and the later ones'
-replies-at : {R W : Type 0} (readOn : Reading R W) (m : Lent) (l : List Sample) (a : List (Call R)) (c : Call R) (b : List (Call R))
-    → ledgerReplies readOn m l (a ++ (c ∷ b))
-    ≡ ledgerReplies readOn m l a ++ (ledgerReply readOn m (ledgerEnd m l a) c ∷ ledgerReplies readOn m (ledgerNext m (ledgerEnd m l a) c) b)
-unfolding ledgerReplies ledgerEnd
-replies-at readOn m l [] c b = refl
-replies-at readOn m l (d ∷ a) c b = ap (λ r. ledgerReply readOn m l d ∷ r) (replies-at readOn m (ledgerNext m l d) a c b)
 
 -- a report of the ledger that passes refusals 1 to 9
 ledger-words : (m : Lent) (l : List Sample) (settings : Settings) (places : Places)
@@ -39,7 +32,7 @@ whole-book xs ys sums h cs =
           let l = ledgerEnd m [] before in
           record {
             later = ledgerReplies readOn m (ledgerNext m l (reads (reports settings places))) after;
-            stands = w .answered ∙ ap (ledgerReplies readOn m []) e ∙ replies-at readOn m [] before (reads (reports settings places)) after;
+            stands = w .answered ∙ ap (ledgerReplies readOn m []) e ∙ replies-at (ledger readOn m) [] before (reads (reports settings places)) after;
             words = ledger-words m l settings places;
           };
     }

@@ -18,9 +18,6 @@ use Rattle.ledger.specs.Ledger.{newY, seen}
 
 -- ---- a list of samples
 
-pub length-snoc : (l : List Sample) (p : Sample) → length (l ++ (p ∷ [])) ≡ suc (length l)
-length-snoc l p = length-append l (p ∷ []) ∙ add-one (length l)
-
 pub length-new : (l : List Sample) (i : ℕ) (y : Float) → length (newY l i y) ≡ length l
 unfolding newY
 length-new [] i y = refl
@@ -111,35 +108,38 @@ holding (p ∷ l) (u ∷ a) (v ∷ b) e f =
 pub samples-are : (l : List Sample) (n : ℕ) (a b : List Float) → n ≡ length l → take n a ≡ xsOf l → take n b ≡ ysOf l → samplesOf n a b ≡ l
 samples-are l n a b q e f = rw q (holding l a b (rw q at e) (rw q at f))
 
--- ---- the sums, in memory that may have more places
+-- ---- the sums u: those of the ledger l, then the places past the 272, which hold rest
 
--- the first 272 places are the ledger's, the others are left as they were
-module _ (l : List Sample) (t u : List Float) (long : 272 ≤ length t) (is : u ≡ sumsOf (rowsOf l) ++ drop 272 t) where
-  pub sums-length : length u ≡ length t
-  sums-length = ap length is ∙ length-append (sumsOf (rowsOf l)) (drop 272 t) ∙ omega (arith, length-drop 272 t, length-sums (rowsOf l))
-
+module _ (l : List Sample) (rest u : List Float) (is : u ≡ sumsOf (rowsOf l) ++ rest) where
   pub sums-first : take 272 u ≡ sumsOf (rowsOf l)
-  sums-first = ap (take 272) is ∙ take-at (sumsOf (rowsOf l)) (drop 272 t) 272 (length-sums (rowsOf l))
+  sums-first = ap (take 272) is ∙ take-at (sumsOf (rowsOf l)) rest 272 (length-sums (rowsOf l))
 
-  pub sums-rest : drop 272 u ≡ drop 272 t
-  sums-rest = ap (drop 272) is ∙ drop-at (sumsOf (rowsOf l)) (drop 272 t) 272 (length-sums (rowsOf l))
+  pub sums-rest : drop 272 u ≡ rest
+  sums-rest = ap (drop 272) is ∙ drop-at (sumsOf (rowsOf l)) rest 272 (length-sums (rowsOf l))
 
-module _ (l : List Sample) (t : List Float) (long : 272 ≤ length t) (is : take 272 t ≡ sumsOf (rowsOf l)) where
   -- an add adds its products
-  pub sums-add : (p : Sample) → addRow t (rowOf p) ≡ sumsOf (rowsOf (l ++ (p ∷ []))) ++ drop 272 t
+  pub sums-add : (p : Sample) → addRow u (rowOf p) ≡ sumsOf (rowsOf (l ++ (p ∷ []))) ++ rest
   sums-add p =
-      ap (λ u. addRow u (rowOf p)) (sym (take-append-drop 272 t) ∙ ap (λ u. u ++ drop 272 t) is)
-      ∙ add-row-append (sumsOf (rowsOf l)) (drop 272 t) (rowOf p) (length-sums (rowsOf l))
-      ∙ ap (λ u. u ++ drop 272 t) (sym (sums-again (rowsOf l) (rowOf p)) ∙ ap sumsOf (sym (rows-again l p)))
+      ap (λ t. addRow t (rowOf p)) is
+      ∙ add-row-append (sumsOf (rowsOf l)) rest (rowOf p) (length-sums (rowsOf l))
+      ∙ ap (λ t. t ++ rest) (sym (sums-again (rowsOf l) (rowOf p)) ∙ ap sumsOf (sym (rows-again l p)))
 
   -- a correction leaves A and folds g afresh
   pub sums-correct : (i : ℕ) (y : Float)
-      → take 256 t ++ (drop 256 (sumsOf (rowsOf (newY l i y))) ++ drop 272 t) ≡ sumsOf (rowsOf (newY l i y)) ++ drop 272 t
+      → take 256 u ++ (drop 256 (sumsOf (rowsOf (newY l i y))) ++ drop 272 u) ≡ sumsOf (rowsOf (newY l i y)) ++ rest
   sums-correct i y =
       let g = drop 256 (sumsOf (rowsOf (newY l i y))) in
-      sym (append-assoc (take 256 t) g (drop 272 t))
-      ∙ ap (λ u. u ++ g ++ drop 272 t) (sym (take-take 256 272 t (lit≤ tt)) ∙ ap (take 256) is)
-      ∙ ap (λ u. u ++ drop 272 t) (corrected (rowsOf l) (rowsOf (newY l i y)) (terms-same l (newY l i y) (sym (new-x l i y))))
+      ap (λ t. take 256 u ++ (g ++ t)) sums-rest
+      ∙ sym (append-assoc (take 256 u) g rest)
+      ∙ ap (λ t. t ++ g ++ rest) (sym (take-take 256 272 u (lit≤ tt)) ∙ ap (take 256) sums-first)
+      ∙ ap (λ t. t ++ rest) (corrected (rowsOf l) (rowsOf (newY l i y)) (terms-same l (newY l i y) (sym (new-x l i y))))
+
+-- sums of any two lists are of one length
+pub sums-long : (l k : List Sample) (rest : List Float) → length (sumsOf (rowsOf l) ++ rest) ≡ length (sumsOf (rowsOf k) ++ rest)
+sums-long l k rest =
+    length-append (sumsOf (rowsOf l)) rest
+    ∙ ap (λ n. n + length rest) (length-sums (rowsOf l) ∙ sym (length-sums (rowsOf k)))
+    ∙ sym (length-append (sumsOf (rowsOf k)) rest)
 
 -- ---- what a place holds
 

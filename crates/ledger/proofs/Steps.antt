@@ -1,219 +1,260 @@
 -- One call: what the program and the ledger make of it, where they agreed before. Assumes nothing.
-use mathlib.Core.Path.{_≡_, refl, sym, ap, _∙_}
-use mathlib.Core.List.{List, [], _∷_, _++_, append-nil}
+use mathlib.Core.Path.{_≡_, refl, sym, ap, ap₂, subst, _∙_}
+use mathlib.Core.Bool.{Bool, true, false, cond}
+use mathlib.Core.List.{List, [], _∷_, _++_, map, append-nil}
 use Prim.Native.Nat.{ℕ, zero, suc, _+_, _-_, _≤_, _<_}
 use native.Mathlib.Omega.{arith}
+use borrow.Author.Tests.{le-ltb, lt-leb, eqb-true, eqb-false, not-false}
+use lib.Dec.{eqb}
 use lib.ListN.{length, set, take, drop, length-append, length-set}
 use lib.Seq.{drop-set-lt, take-set-lt, append-snoc}
 use lib.Ieee.{Float}
+use Rattle.loops.specs.Cases.{either}
 use Rattle.loops.specs.Fold.{fold}
-use Rattle.monomial.specs.Samples.{Sample, samplesOf}
+use Rattle.monomial.specs.Samples.{Sample}
 use Rattle.monomial.specs.Rows.{rowsOf}
-use Rattle.monomial.specs.Sums.{sumsOf, xsOf}
+use Rattle.monomial.specs.Sums.{sumsOf}
 use Rattle.frame.specs.Frame.{decode}
 use Rattle.book.specs.declared.Answer.{Answer}
 use Rattle.book.specs.declared.Answer.the-variants as answers
-use Rattle.book.specs.Refusals.{Room, addRefusal, correctRefusal, withdrawRefusal, frameAddRefusal, add-room, correct-room, withdraw-room, frame-room}
-use Rattle.book.specs.Calls.{Out, State, after, bookOf, refused, settle, addOut, correctOut, withdrawOut, withoutAt, addMany, addFrameOut}
-use Rattle.book.specs.Many.{ysOf, added, RoomFor, room-one, room-rest, many-added, added-is}
-use Rattle.ledger.specs.Ledger.{Change, adds, corrects, withdraws, frames, lentOf, outOf, newY, changed, refusalOf}
-use Rattle.ledger.proofs.Lists.{length-new, new-x, new-y, length-less, column-add, column-without, length-without, without-rest, samples-are, sums-length, sums-first, sums-rest, sums-add, sums-correct, drop-later}
+use Rattle.book.specs.Refusals.{Room, capacity, capacity-two, sampleFinite, firstOf, first-none, withdrawRefusal, add-room, correct-room, withdraw-room, frame-room, long-sums, within-capacity}
+use Rattle.book.specs.Calls.{Column, ofX, ofY, value, samplesIn, withY, Out, State, after, bookOf, bookAnswered, refused, settle, addOut, correctOut, withdrawOut, withoutAt, addNext, addMany, addFrameOut}
+use Rattle.book.specs.Many.{added, RoomFor, room-one, room-rest, one-added, many-added, added-is}
+use Rattle.ledger.specs.Window.{windowRefusal, withPlace, windowOut}
+use Rattle.ledger.specs.Ledger.{Change, adds, corrects, withdraws, frames, windows, Lent, lentBy, outOf, newY, without, changed, refusalOf}
+use Rattle.ledger.proofs.Lists.{length-new, new-x, new-y, length-less, column-add, column-without, length-without, without-rest, samples-are, sums-rest, sums-add, sums-correct, sums-long, drop-later}
 
--- the book is the ledger's length, the columns hold its samples, and the sums are its
-pub record Holds (l : List Sample) (s : State) : Type 0 where
-  pub count : s .count ≡ length l
-  pub room : Room (s .count) (length (s .xs)) (length (s .ys)) (length (s .sums))
-  pub xs : take (s .count) (s .xs) ≡ xsOf l
-  pub ys : take (s .count) (s .ys) ≡ ysOf l
-  pub sums : take 272 (s .sums) ≡ sumsOf (rowsOf l)
-
--- s′ is what a call leaves of s: it holds l, and the places that are not the book's stand
-pub record Leaves (s : State) (l : List Sample) (s′ : State) : Type 0 where
-  pub holds : Holds l s′
-  pub long-x : length (s′ .xs) ≡ length (s .xs)
-  pub long-y : length (s′ .ys) ≡ length (s .ys)
-  pub long-sums : length (s′ .sums) ≡ length (s .sums)
-  pub keep-x : drop (s′ .count) (s′ .xs) ≡ drop (s′ .count) (s .xs)
-  pub keep-y : drop (s′ .count) (s′ .ys) ≡ drop (s′ .count) (s .ys)
-  pub past : drop 272 (s′ .sums) ≡ drop 272 (s .sums)
-
-pub leaves-all : (l : List Sample) (s : State) → Holds l s → Leaves s l s
-leaves-all l s h = record { holds = h; long-x = refl; long-y = refl; long-sums = refl; keep-x = refl; keep-y = refl; past = refl }
-
--- one sample at the end
-module _ (l : List Sample) (s : State) (p : Sample) (h : Holds l s) (r : RoomFor s 1) where
-  leaves-add : Leaves s (l ++ (p ∷ [])) (added s p)
-  leaves-add =
-      let n = s .count in
-      let q = sums-add l (s .sums) (r .sums) (h .sums) p in
-      let lx = length-set (s .xs) n (p .x) in
-      let ly = length-set (s .ys) n (p .y) in
-      let lt = sums-length (l ++ (p ∷ [])) (s .sums) _ (r .sums) q in
-      record {
-        holds = record {
-          count = ap (λ m. m + 1) (h .count) ∙ sym (length-append l (p ∷ []));
-          room = record { sums = rw lt (r .sums); xs = rw lx (r .xs); ys = rw ly (r .ys); most = r .most };
-          xs = column-add (λ (q : Sample). q .x) l n (s .xs) (h .xs) p (omega (arith, r .xs));
-          ys = column-add (λ (q : Sample). q .y) l n (s .ys) (h .ys) p (omega (arith, r .ys));
-          sums = sums-first (l ++ (p ∷ [])) (s .sums) _ (r .sums) q;
-        };
-        long-x = lx;
-        long-y = ly;
-        long-sums = lt;
-        keep-x = drop-set-lt (n + 1) (s .xs) n (p .x) (omega arith);
-        keep-y = drop-set-lt (n + 1) (s .ys) n (p .y) (omega arith);
-        past = sums-rest (l ++ (p ∷ [])) (s .sums) _ (r .sums) q;
-      }
-
--- one call after another
-leaves-then : (l m : List Sample) (s t u : State) → Leaves s l t → Leaves t m u → t .count ≤ u .count → Leaves s m u
-leaves-then l m s t u p q h =
-    record {
-      holds = q .holds;
-      long-x = q .long-x ∙ p .long-x;
-      long-y = q .long-y ∙ p .long-y;
-      long-sums = q .long-sums ∙ p .long-sums;
-      keep-x = q .keep-x ∙ drop-later (t .count) (u .count) (t .xs) (s .xs) h (p .keep-x);
-      keep-y = q .keep-y ∙ drop-later (t .count) (u .count) (t .ys) (s .ys) h (p .keep-y);
-      past = q .past ∙ p .past;
-    }
-
--- many samples at the end
-leaves-many : (ps l : List Sample) (s : State) → Holds l s → RoomFor s (length ps) → Leaves s (l ++ ps) (fold added s ps)
-unfolding fold
-leaves-many [] l s h r = rw (append-nil l) (leaves-all l s h)
-leaves-many (p ∷ ps) l s h r =
-    let one = leaves-add l s p h (room-one s p (length ps) r) in
-    let rest = leaves-many ps (l ++ (p ∷ [])) (added s p) (one .holds) (room-rest s p (length ps) r) in
-    let q = ap (λ (t : State). t .count) (added-is ps (added s p)) in
-    rw (← append-snoc l p ps) (leaves-then (l ++ (p ∷ [])) (l ++ (p ∷ []) ++ ps) s (added s p) (fold added (added s p) ps) one rest (omega (arith, q)))
+-- ---- what a call that is not refused leaves
 
 -- sample i gets a new y
 abbrev correctedState : State → ℕ → Float → State
 correctedState s i y =
-    record {
-      count = s .count;
-      xs = s .xs;
-      ys = set (s .ys) i y;
-      sums = take 256 (s .sums) ++ (drop 256 (sumsOf (rowsOf (samplesOf (s .count) (s .xs) (set (s .ys) i y)))) ++ drop 272 (s .sums));
-    }
-
-module _ (l : List Sample) (s : State) (i : ℕ) (y : Float) (h : Holds l s) (r : i < s .count) where
-  leaves-correct : Leaves s (newY l i y) (correctedState s i y)
-  leaves-correct =
-      let n = s .count in
-      let b = set (s .ys) i y in
-      let k = newY l i y in
-      let long = h .room .sums in
-      let ly = length-set (s .ys) i y in
-      let c = h .count ∙ sym (length-new l i y) in
-      let ex = h .xs ∙ sym (new-x l i y) in
-      let ey = take-set-lt n (s .ys) i y r ∙ ap (λ u. set u i y) (h .ys) ∙ sym (new-y l i y) in
-      let q =
-      ap (λ u. take 256 (s .sums) ++ (drop 256 (sumsOf (rowsOf u)) ++ drop 272 (s .sums))) (samples-are k n (s .xs) b c ex ey)
-      ∙ sums-correct l (s .sums) long (h .sums) i y in
-      let lt = sums-length k (s .sums) _ long q in
-      record {
-        holds = record {
-          count = c;
-          room = record { sums = rw lt long; xs = h .room .xs; ys = rw ly (h .room .ys); most = h .room .most };
-          xs = ex;
-          ys = ey;
-          sums = sums-first k (s .sums) _ long q;
-        };
-        long-x = refl;
-        long-y = ly;
-        long-sums = lt;
-        keep-x = refl;
-        keep-y = drop-set-lt n (s .ys) i y r;
-        past = sums-rest k (s .sums) _ long q;
-      }
+    let c = withY i y (s .columns) in
+    record { count = s .count; columns = c; sums = take 256 (s .sums) ++ (drop 256 (sumsOf (rowsOf (samplesIn (s .count) c))) ++ drop 272 (s .sums)) }
 
 -- sample i goes
 abbrev withdrawnState : State → ℕ → State
 withdrawnState s i =
-    record {
-      count = s .count - 1;
-      xs = withoutAt i (s .count) (s .xs);
-      ys = withoutAt i (s .count) (s .ys);
-      sums = sumsOf (rowsOf (samplesOf (s .count - 1) (withoutAt i (s .count) (s .xs)) (withoutAt i (s .count) (s .ys)))) ++ drop 272 (s .sums);
-    }
+    let c : Column → List Float = λ k. withoutAt i (s .count) (s .columns k) in
+    record { count = s .count - 1; columns = c; sums = sumsOf (rowsOf (samplesIn (s .count - 1) c)) ++ drop 272 (s .sums) }
 
-module _ (l : List Sample) (s : State) (i : ℕ) (h : Holds l s) (r : i < s .count) where
-  leaves-withdraw : Leaves s (take i l ++ drop (i + 1) l) (withdrawnState s i)
-  leaves-withdraw =
-      let n = s .count in
-      let k = take i l ++ drop (i + 1) l in
-      let m = h .room in
-      let lx = length-without i n (s .xs) r (m .xs) in
-      let ly = length-without i n (s .ys) r (m .ys) in
-      let c = ap (λ j. j - 1) (h .count) ∙ sym (length-less l i (rw (h .count) at r)) in
-      let ex = column-without (λ (q : Sample). q .x) l n (s .xs) (h .xs) i r (m .xs) in
-      let ey = column-without (λ (q : Sample). q .y) l n (s .ys) (h .ys) i r (m .ys) in
-      let q = ap (λ u. sumsOf (rowsOf u) ++ drop 272 (s .sums)) (samples-are k (n - 1) (withoutAt i n (s .xs)) (withoutAt i n (s .ys)) c ex ey) in
-      let lt = sums-length k (s .sums) _ (m .sums) q in
+abbrev done : State → Change → State
+done s (adds p) = added s p
+done s (corrects i y) = correctedState s i y
+done s (withdraws i) = withdrawnState s i
+done s (frames f) = addMany (decode f) s
+done s (windows p) = addNext (withPlace s) p
+
+out-is : (s : State) (c : Change)
+    → let k = refusalOf (lentBy s) (s .count) c in
+    outOf s c ≡ settle k (bookAnswered (done s c)) (refused k (s .columns) (s .sums))
+unfolding outOf refusalOf addOut correctOut withdrawOut addFrameOut windowOut
+out-is s (adds p) = refl
+out-is s (corrects i y) = refl
+out-is s (withdraws i) = refl
+out-is s (frames f) = refl
+out-is s (windows p) = refl
+
+-- ---- any column
+
+same-lent : (s t : State) → ((k : Column) → length (t .columns k) ≡ length (s .columns k)) → length (t .sums) ≡ length (s .sums) → lentBy t ≡ lentBy s
+same-lent s t e q = λ i. record { columns = e ofX i ∷ e ofY i ∷ []; sums = q i }
+
+pub held-by : (l : List Sample) (s : State) → s .count ≡ length l → ((k : Column) → take (s .count) (s .columns k) ≡ map (value k) l) → samplesIn (s .count) (s .columns) ≡ l
+held-by l s q e = samples-are l (s .count) (s .columns ofX) (s .columns ofY) q (e ofX) (e ofY)
+
+-- a count within capacity is within every column
+room-of : (s : State) (n : ℕ) → n ≤ capacity (lentBy s .columns) → 272 ≤ length (s .sums) → Room n (length (s .columns ofX)) (length (s .columns ofY)) (length (s .sums))
+room-of s n h t =
+    let q = capacity-two (length (s .columns ofX)) (length (s .columns ofY)) in
+    record { sums = t; xs = omega arith; ys = omega arith; most = omega arith }
+
+fits : (s : State) (n : ℕ) → Room n (length (s .columns ofX)) (length (s .columns ofY)) (length (s .sums)) → n ≤ capacity (lentBy s .columns)
+fits s n r =
+    let q = capacity-two (length (s .columns ofX)) (length (s .columns ofY)) in
+    omega (arith, r)
+
+within : (s : State) (n : ℕ) → n ≤ capacity (lentBy s .columns) → (k : Column) → n ≤ length (s .columns k)
+within s n h ofX = let q = capacity-two (length (s .columns ofX)) (length (s .columns ofY)) in omega arith
+within s n h ofY = let q = capacity-two (length (s .columns ofX)) (length (s .columns ofY)) in omega arith
+
+-- ---- the relation, where m are the lengths of the lent memory and rest is what the sums hold past the 272
+
+module _ (m : Lent) (rest : List Float) where
+  -- the book is the ledger's length, the columns hold its samples, and the sums are its
+  pub record Holds (l : List Sample) (s : State) : Type 0 where
+    pub count : s .count ≡ length l
+    pub lent : lentBy s ≡ m
+    pub room : s .count ≤ capacity (lentBy s .columns)
+    pub long : 272 ≤ length (s .sums)
+    pub below : (k : Column) → take (s .count) (s .columns k) ≡ map (value k) l
+    pub sums : s .sums ≡ sumsOf (rowsOf l) ++ rest
+
+  -- s′ is what a call leaves of s: it holds l, and the columns stand from the new count on
+  pub record Leaves (s : State) (l : List Sample) (s′ : State) : Type 0 where
+    pub holds : Holds l s′
+    pub keeps : (k : Column) → drop (s′ .count) (s′ .columns k) ≡ drop (s′ .count) (s .columns k)
+
+  pub leaves-all : (l : List Sample) (s : State) → Holds l s → Leaves s l s
+  leaves-all l s h = record { holds = h; keeps = λ k. refl }
+
+  -- what is to be shown of a call
+  leaves-by : (l l′ : List Sample) (s s′ : State) → Holds l s → s′ .count ≡ length l′ → s′ .count ≤ capacity (lentBy s .columns)
+      → ((k : Column) → length (s′ .columns k) ≡ length (s .columns k)) → ((k : Column) → take (s′ .count) (s′ .columns k) ≡ map (value k) l′)
+      → ((k : Column) → drop (s′ .count) (s′ .columns k) ≡ drop (s′ .count) (s .columns k)) → s′ .sums ≡ sumsOf (rowsOf l′) ++ rest → Leaves s l′ s′
+  leaves-by l l′ s s′ h c r n b d q =
+      let t = ap length q ∙ sums-long l′ l rest ∙ sym (ap length (h .sums)) in
+      let e = same-lent s s′ n t in
       record {
-        holds = record {
-          count = c;
-          room = record { sums = rw lt (m .sums); xs = rw lx (omega (arith, m .xs)); ys = rw ly (omega (arith, m .ys)); most = omega (arith, m .most) };
-          xs = ex;
-          ys = ey;
-          sums = sums-first k (s .sums) _ (m .sums) q;
-        };
-        long-x = lx;
-        long-y = ly;
-        long-sums = lt;
-        keep-x = without-rest i n (s .xs) r (m .xs);
-        keep-y = without-rest i n (s .ys) r (m .ys);
-        past = sums-rest k (s .sums) _ (m .sums) q;
+        holds = record { count = c; lent = e ∙ h .lent; room = subst (λ (z : Lent). s′ .count ≤ capacity (z .columns)) (sym e) r; long = rw t (h .long); below = b; sums = q };
+        keeps = d;
       }
 
--- ---- a call: what it leaves of s is o, and the ledger's list and answer are l and a
+  -- one call after another
+  leaves-then : (l k : List Sample) (s t u : State) → Leaves s l t → Leaves t k u → t .count ≤ u .count → Leaves s k u
+  leaves-then l k s t u p q h =
+      record { holds = q .holds; keeps = λ c. q .keeps c ∙ drop-later (t .count) (u .count) (t .columns c) (s .columns c) h (p .keeps c) }
 
-pub record Stepped (s : State) (o : Out) (l : List Sample) (a : Answer) : Type 0 where
-  pub leaves : Leaves s l (after (s .count) o)
-  pub answer : o .answer ≡ a
+  -- one sample at the end
+  leaves-add : (l : List Sample) (s : State) (p : Sample) → Holds l s → s .count + 1 ≤ capacity (lentBy s .columns) → Leaves s (l ++ (p ∷ [])) (added s p)
+  leaves-add l s p h r =
+      let n = s .count in
+      leaves-by l (l ++ (p ∷ [])) s (added s p) h
+      (ap (λ m. m + 1) (h .count) ∙ sym (length-append l (p ∷ [])))
+      r
+      (λ k. length-set (s .columns k) n (value k p))
+      (λ k. column-add (value k) l n (s .columns k) (h .below k) p (omega (arith, within s (n + 1) r k)))
+      (λ k. drop-set-lt (n + 1) (s .columns k) n (value k p) (omega arith))
+      (sums-add l rest (s .sums) (h .sums) p)
 
--- a refusal changes nothing on either side; so it is enough to know what a call that is not refused leaves
-settled : (l l′ : List Sample) (s s′ : State) (k : ℕ) → Holds l s → (k ≡ 0 → Leaves s l′ s′)
-    → Stepped s
-    (settle k (record { answer = bookOf (s′ .count); xs = s′ .xs; ys = s′ .ys; sums = s′ .sums }) (refused k (s .xs) (s .ys) (s .sums)))
-    (settle k l′ l)
-    (settle k (bookOf (length l′)) (answers.Refused k))
-settled l l′ s s′ zero h g = record { leaves = g refl; answer = ap bookOf (g refl .holds .count) }
-settled l l′ s s′ (suc k) h g = record { leaves = leaves-all l s h; answer = refl }
+  -- many samples at the end
+  leaves-many : (ps l : List Sample) (s : State) → Holds l s → RoomFor s (length ps) → Leaves s (l ++ ps) (fold added s ps)
+  unfolding fold
+  leaves-many [] l s h r = rw (append-nil l) (leaves-all l s h)
+  leaves-many (p ∷ ps) l s h r =
+      let one = leaves-add l s p h (fits s (s .count + 1) (room-one s p (length ps) r)) in
+      let more = leaves-many ps (l ++ (p ∷ [])) (added s p) (one .holds) (room-rest s p (length ps) r) in
+      let q = ap (λ (t : State). t .count) (added-is ps (added s p)) in
+      rw (← append-snoc l p ps) (leaves-then (l ++ (p ∷ [])) (l ++ (p ∷ []) ++ ps) s (added s p) (fold added (added s p) ps) one more (omega (arith, q)))
 
-pub step : (l : List Sample) (s : State) → Holds l s → (c : Change)
-    → let k = refusalOf (lentOf (s .xs) (s .ys) (s .sums)) l c in
-    Stepped s (outOf s c) (settle k (changed l c) l) (settle k (bookOf (length (changed l c))) (answers.Refused k))
-unfolding outOf refusalOf changed addOut correctOut withdrawOut addFrameOut
-step l s h (adds p) =
-    let n = s .count in
-    let a = length (s .xs) in
-    let b = length (s .ys) in
-    let t = length (s .sums) in
-    rw (← h .count)
-    (settled l (l ++ (p ∷ [])) s (added s p) (addRefusal n p (a ∷ b ∷ []) t) h (λ e. leaves-add l s p h (add-room n a b t p e .0)))
-step l s h (corrects i y) =
-    let n = s .count in
-    let a = length (s .xs) in
-    let b = length (s .ys) in
-    let t = length (s .sums) in
-    rw (← h .count)
-    (settled l (newY l i y) s (correctedState s i y) (correctRefusal n i y (a ∷ b ∷ []) t) h (λ e. leaves-correct l s i y h (correct-room n a b t i y e .1)))
-step l s h (withdraws i) =
-    let n = s .count in
-    let a = length (s .xs) in
-    let b = length (s .ys) in
-    let t = length (s .sums) in
-    rw (← h .count)
-    (settled l (take i l ++ drop (i + 1) l) s (withdrawnState s i) (withdrawRefusal n i (a ∷ b ∷ []) t) h (λ e. leaves-withdraw l s i h (withdraw-room n a b t i e .1)))
-step l s h (frames f) =
-    let n = s .count in
-    let a = length (s .xs) in
-    let b = length (s .ys) in
-    let t = length (s .sums) in
-    rw (← h .count)
-    (settled l (l ++ decode f) s (addMany (decode f) s) (frameAddRefusal n f (a ∷ b ∷ []) t) h (λ e.
-    let r = frame-room n a b t f e in
-    rw (many-added (decode f) s (r .0) (r .2)) (leaves-many (decode f) l s h (r .0))))
+  -- sample i gets a new y
+  leaves-correct : (l : List Sample) (s : State) (i : ℕ) (y : Float) → Holds l s → i < s .count → Leaves s (newY l i y) (correctedState s i y)
+  leaves-correct l s i y h r =
+      let n = s .count in
+      let c = h .count ∙ sym (length-new l i y) in
+      let b = below in
+      leaves-by l (newY l i y) s (correctedState s i y) h c (h .room) long b keeps
+      (ap (λ u. take 256 (s .sums) ++ (drop 256 (sumsOf (rowsOf u)) ++ drop 272 (s .sums))) (held-by (newY l i y) (correctedState s i y) c b)
+      ∙ sums-correct l rest (s .sums) (h .sums) i y)
+    where
+      long : (k : Column) → length (correctedState s i y .columns k) ≡ length (s .columns k)
+      long ofX = refl
+      long ofY = length-set (s .columns ofY) i y
+
+      below : (k : Column) → take (s .count) (correctedState s i y .columns k) ≡ map (value k) (newY l i y)
+      below ofX = h .below ofX ∙ sym (new-x l i y)
+      below ofY = take-set-lt (s .count) (s .columns ofY) i y r ∙ ap (λ u. set u i y) (h .below ofY) ∙ sym (new-y l i y)
+
+      keeps : (k : Column) → drop (s .count) (correctedState s i y .columns k) ≡ drop (s .count) (s .columns k)
+      keeps ofX = refl
+      keeps ofY = drop-set-lt (s .count) (s .columns ofY) i y r
+
+  -- sample i goes
+  leaves-withdraw : (l : List Sample) (s : State) (i : ℕ) → Holds l s → i < s .count → Leaves s (without i l) (withdrawnState s i)
+  leaves-withdraw l s i h r =
+      let n = s .count in
+      let t = withdrawnState s i in
+      let f = within s n (h .room) in
+      let c = ap (λ j. j - 1) (h .count) ∙ sym (length-less l i (rw (h .count) at r)) in
+      let b : (k : Column) → take (n - 1) (t .columns k) ≡ map (value k) (without i l) = λ k.
+      column-without (value k) l n (s .columns k) (h .below k) i r (f k) in
+      leaves-by l (without i l) s t h c (omega (arith, h .room))
+      (λ k. length-without i n (s .columns k) r (f k))
+      b
+      (λ k. without-rest i n (s .columns k) r (f k))
+      (ap₂ (λ u v. sumsOf (rowsOf u) ++ v) (held-by (without i l) t c b) (sums-rest l rest (s .sums) (h .sums)))
+
+-- ---- a window's add, where 1, 4 and 5 do not hold: neither the withdrawal nor the add is refused
+
+module _ (s : State) (p : Sample) (e : windowRefusal (s .count) p (lentBy s .columns) (lentBy s .sums) ≡ 0) where
+  window-tests : (272 ≤ length (s .sums)) × (s .count ≤ capacity (lentBy s .columns)) × (sampleFinite p ≡ true) × (0 < capacity (lentBy s .columns))
+  unfolding windowRefusal
+  window-tests =
+      let k1 = first-none _ 0 _ e in
+      let k4 = first-none _ 3 _ (k1 .1) in
+      let k5 = first-none _ 4 _ (k4 .1) in
+      let z = eqb-false _ 0 (k5 .0) in
+      (long-sums _ (lentBy s .columns) (lentBy s .sums) (k1 .0), within-capacity _ (lentBy s .columns) (lentBy s .sums) (k1 .0), not-false _ (k4 .0), positive _ z)
+    where
+      positive : (c : ℕ) → (c ≡ 0 → ⊥) → 0 < c
+      positive zero z = absurd (z refl)
+      positive (suc c) z = omega arith
+
+withdraw-taken : (s : State) (i : ℕ) → 272 ≤ length (s .sums) → s .count ≤ capacity (lentBy s .columns) → i < s .count
+    → after (s .count) (withdrawOut (s .count) i (s .columns) (s .sums)) ≡ withdrawnState s i
+unfolding withdrawOut withdrawRefusal firstOf
+withdraw-taken s i t h r =
+    rw (le-ltb (length (s .sums)) 272 t, le-ltb (capacity (lentBy s .columns)) (s .count) h, lt-leb (s .count) i r)
+
+module _ (m : Lent) (rest : List Float) where
+  leaves-window : (l : List Sample) (s : State) (p : Sample) → Holds m rest l s → windowRefusal (s .count) p (lentBy s .columns) (lentBy s .sums) ≡ 0
+      → Leaves m rest s (changed m l (windows p)) (addNext (withPlace s) p)
+  unfolding changed withPlace
+  leaves-window l s p h e =
+      let same : eqb (s .count) (capacity (lentBy s .columns)) ≡ eqb (length l) (capacity (m .columns)) = λ i. eqb (h .count i) (capacity (h .lent i .columns)) in
+      subst (λ (b : Bool). Leaves m rest s (cond b (without 0 l) l ++ (p ∷ [])) (addNext (withPlace s) p)) same (go (eqb (s .count) (capacity (lentBy s .columns))) refl)
+    where
+      go : (b : Bool) → eqb (s .count) (capacity (lentBy s .columns)) ≡ b
+          → Leaves m rest s (cond b (without 0 l) l ++ (p ∷ [])) (addNext (cond b (after (s .count) (withdrawOut (s .count) 0 (s .columns) (s .sums))) s) p)
+      go false q =
+          let w = window-tests s p e in
+          let z = eqb-false (s .count) (capacity (lentBy s .columns)) q in
+          let r : s .count + 1 ≤ capacity (lentBy s .columns) = below (s .count) (capacity (lentBy s .columns)) (w .1) z in
+          rw (one-added s p (room-of s (s .count + 1) r (w .0)) (w .2)) (leaves-add m rest l s p h r)
+        where
+          below : (a b : ℕ) → a ≤ b → (a ≡ b → ⊥) → a + 1 ≤ b
+          below a b u v = either (a + 1) b (λ x. x) (λ x. absurd (v (omega arith)))
+      go true q =
+          let w = window-tests s p e in
+          let z = eqb-true (s .count) (capacity (lentBy s .columns)) q in
+          let t = withdrawnState s 0 in
+          let some : 0 < s .count = omega (arith, z, w .3) in
+          let one = leaves-withdraw m rest l s 0 h some in
+          let lent : lentBy s ≡ lentBy t = h .lent ∙ sym (one .holds .lent) in
+          let r : t .count + 1 ≤ capacity (lentBy t .columns) =
+          subst (λ (c : Lent). s .count - 1 + 1 ≤ capacity (c .columns)) lent (omega (arith, z, w .3)) in
+          let is = ap (λ (u : State). addNext u p) (withdraw-taken s 0 (w .0) (w .1) some) ∙ one-added t p (room-of t (t .count + 1) r (one .holds .long)) (w .2) in
+          subst (λ (u : State). Leaves m rest s (without 0 l ++ (p ∷ [])) u) (sym is)
+          (leaves-then m rest (without 0 l) (without 0 l ++ (p ∷ [])) s t (added t p) one (leaves-add m rest (without 0 l) t p (one .holds) r) (omega arith))
+
+  -- ---- a call: what it leaves of s is o, and the ledger's list and answer are l and a
+
+  leaves : (l : List Sample) (s : State) → Holds m rest l s → (c : Change) → refusalOf (lentBy s) (s .count) c ≡ 0 → Leaves m rest s (changed m l c) (done s c)
+  unfolding refusalOf changed
+  leaves l s h (adds p) e = leaves-add m rest l s p h (fits s (s .count + 1) (add-room (s .count) (length (s .columns ofX)) (length (s .columns ofY)) (length (s .sums)) p e .0))
+  leaves l s h (corrects i y) e =
+      leaves-correct m rest l s i y h (correct-room (s .count) (length (s .columns ofX)) (length (s .columns ofY)) (length (s .sums)) i y e .1)
+  leaves l s h (withdraws i) e = leaves-withdraw m rest l s i h (withdraw-room (s .count) (length (s .columns ofX)) (length (s .columns ofY)) (length (s .sums)) i e .1)
+  leaves l s h (frames f) e =
+      let r = frame-room (s .count) (length (s .columns ofX)) (length (s .columns ofY)) (length (s .sums)) f e in
+      rw (many-added (decode f) s (r .0) (r .2)) (leaves-many m rest (decode f) l s h (r .0))
+  leaves l s h (windows p) e = leaves-window l s p h e
+
+  pub record Stepped (s : State) (o : Out) (l : List Sample) (a : Answer) : Type 0 where
+    pub leaves : Leaves m rest s l (after (s .count) o)
+    pub answer : o .answer ≡ a
+
+  -- a refusal changes nothing on either side; so it is enough to know what a call that is not refused leaves
+  settled : (l l′ : List Sample) (s s′ : State) (k : ℕ) → Holds m rest l s → (k ≡ 0 → Leaves m rest s l′ s′)
+      → Stepped s (settle k (bookAnswered s′) (refused k (s .columns) (s .sums))) (settle k l′ l) (settle k (bookOf (length l′)) (answers.Refused k))
+  settled l l′ s s′ zero h g = record { leaves = g refl; answer = ap bookOf (g refl .holds .count) }
+  settled l l′ s s′ (suc k) h g = record { leaves = leaves-all m rest l s h; answer = refl }
+
+  pub step : (l : List Sample) (s : State) → Holds m rest l s → (c : Change)
+      → let k = refusalOf m (length l) c in
+      Stepped s (outOf s c) (settle k (changed m l c) l) (settle k (bookOf (length (changed m l c))) (answers.Refused k))
+  step l s h c =
+      let l′ = changed m l c in
+      let same : refusalOf (lentBy s) (s .count) c ≡ refusalOf m (length l) c = λ i. refusalOf (h .lent i) (h .count i) c in
+      subst (λ (k : ℕ). Stepped s (outOf s c) (settle k l′ l) (settle k (bookOf (length l′)) (answers.Refused k))) same
+      (rw (out-is s c) (settled l l′ s (done s c) (refusalOf (lentBy s) (s .count) c) h (leaves l s h c)))

@@ -9,6 +9,8 @@ use Rattle.loops.specs.Places.{length-table, table-at}
 use Rattle.basis.specs.declared.OptionDegree.{OptionDegree}
 use Rattle.basis.specs.declared.OptionDegree.the-variants.{Some, None}
 use Rattle.statistics.specs.Degrees.{maxDegree}
+use Rattle.basis.specs.Counts.{countOf}
+use Rattle.basis.specs.declared.Basis.the-variants.{Curve}
 use Rattle.monomial.specs.Samples.{Sample}
 use Rattle.monomial.specs.Rows.{rowsOf}
 use Rattle.solve.specs.Solve.{solve}
@@ -16,7 +18,7 @@ use Rattle.choice.specs.Choice.{degree, chosenOf, solvedCount, chosen-same, cou
 use Rattle.choice.specs.Laws.{none-below, chosen, chosen-is, none-such, none-such-only}
 use Rattle.choice.specs.declared.Scored.{Scored}
 use Rattle.fit.specs.Solved.{scoredBy}
-use Rattle.fit.specs.Chosen.{curveCounts, tried, choiceOf}
+use Rattle.fit.specs.Chosen.{countsOf, tried, choiceOf}
 use Rattle.measure.specs.Measures.{inverseFails, covarianceAt}
 use Rattle.measure.specs.Written.{zeros}
 use Rattle.report.specs.declared.Settings.{Settings}
@@ -28,19 +30,19 @@ use Rattle.ledger.specs.Words.{Words, IsChosen, ledgerSums, degrees, sco
 -- the choice among the counts 1 to bound + 1 is the choice among the degrees 0 to the bound
 module _ (settings : Settings) (l : List Sample) where
   counts : List ℕ
-  counts = curveCounts (maxDegree (settings .bound) (length l))
+  counts = countsOf Curve (maxDegree (settings .bound) (length l))
 
   try : ℕ → Scored
   try = tried (settings .criterion) (ledgerSums settings l) (rowsOf l) counts
 
   long : length counts ≡ degrees settings l
   unfolding counts
-  long = length-table (λ (d : ℕ). d + 1) (degrees settings l)
+  long = length-table (countOf Curve) (degrees settings l)
 
   same : (d : ℕ) → d < degrees settings l → try d ≡ scored settings l d
   unfolding try counts tried
   same d h =
-      ap (scoredBy (settings .criterion) (ledgerSums settings l) (rowsOf l) (rowsOf l)) (table-at (λ (e : ℕ). e + 1) (degrees settings l) d 0 h)
+      ap (scoredBy (settings .criterion) (ledgerSums settings l) (rowsOf l) (rowsOf l)) (table-at (countOf Curve) (degrees settings l) d 0 h)
 
   chosen-by : reportChoice (length l) settings l (ledgerSums settings l) .chosen ≡ chosenOf (scored settings l) (degrees settings l)
   unfolding reportChoice choiceOf try counts
@@ -65,9 +67,9 @@ module _ (settings : Settings) (l : List Sample) where
   past-told = rw (chosen-by settings l, solved-by settings l) refl
 
   -- its number where a degree is chosen
-  number-some : (d : ℕ) → reportNumber (toldOf (Some (degree d)) .answer) ≡ cond (inverseFails (ledgerSums settings l) (d + 1)) 12 0
+  number-some : (d : ℕ) → reportNumber (toldOf (Some (degree d)) .answer) ≡ cond (inverseFails (ledgerSums settings l) (countOf Curve d)) 12 0
   unfolding reportOf writtenBy
-  number-some d = go (inverseFails (ledgerSums settings l) (d + 1)) _ refl
+  number-some d = go (inverseFails (ledgerSums settings l) (countOf Curve d)) _ refl
     where
       go : (t : Bool) (w : Told) → reportNumber (w .answer) ≡ 0 → reportNumber (cond t (told 12) w .answer) ≡ cond t 12 0
       go true w h = refl
@@ -85,12 +87,12 @@ module _ (settings : Settings) (l : List Sample) (o : ReportOut)
   unfolding S b
   answered c h = ap (λ (t : Told). t .answer) e ∙ ap (λ x. toldOf settings l x .answer) h
 
-  number-of : (d : ℕ) → chosenOf S b ≡ Some (degree d) → reportNumber (o .answer) ≡ cond (inverseFails (ledgerSums settings l) (d + 1)) 12 0
+  number-of : (d : ℕ) → chosenOf S b ≡ Some (degree d) → reportNumber (o .answer) ≡ cond (inverseFails (ledgerSums settings l) (countOf Curve d)) 12 0
   number-of d h = ap reportNumber (answered (Some (degree d)) h) ∙ number-some settings l d
 
   none-if-11 : o .answer ≡ answers.Refused 11 → (d : ℕ) → IsChosen settings l d → ⊥
   unfolding S b
-  none-if-11 h d w = go (inverseFails (ledgerSums settings l) (d + 1)) (sym (ap reportNumber h) ∙ number-of d (chosen-is S b d w))
+  none-if-11 h d w = go (inverseFails (ledgerSums settings l) (countOf Curve d)) (sym (ap reportNumber h) ∙ number-of d (chosen-is S b d w))
     where
       go : (t : Bool) → _≡_ {A = ℕ} 11 (cond t 12 0) → ⊥
       go true q = omega arith
@@ -100,26 +102,26 @@ module _ (settings : Settings) (l : List Sample) (o : ReportOut)
   unfolding S b reportOf
   11-if-none h = answered None (none-such-only S b h)
 
-  fails-if-12 : o .answer ≡ answers.Refused 12 → (d : ℕ) × IsChosen settings l d × (inverseFails (ledgerSums settings l) (d + 1) ≡ true)
+  fails-if-12 : o .answer ≡ answers.Refused 12 → (d : ℕ) × IsChosen settings l d × (inverseFails (ledgerSums settings l) (countOf Curve d) ≡ true)
   unfolding S b
   fails-if-12 h = by (chosenOf S b) refl
     where
-      last : (d : ℕ) → chosenOf S b ≡ Some (degree d) → (t : Bool) → inverseFails (ledgerSums settings l) (d + 1) ≡ t → _≡_ {A = ℕ} 12 (cond t 12 0)
-          → (d : ℕ) × IsChosen settings l d × (inverseFails (ledgerSums settings l) (d + 1) ≡ true)
+      last : (d : ℕ) → chosenOf S b ≡ Some (degree d) → (t : Bool) → inverseFails (ledgerSums settings l) (countOf Curve d) ≡ t → _≡_ {A = ℕ} 12 (cond t 12 0)
+          → (d : ℕ) × IsChosen settings l d × (inverseFails (ledgerSums settings l) (countOf Curve d) ≡ true)
       last d q true k z = (d, chosen S b d q, k)
       last d q false k z = absurd (omega arith)
 
-      by : (c : OptionDegree) → chosenOf S b ≡ c → (d : ℕ) × IsChosen settings l d × (inverseFails (ledgerSums settings l) (d + 1) ≡ true)
+      by : (c : OptionDegree) → chosenOf S b ≡ c → (d : ℕ) × IsChosen settings l d × (inverseFails (ledgerSums settings l) (countOf Curve d) ≡ true)
       by None q = absurd (let z : _≡_ {A = ℕ} 12 11 = sym (ap reportNumber h) ∙ ap reportNumber (11-if-none (λ d w. none-such S b q d w)) in omega arith)
-      by (Some d) q = last (d .0) q (inverseFails (ledgerSums settings l) (d .0 + 1)) refl (sym (ap reportNumber h) ∙ number-of (d .0) q)
+      by (Some d) q = last (d .0) q (inverseFails (ledgerSums settings l) (countOf Curve (d .0))) refl (sym (ap reportNumber h) ∙ number-of (d .0) q)
 
-  12-if-fails : (d : ℕ) → IsChosen settings l d → inverseFails (ledgerSums settings l) (d + 1) ≡ true → o .answer ≡ answers.Refused 12
+  12-if-fails : (d : ℕ) → IsChosen settings l d → inverseFails (ledgerSums settings l) (countOf Curve d) ≡ true → o .answer ≡ answers.Refused 12
   unfolding S b reportOf
   12-if-fails d w h = answered (Some (degree d)) (chosen-is S b d w) ∙ (rw h)
 
-  otherwise : (d : ℕ) → IsChosen settings l d → inverseFails (ledgerSums settings l) (d + 1) ≡ false
+  otherwise : (d : ℕ) → IsChosen settings l d → inverseFails (ledgerSums settings l) (countOf Curve d) ≡ false
       → record { answer = o .answer; written = o .written }
-      ≡ writtenBy (length l) settings l d (solvedCount (scored settings l) (degrees settings l)) (solve (ledgerSums settings l) (d + 1) .c) (covarianceAt (ledgerSums settings l) (rowsOf l) (d + 1))
+      ≡ writtenBy (length l) settings l d (solvedCount (scored settings l) (degrees settings l)) (solve (ledgerSums settings l) (countOf Curve d) .c) (covarianceAt (ledgerSums settings l) (rowsOf l) (countOf Curve d))
   unfolding S b reportOf
   otherwise d w h = e ∙ ap (toldOf settings l) (chosen-is S b d w) ∙ (rw h)
 

@@ -3,17 +3,21 @@
 use mathlib.Core.Path.{_≡_}
 use mathlib.Core.List.{List, [], _∷_, _++_, map}
 use Prim.Native.Nat.{ℕ, zero, suc, _+_}
+use lib.Dec.{eqb}
+use mathlib.Core.Bool.{cond}
 use lib.ListN.{length, getD, take, drop}
 use lib.Ieee.{Float, nan}
-use Rattle.monomial.specs.Samples.{Sample, samplesOf}
+use Rattle.loops.specs.Fold.{fold}
+use Rattle.runs.specs.Runs.{Machine, replies as repliesOf, history}
+use Rattle.monomial.specs.Samples.{Sample}
 use Rattle.monomial.specs.Rows.{rowsOf}
-use Rattle.monomial.specs.Sums.{sumsOf, xsOf}
+use Rattle.monomial.specs.Sums.{sumsOf}
 use Rattle.frame.specs.Frame.{decode}
 use Rattle.book.specs.declared.Answer.{Answer}
 use Rattle.book.specs.declared.Answer.the-variants as answers
-use Rattle.book.specs.Refusals.{addRefusal, correctRefusal, withdrawRefusal, frameAddRefusal}
-use Rattle.book.specs.Calls.{Out, State, after, bookOf, bookAfter, settle, openOut, addOut, correctOut, withdrawOut, addFrameOut}
-use Rattle.book.specs.Many.{ysOf}
+use Rattle.book.specs.Refusals.{capacity, addRefusal, correctRefusal, withdrawRefusal, frameAddRefusal}
+use Rattle.book.specs.Calls.{Column, value, lengths, columnsOf, samplesIn, Out, State, stateOf, after, bookOf, bookAfter, settle, openOut, addOut, correctOut, withdrawOut, addFrameOut}
+use Rattle.ledger.specs.Window.{windowRefusal, windowOut}
 
 -- ---- calls
 
@@ -23,6 +27,7 @@ pub data Change : Type 0 where
   corrects : ℕ → Float → Change
   withdraws : ℕ → Change
   frames : List ℕ → Change
+  windows : Sample → Change
 
 -- A call of a list. R is the type of the calls that only read (fit, report, validate, band), each with its arguments and the lengths of the memory
 -- lent to it alone.
@@ -44,17 +49,21 @@ pub record Lent : Type 0 where
   pub columns : List ℕ
   pub sums : ℕ
 
+abbrev pub lentBy : State → Lent
+lentBy s = record { columns = lengths (s .columns); sums = length (s .sums) }
+
 abbrev pub lentOf : List Float → List Float → List Float → Lent
-lentOf xs ys sums = record { columns = length xs ∷ length ys ∷ []; sums = length sums }
+lentOf xs ys sums = lentBy (stateOf 0 xs ys sums)
 
 -- ---- the program: each call gets the book last returned, and the columns and sums as the call before left them
 
 -- what a call that changes a book answers and leaves: the definition that its contract promises
 unfoldable pub outOf : State → Change → Out
-outOf s (adds p) = addOut (s .count) p (s .xs) (s .ys) (s .sums)
-outOf s (corrects i y) = correctOut (s .count) i y (s .xs) (s .ys) (s .sums)
-outOf s (withdraws i) = withdrawOut (s .count) i (s .xs) (s .ys) (s .sums)
-outOf s (frames f) = addFrameOut (s .count) f (s .xs) (s .ys) (s .sums)
+outOf s (adds p) = addOut (s .count) p (s .columns) (s .sums)
+outOf s (corrects i y) = correctOut (s .count) i y (s .columns) (s .sums)
+outOf s (withdraws i) = withdrawOut (s .count) i (s .columns) (s .sums)
+outOf s (frames f) = addFrameOut (s .count) f (s .columns) (s .sums)
+outOf s (windows p) = windowOut (s .count) p (s .columns) (s .sums)
 
 unfoldable pub next : {R : Type 0} → State → Call R → State
 next s (changes c) = after (s .count) (outOf s c)
@@ -63,19 +72,20 @@ next s (reads q) = s
 unfoldable pub reply : {R W : Type 0} → Reading R W → State → Call R → Reply W
 reply readOn s (changes c) = said (outOf s c .answer)
 reply readOn s (reads q) =
-    told (readOn q (s .count) (samplesOf (s .count) (s .xs) (s .ys)) (take 272 (s .sums)) (length (s .xs) ∷ length (s .ys) ∷ []) (length (s .sums)))
+    told (readOn q (s .count) (samplesIn (s .count) (s .columns)) (take 272 (s .sums)) (lengths (s .columns)) (length (s .sums)))
 
-unfoldable pub final : {R : Type 0} → State → List (Call R) → State
-final s [] = s
-final s (c ∷ cs) = final (next s c) cs
+abbrev pub program : {R W : Type 0} → Reading R W → Machine State (Call R) (Reply W)
+program readOn = record { step = next; reply = reply readOn }
 
-unfoldable pub replies : {R W : Type 0} → Reading R W → State → List (Call R) → List (Reply W)
-replies readOn s [] = []
-replies readOn s (c ∷ cs) = reply readOn s c ∷ replies readOn (next s c) cs
+abbrev pub final : {R : Type 0} → State → List (Call R) → State
+final s cs = fold next s cs
+
+abbrev pub replies : {R W : Type 0} → Reading R W → State → List (Call R) → List (Reply W)
+replies readOn s cs = repliesOf (program readOn) s cs
 
 -- a book just opened, over columns that hold anything
 abbrev pub opened : List Float → List Float → List Float → State
-opened xs ys sums = record { count = bookAfter 0 (openOut sums .answer); xs = xs; ys = ys; sums = openOut sums .sums }
+opened xs ys sums = record { count = bookAfter 0 (openOut sums .answer); columns = columnsOf xs ys; sums = openOut sums .sums }
 
 -- ---- the plain ledger: a list of samples, fed the calls' arguments and the lengths of the lent memory
 
@@ -85,48 +95,55 @@ newY [] i y = []
 newY (p ∷ l) zero y = record { x = p .x; y = y } ∷ l
 newY (p ∷ l) (suc i) y = p ∷ newY l i y
 
--- Add: one sample at the end. Withdraw i: it goes, later ones move down one. A frame equals that many adds.
-unfoldable pub changed : List Sample → Change → List Sample
-changed l (adds p) = l ++ (p ∷ [])
-changed l (corrects i y) = newY l i y
-changed l (withdraws i) = take i l ++ drop (i + 1) l
-changed l (frames f) = l ++ decode f
+-- Withdraw i: it goes, later ones move down one.
+abbrev pub without : ℕ → List Sample → List Sample
+without i l = take i l ++ drop (i + 1) l
 
--- A call is refused exactly when the refusals, read with the ledger's length as the count, give it a number; 0 is none.
-unfoldable pub refusalOf : Lent → List Sample → Change → ℕ
-refusalOf m l (adds p) = addRefusal (length l) p (m .columns) (m .sums)
-refusalOf m l (corrects i y) = correctRefusal (length l) i y (m .columns) (m .sums)
-refusalOf m l (withdraws i) = withdrawRefusal (length l) i (m .columns) (m .sums)
-refusalOf m l (frames f) = frameAddRefusal (length l) f (m .columns) (m .sums)
+-- Add: one sample at the end. A frame equals that many adds. An add to a full window book first withdraws sample 0.
+unfoldable pub changed : Lent → List Sample → Change → List Sample
+changed m l (adds p) = l ++ (p ∷ [])
+changed m l (corrects i y) = newY l i y
+changed m l (withdraws i) = without i l
+changed m l (frames f) = l ++ decode f
+changed m l (windows p) = cond (eqb (length l) (capacity (m .columns))) (without 0 l) l ++ (p ∷ [])
+
+-- A call is refused exactly when the refusals, read with the ledger's length as the count n, give it a number; 0 is none.
+unfoldable pub refusalOf : Lent → ℕ → Change → ℕ
+refusalOf m n (adds p) = addRefusal n p (m .columns) (m .sums)
+refusalOf m n (corrects i y) = correctRefusal n i y (m .columns) (m .sums)
+refusalOf m n (withdraws i) = withdrawRefusal n i (m .columns) (m .sums)
+refusalOf m n (frames f) = frameAddRefusal n f (m .columns) (m .sums)
+refusalOf m n (windows p) = windowRefusal n p (m .columns) (m .sums)
 
 -- A refusal changes nothing. A report, or any other call that reads, changes nothing.
 unfoldable pub ledgerNext : {R : Type 0} → Lent → List Sample → Call R → List Sample
-ledgerNext m l (changes c) = settle (refusalOf m l c) (changed l c) l
+ledgerNext m l (changes c) = settle (refusalOf m (length l) c) (changed m l c) l
 ledgerNext m l (reads q) = l
 
 -- The refusal's number is then the answer. Any other add, correction or withdrawal answers the book, which is the ledger's length; a call that
 -- reads answers and writes what is defined, from the ledger's samples and sums. The ledger's sums are always those over its whole list.
 unfoldable pub ledgerReply : {R W : Type 0} → Reading R W → Lent → List Sample → Call R → Reply W
-ledgerReply readOn m l (changes c) = said (settle (refusalOf m l c) (bookOf (length (changed l c))) (answers.Refused (refusalOf m l c)))
+ledgerReply readOn m l (changes c) =
+    said (settle (refusalOf m (length l) c) (bookOf (length (changed m l c))) (answers.Refused (refusalOf m (length l) c)))
 ledgerReply readOn m l (reads q) = told (readOn q (length l) l (sumsOf (rowsOf l)) (m .columns) (m .sums))
 
-unfoldable pub ledgerEnd : {R : Type 0} → Lent → List Sample → List (Call R) → List Sample
-ledgerEnd m l [] = l
-ledgerEnd m l (c ∷ cs) = ledgerEnd m (ledgerNext m l c) cs
+abbrev pub ledger : {R W : Type 0} → Reading R W → Lent → Machine (List Sample) (Call R) (Reply W)
+ledger readOn m = record { step = ledgerNext m; reply = ledgerReply readOn m }
 
-unfoldable pub ledgerReplies : {R W : Type 0} → Reading R W → Lent → List Sample → List (Call R) → List (Reply W)
-ledgerReplies readOn m l [] = []
-ledgerReplies readOn m l (c ∷ cs) = ledgerReply readOn m l c ∷ ledgerReplies readOn m (ledgerNext m l c) cs
+abbrev pub ledgerEnd : {R : Type 0} → Lent → List Sample → List (Call R) → List Sample
+ledgerEnd m l cs = fold (ledgerNext m) l cs
+
+abbrev pub ledgerReplies : {R W : Type 0} → Reading R W → Lent → List Sample → List (Call R) → List (Reply W)
+ledgerReplies readOn m l cs = repliesOf (ledger readOn m) l cs
 
 -- what a place of a column holds while the values of the ledger's samples are vs, if it held v before: theirs where it is below the count, else v
 abbrev pub seen : Float → List Float → ℕ → Float
 seen v vs p = getD vs p v
 
--- what a place holds after the calls, if it held v at first and f takes a sample's value for this column: what it held when it was last below
--- the count, or else v
-unfoldable pub held : {R : Type 0} → (Sample → Float) → Float → Lent → List Sample → List (Call R) → ℕ → Float
-held f v m l [] p = seen v (map f l) p
-held f v m l (c ∷ cs) p = held f (seen v (map f l) p) m (ledgerNext m l c) cs p
+-- what a place holds after the calls, if it held v at first and f takes a sample's value for this column: by the lists that the ledger has had, one
+-- after another, what it held when it was last below the count, or else v
+abbrev pub held : {R : Type 0} → (Sample → Float) → Float → Lent → List Sample → List (Call R) → ℕ → Float
+held f v m l cs p = fold (λ u k. seen u (map f k) p) v (history (ledgerNext m) l cs)
 
 -- ---- the claim, about the whole list of calls cs: the program from the state s and the ledger from the list l agree, where the lent memory held
 -- xs₀, ys₀ and sums₀ at opening
@@ -137,17 +154,15 @@ pub record Agrees {R W : Type 0} (readOn : Reading R W) (xs₀ ys₀ sums₀ : L
   -- After the list, the book is the ledger's length,
   pub book : final s cs .count ≡ length (ledgerEnd (lentOf xs₀ ys₀ sums₀) l cs)
   -- the column places below it hold the ledger's samples,
-  pub below-x : take (final s cs .count) (final s cs .xs) ≡ xsOf (ledgerEnd (lentOf xs₀ ys₀ sums₀) l cs)
-  pub below-y : take (final s cs .count) (final s cs .ys) ≡ ysOf (ledgerEnd (lentOf xs₀ ys₀ sums₀) l cs)
+  pub below : (k : Column) → take (final s cs .count) (final s cs .columns k) ≡ map (value k) (ledgerEnd (lentOf xs₀ ys₀ sums₀) l cs)
   -- and the 272 sums are the ledger's, bit for bit, NaNs as one value.
   pub sums : take 272 (final s cs .sums) ≡ sumsOf (rowsOf (ledgerEnd (lentOf xs₀ ys₀ sums₀) l cs))
   -- A column place at or past the count keeps what it held when it was last below the count, or else what it held at opening.
-  pub places-x : (p : ℕ) → getD (final s cs .xs) p nan ≡ held (λ (q : Sample). q .x) (getD xs₀ p nan) (lentOf xs₀ ys₀ sums₀) l cs p
-  pub places-y : (p : ℕ) → getD (final s cs .ys) p nan ≡ held (λ (q : Sample). q .y) (getD ys₀ p nan) (lentOf xs₀ ys₀ sums₀) l cs p
+  pub places : (k : Column) (p : ℕ) → getD (final s cs .columns k) p nan ≡ held (value k) (getD (s .columns k) p nan) (lentOf xs₀ ys₀ sums₀) l cs p
   -- Places past the 272 are not the book's: they are left as they were.
   pub past : drop 272 (final s cs .sums) ≡ drop 272 sums₀
   -- The columns and the sums are the same lent memory in every call.
-  pub lent : lentOf (final s cs .xs) (final s cs .ys) (final s cs .sums) ≡ lentOf xs₀ ys₀ sums₀
+  pub lent : lentBy (final s cs) ≡ lentOf xs₀ ys₀ sums₀
 
 -- Take any list of calls, refused ones included, in any order, from a book just opened, whatever the columns held at opening.
 abbrev pub WholeList : {R W : Type 0} → Reading R W → Type 0

@@ -1,6 +1,6 @@
 -- Document 01's plain ledger, lists of calls, and what demand 3 says of them.
+pub mod Window
 pub mod Ledger
-pub mod Laws
 pub mod Questions
 pub mod Words
 pub mod Whole

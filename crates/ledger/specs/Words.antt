@@ -6,6 +6,8 @@ use Prim.Native.Nat.{ℕ, _+_, _<_}
 use lib.ListN.{length}
 use lib.Ieee.{Float, lt}
 use Rattle.statistics.specs.Degrees.{maxDegree}
+use Rattle.basis.specs.Counts.{countOf}
+use Rattle.basis.specs.declared.Basis.the-variants.{Curve}
 use Rattle.monomial.specs.Samples.{Sample}
 use Rattle.monomial.specs.Rows.{rowsOf}
 use Rattle.monomial.specs.Sums.{sumsOf}
@@ -30,7 +32,7 @@ module _ (settings : Settings) (samples : List Sample) where
 
   -- whether a degree is solved, and its score
   abbrev pub scored : ℕ → Scored
-  scored d = scoredBy (settings .criterion) ledgerSums (rowsOf samples) (rowsOf samples) (d + 1)
+  scored d = scoredBy (settings .criterion) ledgerSums (rowsOf samples) (rowsOf samples) (countOf Curve d)
 
   abbrev pub least : Float
   least = leastOf scored degrees
@@ -49,10 +51,10 @@ module _ (settings : Settings) (samples : List Sample) where
     pub none-if-11 : o .answer ≡ answers.Refused 11 → (d : ℕ) → IsChosen d → ⊥
     pub 11-if-none : ((d : ℕ) → IsChosen d → ⊥) → o .answer ≡ answers.Refused 11
     -- and 12 exactly when the chosen degree's inverse fails.
-    pub fails-if-12 : o .answer ≡ answers.Refused 12 → (d : ℕ) × IsChosen d × (inverseFails ledgerSums (d + 1) ≡ true)
-    pub 12-if-fails : (d : ℕ) → IsChosen d → inverseFails ledgerSums (d + 1) ≡ true → o .answer ≡ answers.Refused 12
+    pub fails-if-12 : o .answer ≡ answers.Refused 12 → (d : ℕ) × IsChosen d × (inverseFails ledgerSums (countOf Curve d) ≡ true)
+    pub 12-if-fails : (d : ℕ) → IsChosen d → inverseFails ledgerSums (countOf Curve d) ≡ true → o .answer ≡ answers.Refused 12
     -- Otherwise it names the chosen degree and the number of solved degrees, with that fit's coefficients, errors, bands, outliers and pruned terms,
     -- all as the ledger's samples give them.
-    pub otherwise : (d : ℕ) → IsChosen d → inverseFails ledgerSums (d + 1) ≡ false
+    pub otherwise : (d : ℕ) → IsChosen d → inverseFails ledgerSums (countOf Curve d) ≡ false
         → record { answer = o .answer; written = o .written }
-        ≡ writtenBy (length samples) settings samples d (solvedCount scored degrees) (solve ledgerSums (d + 1) .c) (covarianceAt ledgerSums (rowsOf samples) (d + 1))
+        ≡ writtenBy (length samples) settings samples d (solvedCount scored degrees) (solve ledgerSums (countOf Curve d) .c) (covarianceAt ledgerSums (rowsOf samples) (countOf Curve d))

@@ -1,3 +1,4 @@
 -- Lemmas for the proofs.
 pub mod Low
 pub mod Parts
+pub mod Surface

@@ -27,19 +27,23 @@ module _ (c : List Float) (x : Float) (f : T (fits binary64 x)) where
   one-more j v p h e q =
       rw (e, sym q, sym (table-at (powerF x) 16 j nan h)) (sym (total-again (λ i. mul binary64 (getD c i nan) (getD (table (powerF x) 16) i nan)) j))
 
-  power-1 : powerF x 1 ≡ x
+  pub power-1 : powerF x 1 ≡ x
   unfolding powerF powerFrom powerTurns
   power-1 = one-times x f
 
-  power-2 : powerF x 2 ≡ mul binary64 x x
+  pub power-2 : powerF x 2 ≡ mul binary64 x x
   unfolding powerF powerFrom powerTurns
   power-2 = one-times (mul binary64 x x) (mul-fits binary64 x x)
 
-  power-3 : powerF x 3 ≡ mul binary64 x (mul binary64 x x)
+  pub power-3 : powerF x 3 ≡ mul binary64 x (mul binary64 x x)
   unfolding powerF powerFrom powerTurns
   power-3 = ap (λ (y : Float). mul binary64 y (mul binary64 x x)) (one-times x f)
 
-  power-0 : powerF x 0 ≡ oneF
+  pub power-4 : powerF x 4 ≡ mul binary64 (mul binary64 x x) (mul binary64 x x)
+  unfolding powerF powerFrom powerTurns
+  power-4 = one-times (mul binary64 (mul binary64 x x) (mul binary64 x x)) (mul-fits binary64 (mul binary64 x x) (mul binary64 x x))
+
+  pub power-0 : powerF x 0 ≡ oneF
   unfolding powerF powerFrom powerTurns
   power-0 = refl
 

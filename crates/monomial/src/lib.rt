@@ -1,4 +1,5 @@
 // The fitted value, and the 272 sums that a fit is solved from: A[i][j] at 16i + j, g[i] at 256 + i.
+use basis::Basis;
 use basis::CoefficientCount;
 ghost use mathlib.Core.Path.{_≡_};
 ghost use mathlib.Core.List.{_++_};
@@ -9,6 +10,7 @@ ghost use Rattle.loops.specs.Places.{each, table};
 ghost use Rattle.value.specs.Numbers.{zeroF};
 ghost use Rattle.value.specs.Power.{powerF};
 ghost use Rattle.monomial.specs.Samples.{samplesOf};
+ghost use Rattle.monomial.specs.Terms.{surfaceTerms, termsAt};
 ghost use Rattle.monomial.specs.Rows.{rowOf, rowsOf, fitted as fittedF};
 ghost use Rattle.monomial.specs.Sums.{productOf, addRow, sumsOf};
 
@@ -50,8 +52,8 @@ fn fitted_low(k: CoefficientCount, c: &[f64; 16], x: f64) -> f64
     v2 + c[3] * (x * x2)
 }
 
-// The fitted value at x.
-pub fn fitted_at(k: CoefficientCount, c: &[f64; 16], x: f64) -> f64
+// The fitted value of a curve at x.
+pub fn curve_at(k: CoefficientCount, c: &[f64; 16], x: f64) -> f64
     requires { ⌜ k .0 ≤ 16 ⌝ }
     ensures { λ r. ⌜ r ≡ fittedF (k .0) (now (c .entry)) (table (powerF x) 16) ⌝ }
 {
@@ -60,6 +62,66 @@ pub fn fitted_at(k: CoefficientCount, c: &[f64; 16], x: f64) -> f64
     }
     let terms = value::powers(x);
     fitted(k, c, &terms)
+}
+
+// A surface's 15 term values, and +0.
+fn surface_terms(x: f64, z: f64) -> [f64; 16]
+    ensures { λ r. ⌜ r ≡ surfaceTerms x z ⌝ }
+{
+    let x2 = x * x;
+    let x3 = x * x2;
+    let x4 = x2 * x2;
+    let z2 = z * z;
+    let z3 = z * z2;
+    let z4 = z2 * z2;
+    [
+        1.0,
+        x * 1.0,
+        1.0 * z,
+        x2 * 1.0,
+        x * z,
+        1.0 * z2,
+        x3 * 1.0,
+        x2 * z,
+        x * z2,
+        1.0 * z3,
+        x4 * 1.0,
+        x3 * z,
+        x2 * z2,
+        x * z3,
+        1.0 * z4,
+        0.0,
+    ]
+}
+
+// The term values at x and z.
+pub fn terms_at(basis: Basis, x: f64, z: f64) -> [f64; 16]
+    ensures { λ r. ⌜ r ≡ termsAt basis x z ⌝ }
+{
+    match basis {
+        Basis::Curve => value::powers(x),
+        Basis::Surface => surface_terms(x, z),
+    }
+}
+
+// The fitted value of a surface at x and z.
+pub fn surface_at(k: CoefficientCount, c: &[f64; 16], x: f64, z: f64) -> f64
+    requires { ⌜ k .0 ≤ 16 ⌝ }
+    ensures { λ r. ⌜ r ≡ fittedF (k .0) (now (c .entry)) (surfaceTerms x z) ⌝ }
+{
+    let terms = surface_terms(x, z);
+    fitted(k, c, &terms)
+}
+
+// The fitted value at x and z.
+pub fn fitted_at(basis: Basis, k: CoefficientCount, c: &[f64; 16], x: f64, z: f64) -> f64
+    requires { ⌜ k .0 ≤ 16 ⌝ }
+    ensures { λ r. ⌜ r ≡ fittedF (k .0) (now (c .entry)) (termsAt basis x z) ⌝ }
+{
+    match basis {
+        Basis::Curve => curve_at(k, c, x),
+        Basis::Surface => surface_at(k, c, x, z),
+    }
 }
 
 // Adds the products of two term values to the 256 places of A.

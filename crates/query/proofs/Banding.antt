@@ -10,6 +10,8 @@ use Rattle.statistics.specs.Variances.{stddevAndMean}
 use Rattle.statistics.specs.declared.Confidence.{Confidence}
 use Rattle.statistics.specs.declared.StddevAndMean.{StddevAndMean}
 use Rattle.statistics.specs.declared.Tolerance.{Tolerance}
+use Rattle.basis.specs.Counts.{countOf}
+use Rattle.basis.specs.declared.Basis.the-variants.{Curve}
 use Rattle.monomial.specs.Samples.{Sample}
 use Rattle.monomial.specs.Rows.{rowsOf}
 use Rattle.solve.specs.Solve.{solve}
@@ -35,16 +37,16 @@ band-through q past r s s′ e f = rw e f
 module _ (n : ℕ) (x : Float) (degree : ℕ) (confidence : Confidence) (tolerance : Tolerance) (samples : List Sample) (sums s s′ : List Float)
     (es : s′ ≡ over (zeros n) s) where
   -- by 10 or 12
-  pub band-late : (r : ℕ) → r ≡ measureRefusal sums (rowsOf samples) (degree + 1) → (r ≡ 0 → ⊥)
+  pub band-late : (r : ℕ) → r ≡ measureRefusal sums (rowsOf samples) (countOf Curve degree) → (r ≡ 0 → ⊥)
       → BandIs (bandPast n x degree confidence tolerance samples sums) (answers.Refused r) s s′
   unfolding bandPast
   band-late zero e h = absurd (h refl)
   band-late (suc k) e h = rw (← e) (record { answer = refl; scratch = es })
 
   -- from coefficients c, their covariance v, the z score and the spread of all y's
-  pub band-made : 0 ≡ measureRefusal sums (rowsOf samples) (degree + 1) → (c v : List Float) (z : Float) (w : StddevAndMean) (b : Band)
-      → c ≡ solve sums (degree + 1) .c → v ≡ covarianceAt sums (rowsOf samples) (degree + 1) → z ≡ zScore confidence → w ≡ stddevAndMean (ysOf samples)
-      → b ≡ bandAt (degree + 1) c v tolerance z (w .stddev) (table (powerF x) 16)
+  pub band-made : 0 ≡ measureRefusal sums (rowsOf samples) (countOf Curve degree) → (c v : List Float) (z : Float) (w : StddevAndMean) (b : Band)
+      → c ≡ solve sums (countOf Curve degree) .c → v ≡ covarianceAt sums (rowsOf samples) (countOf Curve degree) → z ≡ zScore confidence → w ≡ stddevAndMean (ysOf samples)
+      → b ≡ bandAt (countOf Curve degree) c v tolerance z (w .stddev) (table (powerF x) 16)
       → BandIs (bandPast n x degree confidence tolerance samples sums) (answers.Band b) s s′
   unfolding bandPast bandOn
   band-made e c v z w b ec ev ez ew eb = rw (← e, eb, ec, ev, ez, ew) (record { answer = refl; scratch = es })

@@ -7,6 +7,8 @@ use lib.Ieee.{Float}
 use Rattle.loops.specs.Within.{Within}
 use Rattle.basis.specs.declared.OptionDegree.{OptionDegree}
 use Rattle.basis.specs.declared.OptionDegree.the-variants.{Some, None}
+use Rattle.basis.specs.Counts.{countOf}
+use Rattle.basis.specs.declared.Basis.the-variants.{Curve}
 use Rattle.monomial.specs.Samples.{Sample}
 use Rattle.monomial.specs.Rows.{rowsOf}
 use Rattle.solve.specs.Solve.{solve}
@@ -27,11 +29,11 @@ pub let-through : (q : ℕ) (past : FitOut) (r : FitAnswer) (s s′ c c′ : Lis
 let-through q past r s s′ c c′ e f = rw e f
 
 module _ (n degree : ℕ) (samples : List Sample) (sums s s′ c : List Float) (es : s′ ≡ over (zeros n) s) where
-  pub fit-unsolved : isSolved sums (rowsOf samples) (degree + 1) ≡ false → FitIs (fitPast n degree samples sums) (answers.Refused 10) s s′ c c
+  pub fit-unsolved : isSolved sums (rowsOf samples) (countOf Curve degree) ≡ false → FitIs (fitPast n degree samples sums) (answers.Refused 10) s s′ c c
   unfolding fitPast
   fit-unsolved h = rw h (record { answer = refl; scratch = es; coefficients = refl })
 
-  pub fit-solved : isSolved sums (rowsOf samples) (degree + 1) ≡ true → (c′ : List Float) → c′ ≡ over (solve sums (degree + 1) .c) c
+  pub fit-solved : isSolved sums (rowsOf samples) (countOf Curve degree) ≡ true → (c′ : List Float) → c′ ≡ over (solve sums (countOf Curve degree) .c) c
       → FitIs (fitPast n degree samples sums) (answers.Fit (record { 0 = degree })) s s′ c c′
   unfolding fitPast
   fit-solved h c′ ec = rw h (record { answer = refl; scratch = es; coefficients = ec })

@@ -11,6 +11,8 @@ use Rattle.statistics.specs.Scores.{zScore}
 use Rattle.statistics.specs.Variances.{stddevAndMean}
 use Rattle.statistics.specs.declared.Confidence.{Confidence}
 use Rattle.statistics.specs.declared.Tolerance.{Tolerance}
+use Rattle.basis.specs.Counts.{countOf}
+use Rattle.basis.specs.declared.Basis.the-variants.{Curve}
 use Rattle.monomial.specs.Samples.{Sample, samplesOf}
 use Rattle.monomial.specs.Rows.{rowsOf}
 use Rattle.solve.specs.Solve.{solve}
@@ -43,13 +45,13 @@ bandRefused r = record { answer = answers.Refused r; scratch = [] }
 -- the band at x of the curve of this degree: z is the z score, sd that of all y's
 unfoldable pub bandOn : Float → ℕ → Confidence → Tolerance → List Sample → List Float → Band
 bandOn x degree confidence tolerance samples sums =
-    bandAt (degree + 1) (solve sums (degree + 1) .c) (covarianceAt sums (rowsOf samples) (degree + 1)) tolerance (zScore confidence)
+    bandAt (countOf Curve degree) (solve sums (countOf Curve degree) .c) (covarianceAt sums (rowsOf samples) (countOf Curve degree)) tolerance (zScore confidence)
     (stddevAndMean (ysOf samples) .stddev) (table (powerF x) 16)
 
 -- past refusals 1 to 9: 10 if the asked degree is unsolved, 12 if an inverse pivot fails, else the band
 unfoldable pub bandPast : ℕ → Float → ℕ → Confidence → Tolerance → List Sample → List Float → BandOut
 bandPast n x degree confidence tolerance samples sums =
-    let r = measureRefusal sums (rowsOf samples) (degree + 1) in
+    let r = measureRefusal sums (rowsOf samples) (countOf Curve degree) in
     record { answer = settle r (answers.Band (bandOn x degree confidence tolerance samples sums)) (answers.Refused r); scratch = zeros n }
 
 -- a band of a book of n samples with these sums, columns, sums and scratch of these lengths

@@ -10,6 +10,8 @@ use Rattle.basis.specs.declared.OptionDegree.{OptionDegree}
 use Rattle.basis.specs.declared.OptionDegree.the-variants.{Some, None}
 use Rattle.statistics.specs.Degrees.{maxDegree}
 use Rattle.statistics.specs.declared.DegreeBound.{DegreeBound}
+use Rattle.basis.specs.Counts.{countOf}
+use Rattle.basis.specs.declared.Basis.the-variants.{Curve}
 use Rattle.monomial.specs.Samples.{Sample, samplesOf}
 use Rattle.monomial.specs.Rows.{rowsOf}
 use Rattle.solve.specs.Solve.{solve}
@@ -41,8 +43,8 @@ fitRefused r = record { answer = answers.Refused r; scratch = []; coefficients =
 -- past refusals 1 to 9: 10 if the asked degree is unsolved, else the degree and its 16 coefficients, +0 from k on
 unfoldable pub fitPast : ℕ → ℕ → List Sample → List Float → FitOut
 fitPast n degree samples sums =
-    cond (isSolved sums (rowsOf samples) (degree + 1))
-    (record { answer = answers.Fit (record { 0 = degree }); scratch = zeros n; coefficients = solve sums (degree + 1) .c })
+    cond (isSolved sums (rowsOf samples) (countOf Curve degree))
+    (record { answer = answers.Fit (record { 0 = degree }); scratch = zeros n; coefficients = solve sums (countOf Curve degree) .c })
     (record { answer = answers.Refused 10; scratch = zeros n; coefficients = [] })
 
 -- a fit of a book of n samples with these sums, columns, sums, scratch and coefficients of these lengths
@@ -82,9 +84,9 @@ pub record FitIs (o : FitOut) (r : FitAnswer) (s s′ c c′ : List Float) : Typ
 -- Every fit or validation that passes refusals 1 to 9 leaves scratch's first n places +0.
 pub past-scratch : (n degree : ℕ) (samples : List Sample) (sums : List Float) → fitPast n degree samples sums .scratch ≡ zeros n
 unfolding fitPast
-past-scratch n degree samples sums = go (isSolved sums (rowsOf samples) (degree + 1)) refl
+past-scratch n degree samples sums = go (isSolved sums (rowsOf samples) (countOf Curve degree)) refl
   where
-    go : (t : Bool) → isSolved sums (rowsOf samples) (degree + 1) ≡ t → fitPast n degree samples sums .scratch ≡ zeros n
+    go : (t : Bool) → isSolved sums (rowsOf samples) (countOf Curve degree) ≡ t → fitPast n degree samples sums .scratch ≡ zeros n
     go true h = rw h
     go false h = rw h
 
@@ -92,9 +94,9 @@ past-scratch n degree samples sums = go (isSolved sums (rowsOf samples) (degree 
 
 fit-past-number : (n degree : ℕ) (samples : List Sample) (sums : List Float) → List·Memᴰ (fitNumber (fitPast n degree samples sums .answer)) (0 ∷ 10 ∷ [])
 unfolding fitPast
-fit-past-number n degree samples sums = go (isSolved sums (rowsOf samples) (degree + 1)) refl
+fit-past-number n degree samples sums = go (isSolved sums (rowsOf samples) (countOf Curve degree)) refl
   where
-    go : (t : Bool) → isSolved sums (rowsOf samples) (degree + 1) ≡ t → List·Memᴰ (fitNumber (fitPast n degree samples sums .answer)) (0 ∷ 10 ∷ [])
+    go : (t : Bool) → isSolved sums (rowsOf samples) (countOf Curve degree) ≡ t → List·Memᴰ (fitNumber (fitPast n degree samples sums .answer)) (0 ∷ 10 ∷ [])
     go true h = rw h (List·Memᴰ·head refl)
     go false h = rw h (List·Memᴰ·tail (List·Memᴰ·head refl))
 

@@ -2,7 +2,7 @@
 // says.
 mod refusals;
 
-use basis::CoefficientCount;
+use basis::Basis;
 use basis::Degree;
 use basis::OptionDegree;
 use book::Book;
@@ -42,8 +42,8 @@ fn solve_at(
     requires { ⌜ (n ≤ length (now xs)) × (n ≤ length (now ys)) × (n ≤ length (now scratch)) × (272 ≤ length (now sums)) × (16 ≤ length (now coefficients)) × (degree .0 ≤ 15) ⌝ }
     ensures { λ r. ⌜ FitIs (fitPast n (degree .0) (samplesOf n (now (xs .entry)) (now (ys .entry))) (take 272 (now (sums .entry)))) r (now (scratch .entry)) (now (scratch .exit)) (now (coefficients .entry)) (now (coefficients .exit)) ⌝ }
 {
-    let k = CoefficientCount(degree.0 + 1);
-    let s = fit::attempt(xs, ys, n, &sums[..272], k, &mut *scratch);
+    let k = degree.k(Basis::Curve);
+    let s = fit::attempt(Basis::Curve, xs, xs, ys, n, &sums[..272], k, &mut *scratch);
     measure::clear(&mut *scratch, n);
     if !s.solved {
         return FitAnswer::Refused(10);
@@ -147,8 +147,8 @@ pub fn band(
     if refusal != 0 {
         return BandAnswer::Refused(refusal);
     }
-    let k = CoefficientCount(degree.0 + 1);
-    let m = measure::measure(xs, ys, n, &sums[..272], k, &mut *scratch);
+    let k = degree.k(Basis::Curve);
+    let m = measure::measure(Basis::Curve, xs, xs, ys, n, &sums[..272], k, &mut *scratch);
     measure::clear(scratch, n);
     if m.number != 0 {
         return BandAnswer::Refused(m.number);
@@ -157,5 +157,15 @@ pub fn band(
     let v = m.covariance;
     let z = statistics::z_score(confidence);
     let spread = statistics::stddev_and_mean(ys, n);
-    BandAnswer::Band(covariance::band_at(k, &c, &v, tolerance, z, spread.stddev, x))
+    BandAnswer::Band(covariance::band_at(
+        Basis::Curve,
+        k,
+        &c,
+        &v,
+        tolerance,
+        z,
+        spread.stddev,
+        x,
+        x,
+    ))
 }

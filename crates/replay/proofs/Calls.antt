@@ -7,7 +7,7 @@ use lib.ListN.{length, take, drop}
 use lib.Ieee.{Float}
 use Rattle.book.specs.declared.Answer.{Answer}
 use Rattle.book.specs.declared.Answer.the-variants as answers
-use Rattle.book.specs.Calls.{Is, State, stateOf, bookAfter, addOut, correctOut, withdrawOut}
+use Rattle.book.specs.Calls.{columnsOf, columns-are, Is, State, stateOf, bookAfter, addOut, correctOut, withdrawOut}
 use Rattle.report.specs.declared.Settings.{Settings}
 use Rattle.report.specs.declared.Places.{Places}
 use Rattle.report.specs.declared.ReportAnswer.{ReportAnswer}
@@ -49,24 +49,26 @@ module _ (s : State) (c : Change) (r : Answer) (d : Done) (a b t : List Float) w
   changed h e =
       let n = ap (λ (z : Done). z .count) e ∙ settled-count (s .count) r ∙ ap (bookAfter (s .count)) (h .answer) in
       record {
-        state = λ i. record { count = n i; xs = h .xs i; ys = h .ys i; sums = h .sums i };
+        state =
+            (λ i. stateOf (n i) (h .xs i) (h .ys i) (h .sums i))
+            ∙ (λ i. record { count = bookAfter (s .count) (outOf s c .answer); columns = columns-are (outOf s c .columns) i; sums = outOf s c .sums });
         results = ap resultsIn e ∙ settled-results (s .count) r ∙ ap (λ z. resultsOf (said z)) (h .answer);
       }
 
 -- by its kind
 module _ (kind i : ℕ) (x y : Float) (settings : Settings) (places : Places) (n : ℕ) (xs ys sums : List Float) where
   module _ (r : Answer) (d : Done) (a b t : List Float) (e : d ≡ settled n r) where
-    pub change-adds : kind ≡ 0 → Is (addOut n (record { x = x; y = y }) xs ys sums) r a b t
+    pub change-adds : kind ≡ 0 → Is (addOut n (record { x = x; y = y }) (columnsOf xs ys) sums) r a b t
         → Changed (stateOf n xs ys sums) (callOf kind i x y settings places) d a b t
     unfolding callOf outOf
     change-adds q h = rw q (changed (stateOf n xs ys sums) (adds (record { x = x; y = y })) r d a b t h e)
 
-    pub change-corrects : kind ≡ 1 → Is (correctOut n i y xs ys sums) r a b t
+    pub change-corrects : kind ≡ 1 → Is (correctOut n i y (columnsOf xs ys) sums) r a b t
         → Changed (stateOf n xs ys sums) (callOf kind i x y settings places) d a b t
     unfolding callOf outOf
     change-corrects q h = rw q (changed (stateOf n xs ys sums) (corrects i y) r d a b t h e)
 
-    pub change-withdraws : kind < 3 → (kind ≡ 0 → ⊥) → (kind ≡ 1 → ⊥) → Is (withdrawOut n i xs ys sums) r a b t
+    pub change-withdraws : kind < 3 → (kind ≡ 0 → ⊥) → (kind ≡ 1 → ⊥) → Is (withdrawOut n i (columnsOf xs ys) sums) r a b t
         → Changed (stateOf n xs ys sums) (callOf kind i x y settings places) d a b t
     unfolding callOf outOf
     change-withdraws l q₀ q₁ h =

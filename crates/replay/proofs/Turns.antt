@@ -8,16 +8,17 @@ use native.Mathlib.Omega.{arith}
 use borrow.Author.Tests.{le-ltb}
 use lib.ListN.{length, getD, take, drop}
 use lib.Ieee.{Float, nan}
-use Rattle.loops.specs.Places.{table, table-again, length-table}
+use Rattle.loops.specs.Fold.{fold, fold-table}
+use Rattle.loops.specs.Places.{table, length-table}
+use Rattle.runs.specs.Runs.{replies as repliesOf, length-replies, replies-table}
 use Rattle.measure.specs.Written.{over}
 use Rattle.book.specs.declared.Answer.{Answer}
 use Rattle.book.specs.Refusals.{firstOf, openRefusal}
-use Rattle.book.specs.Calls.{Is, State, stateOf, bookOf, bookAfter, openOut}
+use Rattle.book.specs.Calls.{ofX, ofY, Is, State, stateOf, bookOf, bookAfter, openOut}
 use Rattle.report.specs.declared.Settings.{Settings}
 use Rattle.report.specs.declared.Places.{Places}
 use Rattle.report.specs.Reports.{reportOut}
-use Rattle.ledger.specs.Ledger.{Call, Reply, Reading, next, reply, final, replies, opened}
-use Rattle.ledger.specs.Laws.{final-append, replies-append}
+use Rattle.ledger.specs.Ledger.{Call, Reply, next, reply, program, final, replies, opened}
 use Rattle.ledger.specs.Questions.{Question, Told, readOn}
 use Rattle.ledger.proofs.Book.{whole-book}
 use Rattle.replay.specs.declared.Done.{Done}
@@ -81,20 +82,6 @@ module _ (kinds words : List ℕ) (numbers : List Float) (width k n : ℕ) (m : 
 
 -- ---- the calls so far
 
-length-replies : {R W : Type 0} (f : Reading R W) (s : State) (cs : List (Call R)) → length (replies f s cs) ≡ length cs
-unfolding replies
-length-replies f s [] = refl
-length-replies f s (c ∷ cs) = ap suc (length-replies f (next s c) cs)
-
-final-more : (s₀ : State) (g : ℕ → Call Question) (k : ℕ) → final s₀ (table g (k + 1)) ≡ next (final s₀ (table g k)) (g k)
-unfolding final
-final-more s₀ g k = ap (final s₀) (table-again g k) ∙ final-append s₀ (table g k) (g k ∷ [])
-
-replies-more : (s₀ : State) (g : ℕ → Call Question) (k : ℕ)
-    → replies readOn s₀ (table g (k + 1)) ≡ replies readOn s₀ (table g k) ++ (reply readOn (final s₀ (table g k)) (g k) ∷ [])
-unfolding replies
-replies-more s₀ g k = ap (replies readOn s₀) (table-again g k) ∙ replies-append readOn s₀ (table g k) (g k ∷ [])
-
 -- a buffer b that holds what the first k calls write gets what the next one writes
 written-more : {A : Type 0} (width : ℕ) (f : Reply Told → List A) (s₀ s : State) (g : ℕ → Call Question) (k : ℕ) → s ≡ final s₀ (table g k) → (b₀ b b′ : List A)
     → b ≡ writeAll width f 0 (replies readOn s₀ (table g k)) b₀ → b′ ≡ overAt (width * k) (f (reply readOn s (g k))) b
@@ -102,13 +89,13 @@ written-more : {A : Type 0} (width : ℕ) (f : Reply Told → List A) (s₀ s : 
 written-more width f s₀ s g k q b₀ b b′ e h =
     let rs = replies readOn s₀ (table g k) in
     let r = reply readOn (final s₀ (table g k)) (g k) in
-    let at : k ≡ 0 + length rs = sym (zero-add (length rs) ∙ length-replies readOn s₀ (table g k) ∙ length-table g k) in
+    let at : k ≡ 0 + length rs = sym (zero-add (length rs) ∙ length-replies (program readOn) s₀ (table g k) ∙ length-table g k) in
     h
     ∙ ap (λ z. overAt (width * k) (f (reply readOn z (g k))) b) q
     ∙ ap (λ l. overAt (width * k) (f r) l) e
     ∙ ap (λ i. overAt (width * i) (f r) (writeAll width f 0 rs b₀)) at
     ∙ sym (write-snoc width f 0 rs r b₀)
-    ∙ ap (λ l. writeAll width f 0 l b₀) (sym (replies-more s₀ g k))
+    ∙ ap (λ l. writeAll width f 0 l b₀) (sym (replies-table (program readOn) s₀ g k))
 
 -- lent memory keeps its lengths
 pub record Same (m m′ : Memory) : Type 0 where
@@ -160,7 +147,7 @@ pub record Upto (kinds words : List ℕ) (numbers : List Float) (width : ℕ) (s
 
 module _ (kinds words : List ℕ) (numbers : List Float) (width : ℕ) where
   pub none : (n : ℕ) (m : Memory) → Upto kinds words numbers width (stateOf n (m .xs) (m .ys) (m .sums)) m n m 0
-  unfolding table final replies writeAll
+  unfolding table fold repliesOf writeAll
   none n m =
       record {
         upto = omega arith;
@@ -200,7 +187,7 @@ module _ (kinds words : List ℕ) (numbers : List Float) (width : ℕ) where
               upper = l .upper ∙ q .upper;
               outliers = l .outliers ∙ q .outliers;
             };
-        state = t .state ∙ ap (λ z. next z (g k)) (u .state) ∙ sym (final-more s₀ g k);
+        state = t .state ∙ ap (λ z. next z (g k)) (u .state) ∙ sym (fold-table next s₀ g k);
         results = written-more 5 resultsOf s₀ s g k (u .state) (m₀ .results) (m .results) (m′ .results) (u .results) (t .results);
         scratch = written-more width scratchOf s₀ s g k (u .state) (m₀ .scratch) (m .scratch) (m′ .scratch) (u .scratch) (w .scratch);
         coefficients =
@@ -230,8 +217,8 @@ module _ (kinds words : List ℕ) (numbers : List Float) (width : ℕ) (m : Memo
       record {
         whole = whole;
         book = ap (λ (z : State). z .count) (u .state) ∙ whole .agrees .book;
-        xs = ap (λ (z : State). z .xs) (u .state);
-        ys = ap (λ (z : State). z .ys) (u .state);
+        xs = ap (λ (z : State). z .columns ofX) (u .state);
+        ys = ap (λ (z : State). z .columns ofY) (u .state);
         sums = ap (λ (z : State). z .sums) (u .state);
         results = u .results ∙ ap (λ rs. writeAll 5 resultsOf 0 rs (m .results)) e;
         scratch = u .scratch ∙ ap (λ rs. writeAll width scratchOf 0 rs (m .scratch)) e;

@@ -6,6 +6,7 @@ use Prim.Native.Nat.{ℕ, _+_, _*_}
 use lib.ListN.{length, take, drop}
 use lib.Ieee.{Float}
 use Rattle.book.specs.declared.Answer.the-variants as answers
+use Rattle.book.specs.Calls.{ofX, ofY}
 use Rattle.measure.specs.Written.{over}
 use Rattle.report.specs.declared.ReportAnswer.{ReportAnswer}
 use Rattle.report.specs.declared.ReportAnswer.the-variants as reports
@@ -76,8 +77,8 @@ pub record Ran (cs : List (Call Question)) (width n : ℕ) (m m′ : Memory) : T
   -- demand 3 of these calls: columns and sums below are the plain ledger's
   pub whole : WholeBook (m .xs) (m .ys) (m .sums) cs
   pub book : n ≡ length (ledgerEnd (lentOf (m .xs) (m .ys) (m .sums)) [] cs)
-  pub xs : m′ .xs ≡ final (opened (m .xs) (m .ys) (m .sums)) cs .xs
-  pub ys : m′ .ys ≡ final (opened (m .xs) (m .ys) (m .sums)) cs .ys
+  pub xs : m′ .xs ≡ final (opened (m .xs) (m .ys) (m .sums)) cs .columns ofX
+  pub ys : m′ .ys ≡ final (opened (m .xs) (m .ys) (m .sums)) cs .columns ofY
   pub sums : m′ .sums ≡ final (opened (m .xs) (m .ys) (m .sums)) cs .sums
   -- and all that is recorded is what the plain ledger replies
   pub results : m′ .results ≡ writeAll 5 resultsOf 0 (ledgerReplies readOn (lentOf (m .xs) (m .ys) (m .sums)) [] cs) (m .results)

@@ -6,6 +6,8 @@ use Prim.Native.Nat.{ℕ, _+_, _≤_, _<_}
 use native.Mathlib.Omega.{arith}
 use lib.Ieee.{Float}
 use Rattle.loops.specs.Within.{Within, within-then}
+use Rattle.basis.specs.Counts.{countOf}
+use Rattle.basis.specs.declared.Basis.the-variants.{Curve}
 use Rattle.basis.specs.declared.Degree.{Degree}
 use Rattle.basis.specs.declared.OptionDegree.{OptionDegree}
 use Rattle.basis.specs.declared.OptionDegree.the-variants.{Some, None}
@@ -13,7 +15,7 @@ use Rattle.statistics.specs.Degrees.{maxDegree, max-degree-below}
 use Rattle.monomial.specs.Samples.{Sample}
 use Rattle.monomial.specs.Rows.{rowsOf}
 use Rattle.fit.specs.Solved.{isSolved}
-use Rattle.fit.specs.Chosen.{choiceOf, curveCounts}
+use Rattle.fit.specs.Chosen.{choiceOf, countsOf}
 use Rattle.fit.specs.declared.Choice.{Choice}
 use Rattle.book.specs.Refusals.{firstOf}
 use Rattle.measure.specs.Measures.{Measures, measureRefusal, inverseFails}
@@ -30,11 +32,11 @@ measured-solved sums samples k h = rw h
 
 -- r is what the code chooses, with the bound m
 module _ (n : ℕ) (settings : Settings) (samples : List Sample) (sums : List Float) (r : Choice) (m : ℕ) (bound : m ≡ maxDegree (settings .bound) n)
-    (found : r ≡ choiceOf (settings .criterion) sums (rowsOf samples) (curveCounts m)) where
+    (found : r ≡ choiceOf (settings .criterion) sums (rowsOf samples) (countsOf Curve m)) where
   -- it is the report's choice
   choice-is : r ≡ reportChoice n settings samples sums
   unfolding reportChoice
-  choice-is = found ∙ ap (λ b. choiceOf (settings .criterion) sums (rowsOf samples) (curveCounts b)) bound
+  choice-is = found ∙ ap (λ b. choiceOf (settings .criterion) sums (rowsOf samples) (countsOf Curve b)) bound
 
   chosen-is : (o : OptionDegree) → r .chosen ≡ o → reportChoice n settings samples sums .chosen ≡ o
   chosen-is o h = ap (λ (c : Choice). c .chosen) (sym choice-is) ∙ h
@@ -43,12 +45,12 @@ module _ (n : ℕ) (settings : Settings) (samples : List Sample) (sums : List Fl
   unfolding chosenRefusal
   none-number h = rw (chosen-is None h) refl
 
-  some-number : (d : Degree) → r .chosen ≡ Some d → (k : ℕ) → k ≡ measureRefusal sums (rowsOf samples) (d .0 + 1)
+  some-number : (d : Degree) → r .chosen ≡ Some d → (k : ℕ) → k ≡ measureRefusal sums (rowsOf samples) (countOf Curve (d .0))
       → k ≡ chosenRefusal (reportChoice n settings samples sums .chosen) sums
   unfolding chosenRefusal
   some-number d h k q =
       let o = chosen-is (Some d) h in
-      rw o (q ∙ measured-solved sums samples (d .0 + 1) (chosen-solved n settings samples sums d o .1))
+      rw o (q ∙ measured-solved sums samples (countOf Curve (d .0)) (chosen-solved n settings samples sums d o .1))
 
   -- no degree is chosen
   pub chooses-none : r .chosen ≡ None → (d : Degree) (c v s t : List Float) → Within n s t
@@ -65,7 +67,7 @@ module _ (n : ℕ) (settings : Settings) (samples : List Sample) (sums : List Fl
 
   -- d is chosen, and measured
   pub chooses-some : (d : Degree) → r .chosen ≡ Some d → (a : Measured) (s t u : List Float) → Within n s t
-      → Measures sums (rowsOf samples) (d .0 + 1) n t u a
+      → Measures sums (rowsOf samples) (countOf Curve (d .0)) n t u a
       → Chooses n settings samples sums s u (record { number = a .number; degree = d; solved = r .solved; c = a .c; covariance = a .covariance })
   chooses-some d h a s t u w q =
       record {

@@ -6,6 +6,8 @@ use Prim.Native.Nat.{ℕ, zero, suc, _+_}
 use native.Mathlib.Omega.{arith}
 use lib.ListN.{length, take, drop}
 use lib.Ieee.{Float}
+use Rattle.basis.specs.Counts.{countOf}
+use Rattle.basis.specs.declared.Basis.the-variants.{Curve}
 use Rattle.basis.specs.declared.OptionDegree.{OptionDegree}
 use Rattle.basis.specs.declared.OptionDegree.the-variants.{Some, None}
 use Rattle.basis.specs.declared.Degree.{Degree}
@@ -28,16 +30,16 @@ module _ (n : ℕ) (settings : Settings) (samples : List Sample) (sums : List Fl
   told-refused : (o : OptionDegree) (r : ℕ) → r ≡ chosenRefusal o sums → (r ≡ 0 → ⊥) → reportOf n settings samples sums solved o ≡ told r
   unfolding reportOf chosenRefusal
   told-refused None r e h = ap told (sym e)
-  told-refused (Some d) r e h = go (inverseFails sums (d .0 + 1)) _ e
+  told-refused (Some d) r e h = go (inverseFails sums (countOf Curve (d .0))) _ e
     where
       go : (t : Bool) (w : Told) → r ≡ cond t 12 0 → cond t (told 12) w ≡ told r
       go true w q = ap told (sym q)
       go false w q = absurd (h q)
 
   told-whole : (d : Degree) → chosenRefusal (Some d) sums ≡ 0
-      → reportOf n settings samples sums solved (Some d) ≡ writtenBy n settings samples (d .0) solved (solve sums (d .0 + 1) .c) (covarianceAt sums (rowsOf samples) (d .0 + 1))
+      → reportOf n settings samples sums solved (Some d) ≡ writtenBy n settings samples (d .0) solved (solve sums (countOf Curve (d .0)) .c) (covarianceAt sums (rowsOf samples) (countOf Curve (d .0)))
   unfolding reportOf chosenRefusal
-  told-whole d e = go (inverseFails sums (d .0 + 1)) _ e
+  told-whole d e = go (inverseFails sums (countOf Curve (d .0))) _ e
     where
       go : (t : Bool) (w : Told) → _≡_ {A = ℕ} (cond t 12 0) 0 → cond t (told 12) w ≡ w
       go true w q = absurd (omega arith)

@@ -5,6 +5,8 @@ use mathlib.Core.List.{List, [], _∷_, List·Memᴰ, List·Memᴰ·head, Memᴰ
 use Prim.Native.Nat.{ℕ, _+_}
 use lib.ListN.{length, take}
 use lib.Ieee.{Float}
+use Rattle.basis.specs.Counts.{countOf}
+use Rattle.basis.specs.declared.Basis.the-variants.{Curve}
 use Rattle.basis.specs.declared.OptionDegree.{OptionDegree}
 use Rattle.basis.specs.declared.OptionDegree.the-variants.{Some, None}
 use Rattle.statistics.specs.Scores.{zScore, tScore}
@@ -61,7 +63,7 @@ pub record Told : Type 0 where
 -- unpruned coefficients and the z score; pruning uses the t score at n − k degrees of freedom. c are the coefficients, v their covariance.
 unfoldable pub writtenBy : ℕ → Settings → List Sample → ℕ → ℕ → List Float → List Float → Told
 writtenBy n settings samples degree solved c v =
-    let k = degree + 1 in
+    let k = countOf Curve degree in
     let e = errorsOf k v in
     let z = zScore (settings .confidence) in
     let sd = stddevAndMean (ysOf samples) .stddev in
@@ -88,7 +90,7 @@ told r = record { answer = answers.Refused r; written = nothing }
 unfoldable pub reportOf : ℕ → Settings → List Sample → List Float → ℕ → OptionDegree → Told
 reportOf n settings samples sums solved None = told 11
 reportOf n settings samples sums solved (Some d) =
-    let k = d .0 + 1 in
+    let k = countOf Curve (d .0) in
     cond (inverseFails sums k) (told 12) (writtenBy n settings samples (d .0) solved (solve sums k .c) (covarianceAt sums (rowsOf samples) k))
 
 unfoldable pub reportPast : ℕ → Settings → List Sample → List Float → ReportOut
@@ -128,7 +130,7 @@ report-past-number : (n : ℕ) (settings : Settings) (samples : List Sample) (su
     → List·Memᴰ (reportNumber (reportOf n settings samples sums solved o .answer)) (0 ∷ 1 ∷ 4 ∷ 7 ∷ 8 ∷ 11 ∷ 12 ∷ [])
 unfolding reportOf writtenBy
 report-past-number n settings samples sums solved None = Memᴰ·append-right (0 ∷ 1 ∷ 4 ∷ 7 ∷ 8 ∷ []) (List·Memᴰ·head refl)
-report-past-number n settings samples sums solved (Some d) = go (inverseFails sums (d .0 + 1)) _ refl
+report-past-number n settings samples sums solved (Some d) = go (inverseFails sums (countOf Curve (d .0))) _ refl
   where
     go : (t : Bool) (w : Told) → reportNumber (w .answer) ≡ 0 → List·Memᴰ (reportNumber (cond t (told 12) w .answer)) (0 ∷ 1 ∷ 4 ∷ 7 ∷ 8 ∷ 11 ∷ 12 ∷ [])
     go true w h = Memᴰ·append-right (0 ∷ 1 ∷ 4 ∷ 7 ∷ 8 ∷ 11 ∷ []) (List·Memᴰ·head refl)

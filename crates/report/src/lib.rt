@@ -2,7 +2,7 @@
 // count, length and content, to answer and to leave what document 01 says.
 mod refusals;
 
-use basis::CoefficientCount;
+use basis::Basis;
 use basis::Degree;
 use basis::OptionDegree;
 use book::Book;
@@ -71,7 +71,17 @@ fn choose(
     let bound = settings.bound;
     let criterion = settings.criterion;
     let most = statistics::max_degree(bound, n);
-    let choice = fit::choose(xs, ys, n, sums, most, criterion, &mut *scratch);
+    let choice = fit::choose(
+        Basis::Curve,
+        xs,
+        xs,
+        ys,
+        n,
+        sums,
+        most,
+        criterion,
+        &mut *scratch,
+    );
     let solved = choice.solved;
     let chosen = choice.chosen;
     match chosen {
@@ -83,8 +93,8 @@ fn choose(
             covariance: [0.0; 256],
         },
         OptionDegree::Some(degree) => {
-            let k = CoefficientCount(degree.0 + 1);
-            let m = measure::measure(xs, ys, n, sums, k, &mut *scratch);
+            let k = degree.k(Basis::Curve);
+            let m = measure::measure(Basis::Curve, xs, xs, ys, n, sums, k, &mut *scratch);
             let c = m.c;
             let covariance = m.covariance;
             Chosen {
@@ -119,7 +129,7 @@ fn write(
     requires { ⌜ (16 ≤ length (now coefficients)) × (16 ≤ length (now errors)) × (16 ≤ length (now pruned)) × (n ≤ length (now lower)) × (n ≤ length (now upper)) × (n ≤ length (now outliers)) ⌝ }
     ensures { λ r. ⌜ Writes (writtenBy n settings (samplesOf n (now (xs .entry)) (now (ys .entry))) (degree .0) solved c v) r (now (coefficients .entry)) (now (coefficients .exit)) (now (errors .entry)) (now (errors .exit)) (now (pruned .entry)) (now (pruned .exit)) (now (lower .entry)) (now (lower .exit)) (now (upper .entry)) (now (upper .exit)) (now (outliers .entry)) (now (outliers .exit)) ⌝ }
 {
-    let k = CoefficientCount(degree.0 + 1);
+    let k = degree.k(Basis::Curve);
     let df = n - k.0;
     let confidence = settings.confidence;
     let tolerance = settings.tolerance;
@@ -131,12 +141,14 @@ fn write(
     covariance::put_terms(e, errors);
     let terms = covariance::put_pruned(k, &c, &e, t, pruned);
     let marks = covariance::put_bands(
+        Basis::Curve,
         k,
         &c,
         &v,
         tolerance,
         z,
         spread.stddev,
+        xs,
         xs,
         ys,
         n,

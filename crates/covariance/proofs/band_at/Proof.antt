@@ -8,8 +8,8 @@ returns : tie.Need-returns
 unfolding bandAt
 returns c =
     let at-fitted = c .before .before .before .fitted in
-    let at-powers = c .before .before .before .before .before .powers in
-    rw (c .confidence-band .ensures, c .before .prediction-variance .ensures, at-fitted .ensures, at-powers .ensures)
+    let at-terms = c .before .before .before .before .before .terms-at in
+    rw (c .confidence-band .ensures, c .before .prediction-variance .ensures, at-fitted .ensures, at-terms .ensures)
 
 pub band-at-spec : {M : Type 1} → statement M
 band-at-spec =

@@ -1,12 +1,11 @@
 -- `fit::residual` meets its contract. Assumes nothing.
 use borrow.Author.Needs.{needs}
-use Rattle.monomial.specs.Rows.{rowOf}
 use Rattle.fit.specs.Residuals.{residual}
 use Rattle.fit.proofs.residual.Statement.{statement}
 use Rattle.fit.proofs.residual.Tie as tie
 
 returns : tie.Need-returns
-unfolding residual rowOf
+unfolding residual
 returns c = rw (c .fitted-at .ensures)
 
 pub residual-spec : {M : Type 1} → statement M

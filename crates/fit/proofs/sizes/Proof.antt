@@ -10,41 +10,40 @@ use Rattle.loops.specs.Fold.{fold, allOf, fold-table}
 use Rattle.loops.specs.Places.{each, each-again, table}
 use Rattle.value.specs.Finite.{finite}
 use Rattle.value.specs.Absolute.{absF}
-use Rattle.monomial.specs.Samples.{Sample, sampleAt, samplesOf}
-use Rattle.monomial.specs.Rows.{rowOf}
+use Rattle.monomial.specs.Rows.{Row, rowAt, rowsAt}
 use Rattle.fit.specs.Residuals.{residual, sizes-written, every-residual}
 use Rattle.fit.proofs.sizes.Statement.{statement}
 use Rattle.fit.proofs.sizes.Tie as tie
 
 abbrev Inv-loop : tie.InvT-loop
-Inv-loop xs ys n k c scratch₀ all₀ i₀ scratch all i =
-    (i ≤ n) × (length scratch ≡ length scratch₀) × (scratch ≡ each (λ t _. absF (residual (k .0) c (rowOf (sampleAt xs ys t)))) i scratch₀)
-    × (all ≡ allOf (λ (p : Sample). finite (residual (k .0) c (rowOf p))) (samplesOf i xs ys))
+Inv-loop basis xs zs ys n k c scratch₀ all₀ i₀ scratch all i =
+    (i ≤ n) × (length scratch ≡ length scratch₀) × (scratch ≡ each (λ t _. absF (residual (k .0) c (rowAt basis xs zs ys t))) i scratch₀)
+    × (all ≡ allOf (λ (r : Row). finite (residual (k .0) c r)) (rowsAt basis i xs zs ys))
 
 abbrev μ-loop : tie.MeasureT-loop
-μ-loop xs ys n k c scratch₀ all₀ i₀ scratch all i = n - i
+μ-loop basis xs zs ys n k c scratch₀ all₀ i₀ scratch all i = n - i
 
 loop-holds : tie.Need-loop-holds Inv-loop μ-loop
-unfolding each fold samplesOf table
+unfolding each fold rowsAt table
 loop-holds c = (search needs, refl, refl, refl)
 
 loop-again : tie.Need-loop-again Inv-loop μ-loop
-unfolding samplesOf
+unfolding rowsAt rowAt
 loop-again c =
-    let at-loop = c .before .before .before .before .before .before .loop in
-    let at-args = c .before .before .before .before .before .before .before .before .before .before .args in (
+    let at-loop = c .before .before .before .before .before .before .before .loop in
+    let at-args = c .before .before .before .before .before .before .before .before .before .before .before .before .args in (
       search needs,
       simp length-set (at-loop .inv .1),
-      rw (c .abs .ensures, c .before .before .residual .ensures, at-loop .inv .2) (each-again (λ t _. absF (residual (at-args .k .0) (at-args .c .now) (rowOf (sampleAt (at-args .xs .now) (at-args .ys .now) t)))) (at-loop .i) _ nan (search needs)),
-      rw (c .before .is-finite .ensures, c .before .before .residual .ensures, at-loop .inv .3) (sym (fold-table (λ b (p : Sample). b && finite (residual (at-args .k .0) (at-args .c .now) (rowOf p))) true (sampleAt (at-args .xs .now) (at-args .ys .now)) (at-loop .i))),
+      rw (c .abs .ensures, c .before .before .residual .ensures, at-loop .inv .2) (each-again (λ t _. absF (residual (at-args .k .0) (at-args .c .now) (rowAt (at-args .basis) (at-args .xs .now) (at-args .zs .now) (at-args .ys .now) t))) (at-loop .i) _ nan (search needs)),
+      rw (c .before .is-finite .ensures, c .before .before .residual .ensures, at-loop .inv .3) (sym (fold-table (λ b (r : Row). b && finite (residual (at-args .k .0) (at-args .c .now) r)) true (rowAt (at-args .basis) (at-args .xs .now) (at-args .zs .now) (at-args .ys .now)) (at-loop .i))),
     )
 
 returns : tie.Need-returns Inv-loop μ-loop
 returns c =
-    let at-args = c .before .before .before .before .before .args in
+    let at-args = c .before .before .before .before .before .before .args in
     let z : c .before .loop .i ≡ at-args .n = omega arith in (
-      (rw z at (c .before .loop .inv .3)) ∙ every-residual finite (at-args .k .0) (at-args .c .now) (samplesOf (at-args .n) (at-args .xs .now) (at-args .ys .now)),
-      (rw z at (c .before .loop .inv .2)) ∙ sizes-written (at-args .k .0) (at-args .c .now) (at-args .n) (at-args .xs .now) (at-args .ys .now) _ (search needs),
+      (rw z at (c .before .loop .inv .3)) ∙ every-residual finite (at-args .k .0) (at-args .c .now) (rowsAt (at-args .basis) (at-args .n) (at-args .xs .now) (at-args .zs .now) (at-args .ys .now)),
+      (rw z at (c .before .loop .inv .2)) ∙ sizes-written (at-args .k .0) (at-args .c .now) (at-args .basis) (at-args .n) (at-args .xs .now) (at-args .zs .now) (at-args .ys .now) _ (search needs),
     )
 
 pub sizes-spec : {M : Type 1} → statement M
@@ -54,6 +53,8 @@ sizes-spec =
     Inv-loop
     μ-loop
     loop-holds
+    (λ c. search needs)
+    (λ c. search needs)
     (λ c. search needs)
     (λ c. search needs)
     (λ c. search needs)

@@ -5,32 +5,36 @@ use borrow.Author.Needs.{needs}
 use Rattle.loops.specs.All.{All}
 use Rattle.statistics.specs.Medians.{Size}
 use borrow.Author.Tests.{not-true, not-false}
-use Rattle.monomial.specs.Samples.{samplesOf}
-use Rattle.monomial.specs.Rows.{rowsOf}
-use Rattle.monomial.specs.Sums.{length-rows}
+use Rattle.monomial.specs.Rows.{rowsAt, length-rows-at}
 use Rattle.fit.specs.Solved.{sizes-fine, scored-not, scored-is}
 use Rattle.fit.proofs.trial.Statement.{statement}
 use Rattle.fit.proofs.trial.Tie as tie
 
 returns : tie.Need-returns
 returns c =
-    let at-args = c .before .before .before .before .before .before .before .before .before .before .args in
+    let at-args = c .before .before .before .before .before .before .before .before .before .before .before .args in
     let at-attempt = c .before .before .before .before .attempt in
     (scored-not (at-args .criterion) (at-args .sums .now) _ _ (at-args .k .0) (sym (at-attempt .ensures .is-solved) ∙ not-true _ (c .if1 .taken)), (at-attempt .ensures .tests, at-attempt .ensures .within))
 
 score-on-requires : tie.Need-score-on-requires
 score-on-requires c κs =
     let at-attempt = c .before .before .before .before .before .attempt in
-    let at-args = c .before .before .before .before .before .before .before .before .before .before .before .args in
-    (search needs, subst (All Size) (sym (at-attempt .ensures .sizes (not-false _ (c .before .if1 .left)))) (sizes-fine (at-args .sums .now) (rowsOf (samplesOf (at-args .n) (at-args .xs .now) (at-args .ys .now))) (at-args .k .0) (sym (at-attempt .ensures .is-solved) ∙ not-false _ (c .before .if1 .left))))
+    let at-args = c .before .before .before .before .before .before .before .before .before .before .before .before .args in
+    (search needs, subst (All Size) (sym (at-attempt .ensures .sizes (not-false _ (c .before .if1 .left)))) (sizes-fine (at-args .sums .now) (rowsAt (at-args .basis) (at-args .n) (at-args .xs .now) (at-args .zs .now) (at-args .ys .now)) (at-args .k .0) (sym (at-attempt .ensures .is-solved) ∙ not-false _ (c .before .if1 .left))))
 
 returns-2 : tie.Need-returns-2
 returns-2 c =
-    let at-args = c .before .before .before .before .before .before .before .before .before .before .before .before .args in
+    let at-args = c .before .before .before .before .before .before .before .before .before .before .before .before .before .args in
     let at-attempt = c .before .before .before .before .before .before .attempt in
-    (scored-is (at-args .criterion) (at-args .sums .now) (rowsOf (samplesOf (at-args .n) (at-args .xs .now) (at-args .ys .now))) (rowsOf (samplesOf (at-args .n) (at-args .xs .now) (at-args .ys .now))) (at-args .k .0) (sym (at-attempt .ensures .is-solved) ∙ not-false _ (c .before .before .if1 .left)) (at-args .n) _ _ (length-rows (at-args .n) (at-args .xs .now) (at-args .ys .now)) (at-attempt .ensures .sizes (not-false _ (c .before .before .if1 .left))) (c .score-on .ensures), (at-attempt .ensures .tests, at-attempt .ensures .within))
+    (scored-is (at-args .criterion) (at-args .sums .now) (rowsAt (at-args .basis) (at-args .n) (at-args .xs .now) (at-args .zs .now) (at-args .ys .now)) (rowsAt (at-args .basis) (at-args .n) (at-args .xs .now) (at-args .zs .now) (at-args .ys .now)) (at-args .k .0) (sym (at-attempt .ensures .is-solved) ∙ not-false _ (c .before .before .if1 .left)) (at-args .n) _ _ (length-rows-at (at-args .basis) (at-args .xs .now) (at-args .zs .now) (at-args .ys .now) (at-args .n)) (at-attempt .ensures .sizes (not-false _ (c .before .before .if1 .left))) (c .score-on .ensures), (at-attempt .ensures .tests, at-attempt .ensures .within))
 
 pub trial-spec : {M : Type 1} → statement M
 trial-spec =
     tie.close
-    (tie.spec (λ c κs. search needs) (λ c. search needs) returns score-on-requires (λ c. search needs) returns-2)
+    (tie.spec
+    (λ c κs. search needs)
+    (λ c. search needs)
+    returns
+    score-on-requires
+    (λ c. search needs)
+    returns-2)

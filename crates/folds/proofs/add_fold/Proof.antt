@@ -8,9 +8,10 @@ use lib.ListN.{length, getD, length-set}
 use lib.Ieee.{nan}
 use Rattle.loops.specs.Places.{each, each-again, each-past}
 use Rattle.loops.specs.Within.{Within, within-itself, within-then}
-use Rattle.monomial.specs.Samples.{samplesOf}
-use Rattle.monomial.specs.Rows.{rowsOf}
-use Rattle.monomial.specs.Sums.{length-sums, length-rows}
+use Rattle.basis.specs.Counts.{countOf}
+use Rattle.basis.specs.declared.Basis.the-variants.{Curve}
+use Rattle.monomial.specs.Rows.{rowsAt, length-rows-at}
+use Rattle.monomial.specs.Sums.{length-sums}
 use Rattle.folds.specs.Folds.{degreeScored, start-end, end-below}
 use Rattle.folds.specs.Tallies.{plus, more, count-at-most, tallied-again}
 use Rattle.folds.proofs.Own.{fold-scored}
@@ -20,8 +21,8 @@ use Rattle.folds.proofs.add_fold.Tie as tie
 abbrev Inv-loop : tie.InvT-loop
 Inv-loop xs ys n folds f b criterion scratch₀ totals₀ counts₀ start end sums d₀ scratch totals counts d =
     (d ≤ b) × Within n scratch₀ scratch × (length totals ≡ 16) × (length counts ≡ 16)
-    × (totals ≡ each (λ e a. plus (degreeScored criterion (rowsOf (samplesOf n xs ys)) folds e f) a) d totals₀)
-    × (counts ≡ each (λ e m. more (degreeScored criterion (rowsOf (samplesOf n xs ys)) folds e f) m) d counts₀)
+    × (totals ≡ each (λ e a. plus (degreeScored criterion (rowsAt Curve n xs xs ys) folds e f) a) d totals₀)
+    × (counts ≡ each (λ e m. more (degreeScored criterion (rowsAt Curve n xs xs ys) folds e f) m) d counts₀)
 
 abbrev μ-loop : tie.MeasureT-loop
 μ-loop xs ys n folds f b criterion scratch₀ totals₀ counts₀ start end sums d₀ scratch totals counts d = b - d
@@ -58,7 +59,7 @@ more-requires c κs =
     let at-pre = c .before .before .before .before .before .before .before .before .before .before .before .before .before .before .before .before .before .before .before .before .pre in
     let at-loop = c .before .before .before .before .before .before .before .before .before .loop in
     let at-fits = c .before .before .before .before .before .before .before .before .before .before .before .before .before .before .before .before .before .before .before .before .fits in
-    let S = degreeScored (at-args .criterion) (rowsOf (samplesOf (at-args .n) (at-args .xs .now) (at-args .ys .now))) (at-args .folds) in
+    let S = degreeScored (at-args .criterion) (rowsAt Curve (at-args .n) (at-args .xs .now) (at-args .xs .now) (at-args .ys .now)) (at-args .folds) in
     let q = count-at-most S (at-args .f) (at-args .b) (at-args .totals .now) (at-args .counts .now) (at-pre .1) (at-loop .d) (search needs) in
     let p = ap (λ (l : List ℕ). getD l (at-loop .d) 0) (at-loop .inv .5) ∙ each-past (λ e m. more (S e (at-args .f)) m) (at-loop .d) (at-args .counts .now) (at-loop .d) 0 (omega arith) in
     omega (arith, p, q, at-fits, at-pre .0)
@@ -91,8 +92,8 @@ loop-again c =
     let at-fold-others = c .before .before .before .before .before .before .before .before .before .before .before .before .fold-others in
     let at-score-fold = c .before .before .before .before .before .before .score-fold in
     let at-pre = c .before .before .before .before .before .before .before .before .before .before .before .before .before .before .before .before .before .before .before .before .before .pre in
-    let S = degreeScored (at-args .criterion) (rowsOf (samplesOf (at-args .n) (at-args .xs .now) (at-args .ys .now))) (at-args .folds) in
-    let e = fold-scored (at-args .criterion) (rowsOf (samplesOf (at-args .n) (at-args .xs .now) (at-args .ys .now))) (at-args .n) (at-args .folds) (at-loop .d + 1) (at-args .f) _ _ _ _ (length-rows (at-args .n) (at-args .xs .now) (at-args .ys .now)) (at-start-of .ensures) (at-end-of .ensures) (at-fold-others .ensures) (at-score-fold .ensures .0) in
+    let S = degreeScored (at-args .criterion) (rowsAt Curve (at-args .n) (at-args .xs .now) (at-args .xs .now) (at-args .ys .now)) (at-args .folds) in
+    let e = fold-scored (at-args .criterion) (rowsAt Curve (at-args .n) (at-args .xs .now) (at-args .xs .now) (at-args .ys .now)) (at-args .n) (at-args .folds) (countOf Curve (at-loop .d)) (at-args .f) _ _ _ _ (length-rows-at Curve (at-args .xs .now) (at-args .xs .now) (at-args .ys .now) (at-args .n)) (at-start-of .ensures) (at-end-of .ensures) (at-fold-others .ensures) (at-score-fold .ensures .0) in
     (search needs, within-then (at-loop .inv .1) (at-score-fold .ensures .1), simp length-set (at-loop .inv .2), simp length-set (at-loop .inv .3), rw (c .before .before .plus .ensures, e, at-loop .inv .4) (each-again (λ d a. plus (S d (at-args .f)) a) (at-loop .d) (at-args .totals .now) nan (omega (arith, at-pre .1 .long))), rw (c .more .ensures, e, at-loop .inv .5) (each-again (λ d m. more (S d (at-args .f)) m) (at-loop .d) (at-args .counts .now) 0 (omega (arith, at-pre .1 .wide))))
 
 returns : tie.Need-returns Inv-loop μ-loop
@@ -100,7 +101,7 @@ returns c =
     let at-args = c .before .before .before .before .before .before .before .before .before .before .before .before .args in
     let at-pre = c .before .before .before .before .before .before .before .before .before .before .before .before .pre in
     let z : c .before .loop .d ≡ at-args .b = omega arith in
-    let S = degreeScored (at-args .criterion) (rowsOf (samplesOf (at-args .n) (at-args .xs .now) (at-args .ys .now))) (at-args .folds) in
+    let S = degreeScored (at-args .criterion) (rowsAt Curve (at-args .n) (at-args .xs .now) (at-args .xs .now) (at-args .ys .now)) (at-args .folds) in
     (rw (rw z at (c .before .loop .inv .4), rw z at (c .before .loop .inv .5)) (tallied-again S (at-args .f) (at-args .b) (at-args .totals .now) (at-args .counts .now) (at-pre .1) (search needs)), c .before .loop .inv .1)
 
 pub add-fold-spec : {M : Type 1} → statement M
@@ -114,7 +115,6 @@ add-fold-spec =
     (λ c. search needs)
     fold-others-requires
     loop-holds
-    (λ c. search needs)
     (λ c. search needs)
     score-fold-requires
     (λ c. search needs)

@@ -4,8 +4,8 @@ use Prim.Native.Nat.{_-_, _≤_}
 use native.Mathlib.Omega.{arith}
 use borrow.Author.Needs.{needs}
 use Rattle.loops.specs.Within.{Within, within-itself, within-then}
-use Rattle.monomial.specs.Samples.{samplesOf}
-use Rattle.monomial.specs.Rows.{rowsOf}
+use Rattle.basis.specs.declared.Basis.the-variants.{Curve}
+use Rattle.monomial.specs.Rows.{rowsAt}
 use Rattle.folds.specs.Folds.{degreeScored}
 use Rattle.folds.specs.Tallies.{Tallied, tallied-none}
 use Rattle.folds.proofs.Means.{validated-is}
@@ -14,7 +14,7 @@ use Rattle.folds.proofs.choose_by_folds.Tie as tie
 
 abbrev Inv-loop : tie.InvT-loop
 Inv-loop xs ys n folds criterion scratch₀ b totals₀ counts₀ f₀ scratch totals counts f =
-    (f ≤ folds) × Within n scratch₀ scratch × Tallied (degreeScored criterion (rowsOf (samplesOf n xs ys)) folds) f b totals counts
+    (f ≤ folds) × Within n scratch₀ scratch × Tallied (degreeScored criterion (rowsAt Curve n xs xs ys) folds) f b totals counts
 
 abbrev μ-loop : tie.MeasureT-loop
 μ-loop xs ys n folds criterion scratch₀ b totals₀ counts₀ f₀ scratch totals counts f = folds - f
@@ -39,7 +39,7 @@ returns c =
     let at-loop = c .before .before .before .before .loop in
     let at-args = c .before .before .before .before .before .before .before .before .before .args in
     let z : at-loop .f ≡ at-args .folds = omega arith in
-    (validated-is (at-args .criterion) (rowsOf (samplesOf (at-args .n) (at-args .xs .now) (at-args .ys .now))) (at-args .folds) (at-args .bound .0) _ _ _ (rw z at (at-loop .inv .2)) (c .choose-by-means .ensures), at-loop .inv .1)
+    (validated-is (at-args .criterion) (rowsAt Curve (at-args .n) (at-args .xs .now) (at-args .xs .now) (at-args .ys .now)) (at-args .folds) (at-args .bound .0) _ _ _ (rw z at (at-loop .inv .2)) (c .choose-by-means .ensures), at-loop .inv .1)
 
 pub choose-by-folds-spec : {M : Type 1} → statement M
 choose-by-folds-spec =

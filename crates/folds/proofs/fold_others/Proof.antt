@@ -1,5 +1,5 @@
 -- `folds::fold_others` meets its contract. Assumes nothing.
-use mathlib.Core.Path.{_≡_, ap, _∙_}
+use mathlib.Core.Path.{_≡_, sym, ap, _∙_}
 use mathlib.Core.List.{List}
 use Prim.Native.Nat.{_-_, _≤_}
 use native.Mathlib.Omega.{arith}
@@ -7,7 +7,7 @@ use borrow.Author.Needs.{needs}
 use lib.ListN.{length}
 use lib.Ieee.{Float}
 use Rattle.monomial.specs.Samples.{sampleAt, samplesOf}
-use Rattle.monomial.specs.Rows.{rowOf, rowsOf}
+use Rattle.monomial.specs.Rows.{rowOf, rowsOf, curve-rows}
 use Rattle.monomial.specs.Sums.{sumsOf, addRow, length-sums}
 use Rattle.folds.specs.Folds.{othersOf}
 use Rattle.folds.proofs.Others.{sums-begun, sums-on}
@@ -37,7 +37,7 @@ returns : tie.Need-returns Inv-loop μ-loop
 returns c =
     let at-args = c .before .before .before .before .before .before .before .before .before .args in
     let last : c .before .loop .t ≡ at-args .n = omega arith in
-    rw last at (c .before .loop .inv .3)
+    (rw last at (c .before .loop .inv .3)) ∙ ap (λ r. sumsOf (othersOf (at-args .start) (at-args .end) r)) (sym (curve-rows (at-args .n) (at-args .xs .now) (at-args .xs .now) (at-args .ys .now)))
 
 pub fold-others-spec : {M : Type 1} → statement M
 fold-others-spec =

@@ -20,7 +20,7 @@ returns-2 : tie.Need-returns-2
 returns-2 c =
     let at-attempt = c .before .before .before .before .before .before .before .before .before .before .attempt in
     let at-if1 = c .before .before .before .before .before .if1 in
-    let at-args = c .before .before .before .before .before .before .before .before .before .before .before .before .before .before .before .before .args in
+    let at-args = c .before .before .before .before .before .before .before .before .before .before .before .before .before .before .before .before .before .args in
     let at-inverse = c .before .before .before .before .inverse in
     record { number = measure-failed _ _ _ (sym (at-attempt .ensures .is-solved) ∙ not-false _ (at-if1 .left)) (ap (λ (v : Inverted). ltb (v .made) (at-args .k .0)) (sym (at-inverse .ensures)) ∙ lt-ltb _ _ (c .if2 .taken)); coefficients = at-attempt .ensures .coefficients; covariance = λ h. absurd (omega arith); within = at-attempt .ensures .within }
 
@@ -28,7 +28,7 @@ returns-3 : tie.Need-returns-3
 returns-3 c =
     let at-attempt = c .before .before .before .before .before .before .before .before .before .before .before .before .before .before .attempt in
     let at-if1 = c .before .before .before .before .before .before .before .before .before .if1 in
-    let at-args = c .before .before .before .before .before .before .before .before .before .before .before .before .before .before .before .before .before .before .before .before .args in
+    let at-args = c .before .before .before .before .before .before .before .before .before .before .before .before .before .before .before .before .before .before .before .before .before .args in
     let at-inverse = c .before .before .before .before .before .before .before .before .inverse in
     let at-if2 = c .before .before .before .before .if2 in
     let solved = sym (at-attempt .ensures .is-solved) ∙ not-false _ (at-if1 .left) in

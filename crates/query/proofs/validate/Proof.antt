@@ -1,11 +1,14 @@
 -- `query::validate` meets its contract. Assumes nothing.
 use mathlib.Core.Path.{sym, ap, _∙_}
+use mathlib.Core.List.{List}
 use Prim.Native.Nat.{_+_, _-_}
 use native.Mathlib.Omega.{arith}
 use borrow.Author.Needs.{needs}
 use lib.ListN.{length}
 use Rattle.monomial.specs.Samples.{samplesOf}
-use Rattle.monomial.specs.Rows.{rowsOf}
+use Rattle.basis.specs.Counts.{countOf}
+use Rattle.basis.specs.declared.Basis.the-variants.{Curve}
+use Rattle.monomial.specs.Rows.{Row, rowsOf, curve-rows}
 use Rattle.choice.specs.Laws.{chosen}
 use Rattle.folds.specs.Folds.{validated, validatedChoice}
 use Rattle.query.specs.Refusals.{validate-room}
@@ -46,9 +49,10 @@ returns-2 c =
     let at-if1 = c .before .before .before .before .before .before .before .before .before .before .before .if1 in
     let at-choose-by-folds = c .before .before .before .before .before .before .before .before .choose-by-folds in
     let at-enum-told = c .before .before .before .before .enum-told in
+    let found = at-choose-by-folds .ensures .0 ∙ ap (λ (rows : List Row). validatedChoice (at-args .criterion) rows (at-args .folds) (at-max-degree .result .0)) (curve-rows (at-args .book .count) (at-args .xs .now) (at-args .xs .now) (at-args .ys .now)) in
     let same = ap (λ b. validatedChoice (at-args .criterion) (rowsOf (samplesOf (at-args .book .count) (at-args .xs .now) (at-args .ys .now))) (at-args .folds) b) (at-max-degree .ensures) in
     let-through _ _ _ _ _ _ _ (sym (at-validate-refusal .ensures) ∙ at-if1 .left)
-    (none-validated _ _ _ _ _ _ (sym same ∙ sym (at-choose-by-folds .ensures .0) ∙ at-enum-told .given .1) _ (over-cleared _ _ _ _ (at-choose-by-folds .ensures .1) (c .before .before .clear .ensures)))
+    (none-validated _ _ _ _ _ _ (sym same ∙ sym found ∙ at-enum-told .given .1) _ (over-cleared _ _ _ _ (at-choose-by-folds .ensures .1) (c .before .before .clear .ensures)))
 
 solve-at-requires : tie.Need-solve-at-requires
 unfolding validatedChoice
@@ -60,7 +64,8 @@ solve-at-requires c κs =
     let at-choose-by-folds = c .before .before .before .before .before .before .before .choose-by-folds in
     let at-chosen = c .before .before .before .chosen in
     let w = validate-room (at-args .book .count) (at-args .folds) (at-args .bound) _ (length (at-args .xs .now)) (length (at-args .ys .now)) (length (at-args .sums .now)) (length (at-args .scratch .now)) (length (at-args .coefficients .now)) (sym (at-validate-refusal .ensures) ∙ at-if1 .left) in
-    let d = chosen (λ d. validated (at-args .criterion) (rowsOf (samplesOf (at-args .book .count) (at-args .xs .now) (at-args .ys .now))) (at-args .folds) (d + 1)) (at-max-degree .result .0 + 1) _ (sym (at-choose-by-folds .ensures .0) ∙ at-chosen .given .1) in
+    let found = at-choose-by-folds .ensures .0 ∙ ap (λ (rows : List Row). validatedChoice (at-args .criterion) rows (at-args .folds) (at-max-degree .result .0)) (curve-rows (at-args .book .count) (at-args .xs .now) (at-args .xs .now) (at-args .ys .now)) in
+    let d = chosen (λ d. validated (at-args .criterion) (rowsOf (samplesOf (at-args .book .count) (at-args .xs .now) (at-args .ys .now))) (at-args .folds) (countOf Curve d)) (at-max-degree .result .0 + 1) _ (sym found ∙ at-chosen .given .1) in
     (w .lengths .room .xs, w .lengths .room .ys, omega (arith, w .lengths .scratch, at-choose-by-folds .ensures .1 .long), w .lengths .room .sums, w .coefficients, omega (arith, w .most, at-max-degree .ensures, d .within))
 
 returns-3 : tie.Need-returns-3
@@ -73,9 +78,10 @@ returns-3 c =
     let at-choose-by-folds = c .before .before .before .before .before .before .before .before .before .before .before .before .choose-by-folds in
     let at-chosen = c .before .before .before .before .before .before .before .before .chosen in
     let at-solve-at = c .before .before .before .before .solve-at in
+    let found = at-choose-by-folds .ensures .0 ∙ ap (λ (rows : List Row). validatedChoice (at-args .criterion) rows (at-args .folds) (at-max-degree .result .0)) (curve-rows (at-args .book .count) (at-args .xs .now) (at-args .xs .now) (at-args .ys .now)) in
     let same = ap (λ b. validatedChoice (at-args .criterion) (rowsOf (samplesOf (at-args .book .count) (at-args .xs .now) (at-args .ys .now))) (at-args .folds) b) (at-max-degree .ensures) in
     let-through _ _ _ _ _ _ _ (sym (at-validate-refusal .ensures) ∙ at-if1 .left)
-    (one-validated _ _ _ _ _ _ _ (sym same ∙ sym (at-choose-by-folds .ensures .0) ∙ at-chosen .given .1) _ _ _ _ (at-choose-by-folds .ensures .1) (at-solve-at .ensures))
+    (one-validated _ _ _ _ _ _ _ (sym same ∙ sym found ∙ at-chosen .given .1) _ _ _ _ (at-choose-by-folds .ensures .1) (at-solve-at .ensures))
 
 pub validate-spec : {M : Type 1} → statement M
 validate-spec =

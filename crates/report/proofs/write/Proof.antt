@@ -4,7 +4,10 @@ use native.Mathlib.Omega.{arith}
 use borrow.Author.Needs.{needs}
 use lib.ListN.{length}
 use Rattle.statistics.specs.Variances.{stddevAndMean}
-use Rattle.monomial.specs.Samples.{samplesOf, length-samples}
+use Rattle.basis.specs.Counts.{curve-count}
+use Rattle.basis.specs.declared.Basis.the-variants.{Curve}
+use Rattle.monomial.specs.Samples.{samplesOf}
+use Rattle.monomial.specs.Rows.{curve-rows, length-rows-at}
 use Rattle.measure.specs.Columns.{ys-of-samples}
 use Rattle.report.proofs.Writing.{writes-is}
 use Rattle.report.proofs.write.Statement.{statement}
@@ -13,7 +16,16 @@ use Rattle.report.proofs.write.Tie as tie
 put-bands-requires : tie.Need-put-bands-requires
 put-bands-requires c κs =
     let at-pre = c .before .before .before .before .before .before .before .before .before .before .before .before .before .before .before .before .before .before .before .before .before .before .before .before .before .before .before .before .before .before .before .before .before .before .pre in
-    (omega (arith, at-pre .0 .3), at-pre .0 .0, at-pre .0 .1, at-pre .1 .3, at-pre .1 .4, at-pre .1 .5)
+    (omega (arith, c .before .before .before .before .before .before .before .before .before .before .before .before .before .before .before .before .before .before .before .before .before .before .before .before .before .k .ensures ∙ curve-count _, at-pre .0 .3), at-pre .0 .0, at-pre .0 .0, at-pre .0 .1, at-pre .1 .3, at-pre .1 .4, at-pre .1 .5)
+
+errors-requires : tie.Need-errors-requires
+errors-requires c κs = omega (arith, c .before .before .before .before .before .k .ensures ∙ curve-count _, c .before .before .before .before .before .before .before .before .before .before .before .before .before .before .pre .0 .3)
+
+sub-df : tie.Need-sub-df
+sub-df c = omega (arith, c .before .k .ensures ∙ curve-count _, c .before .before .before .before .before .before .before .before .before .before .pre .0 .2)
+
+put-pruned-requires : tie.Need-put-pruned-requires
+put-pruned-requires c κs = c .before .before .before .before .before .before .before .before .before .before .before .before .before .before .before .before .before .before .before .before .before .before .before .before .before .before .pre .1 .2
 
 returns : tie.Need-returns
 returns c =
@@ -31,7 +43,8 @@ returns c =
     let n = at-args .n in
     let samples = samplesOf n (at-args .xs .now) (at-args .ys .now) in
     let sized : length (at-args .t5) ≡ 16 = omega (arith, at-good .1 .1 .1 .1 .0) in
-    writes-is n (at-args .settings) samples (at-args .degree .0) (at-args .solved) (at-args .t5) (at-args .t6) sized (length-samples n (at-args .xs .now) (at-args .ys .now))
+    writes-is n (at-args .settings) samples (at-args .degree .0) (at-args .solved) (at-args .t5) (at-args .t6) sized
+    (c .before .before .before .before .before .before .before .before .before .before .before .before .before .before .before .before .before .before .before .before .before .before .before .before .before .before .before .before .before .before .before .before .k .result .0) (c .before .before .before .before .before .before .before .before .before .before .before .before .before .before .before .before .before .before .before .before .before .before .before .before .before .before .before .before .before .before .before .before .k .ensures) _ (curve-rows n (at-args .xs .now) (at-args .xs .now) (at-args .ys .now)) (length-rows-at Curve (at-args .xs .now) (at-args .xs .now) (at-args .ys .now) n)
     (at-t-score .result) (at-z-score .result) (at-stddev-and-mean .result) (at-errors .result) (at-t-score .ensures) (at-z-score .ensures)
     (at-stddev-and-mean .ensures ∙ ap stddevAndMean (sym (ys-of-samples n (at-args .xs .now) (at-args .ys .now) (at-pre .0 .1)))) (at-errors .ensures)
     (at-put-bands .result) (at-put-pruned .result) _ _ _ _ _ _ _ _ _ _ _ _ (at-put-bands .ensures .0) (at-put-pruned .ensures .0) (at-put-terms .ensures) (at-put-terms2 .ensures) (at-put-pruned .ensures .1) (at-put-bands .ensures .1 .0) (at-put-bands .ensures .1 .1 .0) (at-put-bands .ensures .1 .1 .1)
@@ -40,15 +53,15 @@ pub write-spec : {M : Type 1} → statement M
 write-spec =
     tie.close
     (tie.spec
-    (λ c. search needs)
-    (λ c. search needs)
+    (λ c κs. search needs)
+    sub-df
     (λ c κs. search needs)
     (λ c κs. search needs)
     (λ c κs. search needs)
+    errors-requires
     (λ c κs. search needs)
     (λ c κs. search needs)
-    (λ c κs. search needs)
-    (λ c κs. search needs)
+    put-pruned-requires
     put-bands-requires
     (λ c. search needs)
     (λ c. search needs)

@@ -1,0 +1,25 @@
+-- E11: in a window book an add to a full book first withdraws sample 0. By 01's withdrawal and add. Definitions only. (In the product: book/specs.)
+use mathlib.Core.Bool.{cond, not}
+use mathlib.Core.List.{List, [], _∷_}
+use Prim.Native.Nat.{ℕ}
+use lib.Dec.{eqb}
+use lib.ListN.{length}
+use lib.Ieee.{Float}
+use Rattle.monomial.specs.Samples.{Sample}
+use Rattle.book.specs.Refusals.{by, firstOf, capacity, tooShort, sampleFinite}
+use Rattle.book.specs.Calls.{Columns, lengths, Out, State, after, settle, refused, withdrawOut, addNext, bookAnswered}
+
+-- 5's condition for single adds there is that capacity is zero
+unfoldable pub windowRefusal : ℕ → Sample → List ℕ → ℕ → ℕ
+windowRefusal n p columns sums =
+    firstOf (by (tooShort n columns sums) 1 ∷ by (not (sampleFinite p)) 4 ∷ by (eqb (capacity columns) 0) 5 ∷ [])
+
+-- a full book without sample 0, any other as it is
+unfoldable pub withPlace : State → State
+withPlace s =
+    cond (eqb (s .count) (capacity (lengths (s .columns)))) (after (s .count) (withdrawOut (s .count) 0 (s .columns) (s .sums))) s
+
+unfoldable pub windowOut : ℕ → Sample → Columns → List Float → Out
+windowOut n p columns sums =
+    let r = windowRefusal n p (lengths columns) (length sums) in
+    settle r (bookAnswered (addNext (withPlace (record { count = n; columns = columns; sums = sums })) p)) (refused r columns sums)

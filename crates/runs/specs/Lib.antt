@@ -1,0 +1,2 @@
+-- Machines over lists of calls.
+pub mod Runs
