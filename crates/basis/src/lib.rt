@@ -1,8 +1,7 @@
 // The degree of a polynomial and its number of coefficients, two types that are never taken for each other.
-// They are converted as polyfit's `Basis::k` and `Basis::degree` do.
+// A count is worked out from a degree as polyfit's `Basis::k` does; nothing asks for the way back.
 ghost use mathlib.Core.Path.{_≡_};
 ghost use Prim.Native.Nat.{_≤_};
-ghost use Rattle.basis.specs.Basis.{degreeOf};
 ghost use Rattle.basis.specs.Counts.{countOf};
 
 // What the term values are: the powers of x, or the products of a power of x and a power of z.
@@ -33,18 +32,5 @@ impl Degree {
             Basis::Curve => CoefficientCount(d + 1),
             Basis::Surface => CoefficientCount((d + 1) * (d + 2) / 2),
         }
-    }
-}
-
-impl CoefficientCount {
-    // `Basis::degree`: k − 1, and none of no coefficients.
-    pub fn degree(self) -> OptionDegree
-        ensures { λ r. ⌜ r ≡ degreeOf (self .0) ⌝ }
-    {
-        let k = self.0;
-        if k > 0 {
-            return OptionDegree::Some(Degree(k - 1));
-        }
-        OptionDegree::None
     }
 }

@@ -19,10 +19,6 @@ within-then p q = record { long = q .long ∙ p .long; rest = q .rest ∙ p .res
 pub within-set : {A : Type 0} (n : ℕ) (s : List A) (i : ℕ) (a : A) → i < n → Within n s (set s i a)
 within-set n s i a h = record { long = length-set s i a; rest = drop-set-lt n s i a h }
 
--- the first n places are written anew
-pub within-front : {A : Type 0} {n : ℕ} {s : List A} (t u r : List A) → Within n s t → u ≡ r ++ drop n t → u ≡ r ++ drop n s
-within-front t u r w e = e ∙ ap (λ l. r ++ l) (w .rest)
-
 -- memory whose first n places were written with r
 module _ {A : Type 0} (n : ℕ) (s u r : List A) (e : u ≡ r ++ drop n s) (sized : length r ≡ n) where
   pub front-written : take n u ≡ r

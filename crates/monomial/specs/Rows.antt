@@ -9,7 +9,7 @@ use Rattle.value.specs.Power.{powerF}
 use Rattle.value.specs.Total.{totalF}
 use Rattle.basis.specs.declared.Basis.{Basis}
 use Rattle.basis.specs.declared.Basis.the-variants.{Curve}
-use Rattle.monomial.specs.Samples.{Sample, sampleAt, samplesOf, map-samples}
+use Rattle.monomial.specs.Samples.{Sample, samplesOf, map-samples}
 use Rattle.monomial.specs.Terms.{termsAt}
 
 -- A sample's term values and its y. The sums, the solution and the fitted value are made from rows alone.

@@ -1,10 +1,10 @@
--- Samples, and the columns that they are read from. Assumes nothing.
-use mathlib.Core.Path.{_≡_, ap, _∙_}
+-- Samples, and the columns that they are read from.
+use mathlib.Core.Path.{_≡_, sym, ap, _∙_}
 use mathlib.Core.List.{List, [], _∷_, _++_, map}
 use Prim.Native.Nat.{ℕ, _+_, _≤_}
-use lib.ListN.{length, getD, drop}
+use lib.ListN.{length, getD, take, drop}
 use lib.Ieee.{Float, nan}
-use Rattle.loops.specs.Places.{each, table, table-again, length-table, map-table, each-write}
+use Rattle.loops.specs.Places.{each, table, table-again, length-table, map-table, table-take, each-write}
 
 -- A sample is x and y.
 pub record Sample : Type 0 where
@@ -18,6 +18,12 @@ sampleAt xs ys t = record { x = getD xs t nan; y = getD ys t nan }
 -- the samples of the first n places of two columns
 unfoldable pub samplesOf : ℕ → List Float → List Float → List Sample
 samplesOf n xs ys = table (sampleAt xs ys) n
+
+abbrev pub xsOf : List Sample → List Float
+xsOf ps = map (λ (p : Sample). p .x) ps
+
+abbrev pub ysOf : List Sample → List Float
+ysOf ps = map (λ (p : Sample). p .y) ps
 
 -- ---- laws
 
@@ -39,3 +45,10 @@ map-samples g n xs ys = map-table g (sampleAt xs ys) n
 pub each-samples : {B : Type 0} (g : Sample → B) (n : ℕ) (xs ys : List Float) (s : List B) → n ≤ length s
     → each (λ t _. g (sampleAt xs ys t)) n s ≡ map g (samplesOf n xs ys) ++ drop n s
 each-samples g n xs ys s h = each-write (λ t. g (sampleAt xs ys t)) n s h ∙ ap (λ l. l ++ drop n s) (map-samples g n xs ys)
+
+-- the x's and y's of the samples are the first n places of their columns
+pub xs-of-samples : (n : ℕ) (xs ys : List Float) → n ≤ length xs → xsOf (samplesOf n xs ys) ≡ take n xs
+xs-of-samples n xs ys h = sym (map-samples (λ (p : Sample). p .x) n xs ys) ∙ table-take nan n xs h
+
+pub ys-of-samples : (n : ℕ) (xs ys : List Float) → n ≤ length ys → ysOf (samplesOf n xs ys) ≡ take n ys
+ys-of-samples n xs ys h = sym (map-samples (λ (p : Sample). p .y) n xs ys) ∙ table-take nan n ys h

@@ -13,7 +13,7 @@ use Rattle.loops.specs.Places.{each, table, table-at}
 use Rattle.value.specs.Numbers.{zeroF}
 use Rattle.value.specs.Power.{powerF}
 use Rattle.value.specs.Total.{totalF}
-use Rattle.monomial.specs.Samples.{Sample, samplesOf, length-samples}
+use Rattle.monomial.specs.Samples.{Sample, samplesOf, xsOf, length-samples}
 use Rattle.monomial.specs.Rows.{Row, rowOf, rowsOf}
 use Rattle.monomial.specs.Adding.{addOne, sums, length-add-one, add-one-append, sums-afresh, sums-length, sums-place, sums-same, sums-take, sums-drop}
 
@@ -119,9 +119,6 @@ unfolding sumsOf addRow sums addOne
 right-is rs = sums-drop rowProduct 272 256 rs (lit≤ tt)
 
 -- ---- the curve
-
-abbrev pub xsOf : List Sample → List Float
-xsOf ps = map (λ (p : Sample). p .x) ps
 
 -- equal x's have equal term values
 pub terms-same : (ps qs : List Sample) → xsOf ps ≡ xsOf qs → termsOf (rowsOf ps) ≡ termsOf (rowsOf qs)

@@ -23,6 +23,9 @@ fourF = ofBits binary64 0x4010_0000_0000_0000
 abbrev pub infinityF : Float
 infinityF = ofBits binary64 0x7FF0_0000_0000_0000
 
+abbrev pub minusInfinityF : Float
+minusInfinityF = ofBits binary64 0xFFF0_0000_0000_0000
+
 -- 2⁻⁵²
 abbrev pub epsilon : Float
 epsilon = ofBits binary64 0x3CB0_0000_0000_0000

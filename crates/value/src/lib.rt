@@ -56,25 +56,6 @@ pub fn maximum(a: f64, b: f64) -> f64
     a
 }
 
-// x to the power j, by squaring and multiplying.
-pub fn power(x: f64, j: usize) -> f64
-    ensures { λ v. ⌜ v ≡ powerF x j ⌝ }
-{
-    let mut r = 1.0;
-    let mut b = x;
-    let mut e = j;
-    loop {
-        if e % 2 == 1 {
-            r = r * b;
-        }
-        e = e / 2;
-        if e == 0 {
-            return r;
-        }
-        b = b * b;
-    }
-}
-
 // x to the powers 0 to 15. Each square is worked out once: 14 products in all.
 pub fn powers(x: f64) -> [f64; 16]
     ensures { λ v. ⌜ v ≡ table (powerF x) 16 ⌝ }
