@@ -149,16 +149,6 @@ fn mark(b: bool) -> u8
     if b { 1 } else { 0 }
 }
 
-// The first 16 places become the values.
-pub fn put_terms(values: [f64; 16], out: &mut [f64])
-    requires { ⌜ 16 ≤ length (now out) ⌝ }
-    ensures { λ _. ⌜ now (out .exit) ≡ values ++ drop 16 (now (out .entry)) ⌝ }
-{
-    for i in 0..16 {
-        out[i] = values[i];
-    }
-}
-
 // The first 16 places become the pruning bytes of k coefficients. Answers how many are pruned.
 pub fn put_pruned(
     k: CoefficientCount,

@@ -1,5 +1,2 @@
--- What the calls that read a book share.
-pub mod Given
-pub mod Written
-pub mod Columns
+-- A degree solved and measured, as the calls that read a book share it.
 pub mod Measures

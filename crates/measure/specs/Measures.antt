@@ -1,4 +1,4 @@
--- A degree, of k coefficients, solved and measured: refusals 10 and 12, and the covariance. Assumes nothing.
+-- A degree, of k coefficients, solved and measured: refusals 10 and 12, and the covariance.
 use mathlib.Core.Path.{_≡_, ap, ap₂, _∙_}
 use mathlib.Core.Bool.{Bool, true, false, not}
 use mathlib.Core.List.{List, [], _∷_, map}
@@ -14,7 +14,7 @@ use Rattle.solve.specs.declared.Inverted.{Inverted}
 use Rattle.fit.specs.Residuals.{residuals}
 use Rattle.fit.specs.Solved.{isSolved}
 use Rattle.covariance.specs.Covariance.{covarianceOf}
-use Rattle.book.specs.Refusals.{by, firstOf}
+use Rattle.refusal.specs.Refusals.{by, firstOf}
 use Rattle.measure.specs.declared.Measured.{Measured}
 
 -- 12: an inverse pivot fails, so that not all k columns are made

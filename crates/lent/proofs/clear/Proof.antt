@@ -1,0 +1,44 @@
+-- `lent::clear` meets its contract.
+use mathlib.Core.Path.{_≡_, refl, _∙_}
+use Prim.Native.Nat.{_-_, _≤_}
+use native.Mathlib.Omega.{arith}
+use borrow.Author.Needs.{needs}
+use lib.ListN.{length, length-set}
+use lib.Ieee.{nan}
+use Rattle.loops.specs.Places.{each, each-again, each-fill}
+use Rattle.value.specs.Numbers.{zeroF}
+use Rattle.lent.proofs.clear.Statement.{statement}
+use Rattle.lent.proofs.clear.Tie as tie
+
+abbrev Inv-loop : tie.InvT-loop
+Inv-loop s₀ n i₀ s i = (i ≤ n) × (length s ≡ length s₀) × (s ≡ each (λ _ _. zeroF) i s₀)
+
+abbrev μ-loop : tie.MeasureT-loop
+μ-loop s₀ n i₀ s i = n - i
+
+loop-holds : tie.Need-loop-holds Inv-loop μ-loop
+unfolding each
+loop-holds c = (search needs, refl, refl)
+
+loop-again : tie.Need-loop-again Inv-loop μ-loop
+loop-again c = (search needs, simp length-set (c .before .loop .inv .1), rw (c .before .loop .inv .2) (each-again _ _ _ nan (search needs)))
+
+returns : tie.Need-returns Inv-loop μ-loop
+returns c =
+    let z : c .before .loop .i ≡ c .before .before .args .n = omega arith in
+    (rw z at (c .before .loop .inv .2)) ∙ each-fill zeroF (c .before .before .args .n) (c .before .before .args .s .now) (search needs)
+
+pub clear-spec : {M : Type 1} → statement M
+clear-spec =
+    tie.close
+    (tie.spec
+    Inv-loop
+    μ-loop
+    loop-holds
+    (λ c. search needs)
+    (λ c. search needs)
+    (λ c. search needs)
+    (λ c. search needs)
+    loop-again
+    (λ c. search needs)
+    returns)

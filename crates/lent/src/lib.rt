@@ -1,0 +1,26 @@
+// Writing to lent memory from its first place on.
+ghost use mathlib.Core.Path.{_≡_};
+ghost use mathlib.Core.List.{_++_};
+ghost use Prim.Native.Nat.{_≤_};
+ghost use lib.ListN.{length, drop};
+ghost use Rattle.lent.specs.Written.{zeros};
+
+// The first n places become +0.
+pub fn clear(s: &mut [f64], n: usize)
+    requires { ⌜ n ≤ length (now s) ⌝ }
+    ensures { λ _. ⌜ now (s .exit) ≡ zeros n ++ drop n (now (s .entry)) ⌝ }
+{
+    for i in 0..n {
+        s[i] = 0.0;
+    }
+}
+
+// The first 16 places become the values.
+pub fn put_terms(values: [f64; 16], out: &mut [f64])
+    requires { ⌜ 16 ≤ length (now out) ⌝ }
+    ensures { λ _. ⌜ now (out .exit) ≡ values ++ drop 16 (now (out .entry)) ⌝ }
+{
+    for i in 0..16 {
+        out[i] = values[i];
+    }
+}

@@ -1,0 +1,5 @@
+-- Document 01's refusals: the form of a test and the checking order, what each number tests, and their laws.
+pub mod Refusals
+pub mod Tests
+pub mod Laws
+pub mod Rooms

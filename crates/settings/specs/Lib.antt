@@ -1,0 +1,2 @@
+-- The settings of a report by the numbers that records and the C interface name them by.
+pub mod Numbers
