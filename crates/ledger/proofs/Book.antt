@@ -1,10 +1,10 @@
--- Demand 3, whole: any list of calls from a book just opened, with the words on each report. Assumes nothing.
+-- Demand 3, whole: any list of calls from a book just opened, with the words on each report.
 use mathlib.Core.Path.{_≡_, refl, ap, _∙_}
 use mathlib.Core.List.{List, [], _∷_, _++_}
 use lib.ListN.{length}
 use Rattle.runs.specs.Runs.{replies-at}
 use Rattle.monomial.specs.Samples.{Sample}
-use Rattle.report.specs.declared.Settings.{Settings}
+use Rattle.settings.specs.declared.Settings.{Settings}
 use Rattle.report.specs.declared.Places.{Places}
 use Rattle.report.specs.Refusals.{reportRefusal}
 use Rattle.report.specs.Reports.{reportOn}
@@ -13,13 +13,13 @@ use Rattle.ledger.specs.Questions.{reports, readOn}
 use Rattle.ledger.specs.Words.{Words}
 use Rattle.ledger.specs.Whole.{ledgerReport, AnyList}
 use Rattle.ledger.proofs.Whole.{whole-list}
-use Rattle.ledger.proofs.Words.{past-told, words-of}
+use Rattle.ledger.proofs.Words.{past-chosen, words-of}
 
 -- a report of the ledger that passes refusals 1 to 9
 ledger-words : (m : Lent) (l : List Sample) (settings : Settings) (places : Places)
     → reportRefusal (length l) settings l (m .columns) (m .sums) places ≡ 0 → Words settings l (ledgerReport m l settings places)
 unfolding reportOn
-ledger-words m l settings places h = words-of settings l (ledgerReport m l settings places) (rw (h, past-told settings l) refl)
+ledger-words m l settings places h = words-of settings l (ledgerReport m l settings places) (rw (h, past-chosen settings l) refl)
 
 pub whole-book : AnyList
 unfolding ledgerReply readOn

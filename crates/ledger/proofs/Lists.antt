@@ -1,4 +1,4 @@
--- Columns that hold a ledger's samples, and the sums of the ledger, as each call changes them. Assumes nothing.
+-- Columns that hold a ledger's samples, and the sums of the ledger, as each call changes them.
 use mathlib.Core.Path.{_≡_, refl, sym, ap, ap₂, _∙_}
 use mathlib.Core.List.{List, [], _∷_, _++_, map, map-append, append-assoc}
 use Prim.Native.Nat.{ℕ, zero, suc, _+_, _-_, _≤_, _<_}
@@ -9,11 +9,10 @@ use lib.ListN.{length, getD, set, take, drop, length-append, length-drop, take-a
 use lib.Seq.{take-suc-set, take-take, take-at, drop-at, drop-drop, getD-drop, paste, length-paste, take-nil, take-paste, drop-paste, length-take-le}
 use lib.Ieee.{Float, nan}
 use Rattle.loops.specs.Places.{table}
-use Rattle.monomial.specs.Samples.{Sample, samplesOf}
+use Rattle.monomial.specs.Samples.{Sample, samplesOf, xsOf, ysOf}
 use Rattle.monomial.specs.Rows.{rowOf, rowsOf}
-use Rattle.monomial.specs.Sums.{addRow, sumsOf, length-sums, add-row-append, sums-again, corrected, xsOf, terms-same, rows-again}
+use Rattle.monomial.specs.Sums.{addRow, sumsOf, length-sums, add-row-append, sums-again, corrected, terms-same, rows-again}
 use Rattle.book.specs.Calls.{withoutAt}
-use Rattle.book.specs.Many.{ysOf}
 use Rattle.ledger.specs.Ledger.{newY, seen}
 
 -- ---- a list of samples

@@ -1,10 +1,10 @@
--- One call: what the program and the ledger make of it, where they agreed before. Assumes nothing.
+-- One call: what the program and the ledger make of it, where they agreed before.
 use mathlib.Core.Path.{_≡_, refl, sym, ap, ap₂, subst, _∙_}
 use mathlib.Core.Bool.{Bool, true, false, cond}
 use mathlib.Core.List.{List, [], _∷_, _++_, map, append-nil}
 use Prim.Native.Nat.{ℕ, zero, suc, _+_, _-_, _≤_, _<_}
 use native.Mathlib.Omega.{arith}
-use borrow.Author.Tests.{le-ltb, lt-leb, eqb-true, eqb-false, not-false}
+use borrow.Author.Tests.{lt-leb, eqb-true, eqb-false, not-false}
 use lib.Dec.{eqb}
 use lib.ListN.{length, set, take, drop, length-append, length-set}
 use lib.Seq.{drop-set-lt, take-set-lt, append-snoc}
@@ -17,10 +17,16 @@ use Rattle.monomial.specs.Sums.{sumsOf}
 use Rattle.frame.specs.Frame.{decode}
 use Rattle.book.specs.declared.Answer.{Answer}
 use Rattle.book.specs.declared.Answer.the-variants as answers
-use Rattle.book.specs.Refusals.{Room, capacity, capacity-two, sampleFinite, firstOf, first-none, withdrawRefusal, add-room, correct-room, withdraw-room, frame-room, long-sums, within-capacity}
-use Rattle.book.specs.Calls.{Column, ofX, ofY, value, samplesIn, withY, Out, State, after, bookOf, bookAnswered, refused, settle, addOut, correctOut, withdrawOut, withoutAt, addNext, addMany, addFrameOut}
+use Rattle.book.specs.Refusals.{withdrawRefusal}
+use Rattle.book.specs.RefusalLaws.{sumsLent, add-room, correct-room, withdraw-room, frame-room}
+use Rattle.refusal.specs.Refusals.{firstOf, settle}
+use Rattle.refusal.specs.Laws.{first-none}
+use Rattle.refusal.specs.Rooms.{Room, room, room-of, long-enough}
+use Rattle.refusal.specs.Tests.{capacity, sampleFinite}
+use Rattle.book.specs.Columns.{lengths, Column, ofX, ofY, value, samplesAt, withY}
+use Rattle.book.specs.Calls.{Out, State, after, bookOf, bookAnswered, refused, addOut, correctOut, withdrawOut, withoutAt, addNext, addMany, addFrameOut}
 use Rattle.book.specs.Many.{added, RoomFor, room-one, room-rest, one-added, many-added, added-is}
-use Rattle.ledger.specs.Window.{windowRefusal, withPlace, windowOut}
+use Rattle.book.specs.Window.{windowRefusal, withPlace, windowOut}
 use Rattle.ledger.specs.Ledger.{Change, adds, corrects, withdraws, frames, windows, Lent, lentBy, outOf, newY, without, changed, refusalOf}
 use Rattle.ledger.proofs.Lists.{length-new, new-x, new-y, length-less, column-add, column-without, length-without, without-rest, samples-are, sums-rest, sums-add, sums-correct, sums-long, drop-later}
 
@@ -30,13 +36,13 @@ use Rattle.ledger.proofs.Lists.{length-new, new-x, new-y, length-less, 
 abbrev correctedState : State → ℕ → Float → State
 correctedState s i y =
     let c = withY i y (s .columns) in
-    record { count = s .count; columns = c; sums = take 256 (s .sums) ++ (drop 256 (sumsOf (rowsOf (samplesIn (s .count) c))) ++ drop 272 (s .sums)) }
+    record { count = s .count; columns = c; sums = take 256 (s .sums) ++ (drop 256 (sumsOf (rowsOf (samplesAt (s .count) c))) ++ drop 272 (s .sums)) }
 
 -- sample i goes
 abbrev withdrawnState : State → ℕ → State
 withdrawnState s i =
     let c : Column → List Float = λ k. withoutAt i (s .count) (s .columns k) in
-    record { count = s .count - 1; columns = c; sums = sumsOf (rowsOf (samplesIn (s .count - 1) c)) ++ drop 272 (s .sums) }
+    record { count = s .count - 1; columns = c; sums = sumsOf (rowsOf (samplesAt (s .count - 1) c)) ++ drop 272 (s .sums) }
 
 abbrev done : State → Change → State
 done s (adds p) = added s p
@@ -60,23 +66,16 @@ out-is s (windows p) = refl
 same-lent : (s t : State) → ((k : Column) → length (t .columns k) ≡ length (s .columns k)) → length (t .sums) ≡ length (s .sums) → lentBy t ≡ lentBy s
 same-lent s t e q = λ i. record { columns = e ofX i ∷ e ofY i ∷ []; sums = q i }
 
-pub held-by : (l : List Sample) (s : State) → s .count ≡ length l → ((k : Column) → take (s .count) (s .columns k) ≡ map (value k) l) → samplesIn (s .count) (s .columns) ≡ l
+pub held-by : (l : List Sample) (s : State) → s .count ≡ length l → ((k : Column) → take (s .count) (s .columns k) ≡ map (value k) l) → samplesAt (s .count) (s .columns) ≡ l
 held-by l s q e = samples-are l (s .count) (s .columns ofX) (s .columns ofY) q (e ofX) (e ofY)
 
--- a count within capacity is within every column
-room-of : (s : State) (n : ℕ) → n ≤ capacity (lentBy s .columns) → 272 ≤ length (s .sums) → Room n (length (s .columns ofX)) (length (s .columns ofY)) (length (s .sums))
-room-of s n h t =
-    let q = capacity-two (length (s .columns ofX)) (length (s .columns ofY)) in
-    record { sums = t; xs = omega arith; ys = omega arith; most = omega arith }
-
-fits : (s : State) (n : ℕ) → Room n (length (s .columns ofX)) (length (s .columns ofY)) (length (s .sums)) → n ≤ capacity (lentBy s .columns)
-fits s n r =
-    let q = capacity-two (length (s .columns ofX)) (length (s .columns ofY)) in
-    omega (arith, r)
+-- a count within capacity has room in every column
+roomy : (s : State) (n : ℕ) → n ≤ capacity (lentBy s .columns) → 272 ≤ length (s .sums) → Room n (lengths (s .columns)) (sumsLent (length (s .sums)))
+roomy s n h t = room-of n (lengths (s .columns)) (sumsLent (length (s .sums))) h (t, tt)
 
 within : (s : State) (n : ℕ) → n ≤ capacity (lentBy s .columns) → (k : Column) → n ≤ length (s .columns k)
-within s n h ofX = let q = capacity-two (length (s .columns ofX)) (length (s .columns ofY)) in omega arith
-within s n h ofY = let q = capacity-two (length (s .columns ofX)) (length (s .columns ofY)) in omega arith
+within s n h ofX = room-of n (lengths (s .columns)) [] h tt .within .0
+within s n h ofY = room-of n (lengths (s .columns)) [] h tt .within .1 .0
 
 -- ---- the relation, where m are the lengths of the lent memory and rest is what the sums hold past the 272
 
@@ -132,7 +131,7 @@ module _ (m : Lent) (rest : List Float) where
   unfolding fold
   leaves-many [] l s h r = rw (append-nil l) (leaves-all l s h)
   leaves-many (p ∷ ps) l s h r =
-      let one = leaves-add l s p h (fits s (s .count + 1) (room-one s p (length ps) r)) in
+      let one = leaves-add l s p h (room-one s p (length ps) r .count) in
       let more = leaves-many ps (l ++ (p ∷ [])) (added s p) (one .holds) (room-rest s p (length ps) r) in
       let q = ap (λ (t : State). t .count) (added-is ps (added s p)) in
       rw (← append-snoc l p ps) (leaves-then (l ++ (p ∷ [])) (l ++ (p ∷ []) ++ ps) s (added s p) (fold added (added s p) ps) one more (omega (arith, q)))
@@ -184,7 +183,8 @@ module _ (s : State) (p : Sample) (e : windowRefusal (s .count) p (lentBy s .col
       let k4 = first-none _ 3 _ (k1 .1) in
       let k5 = first-none _ 4 _ (k4 .1) in
       let z = eqb-false _ 0 (k5 .0) in
-      (long-sums _ (lentBy s .columns) (lentBy s .sums) (k1 .0), within-capacity _ (lentBy s .columns) (lentBy s .sums) (k1 .0), not-false _ (k4 .0), positive _ z)
+      let r = room (s .count) (lentBy s .columns) (sumsLent (lentBy s .sums)) (k1 .0) in
+      (r .enough .0, r .count, not-false _ (k4 .0), positive _ z)
     where
       positive : (c : ℕ) → (c ≡ 0 → ⊥) → 0 < c
       positive zero z = absurd (z refl)
@@ -194,7 +194,7 @@ withdraw-taken : (s : State) (i : ℕ) → 272 ≤ length (s .sums) → s .count
     → after (s .count) (withdrawOut (s .count) i (s .columns) (s .sums)) ≡ withdrawnState s i
 unfolding withdrawOut withdrawRefusal firstOf
 withdraw-taken s i t h r =
-    rw (le-ltb (length (s .sums)) 272 t, le-ltb (capacity (lentBy s .columns)) (s .count) h, lt-leb (s .count) i r)
+    rw (long-enough (s .count) (lengths (s .columns)) (sumsLent (length (s .sums))) (roomy s (s .count) h t), lt-leb (s .count) i r)
 
 module _ (m : Lent) (rest : List Float) where
   leaves-window : (l : List Sample) (s : State) (p : Sample) → Holds m rest l s → windowRefusal (s .count) p (lentBy s .columns) (lentBy s .sums) ≡ 0
@@ -210,7 +210,7 @@ module _ (m : Lent) (rest : List Float) where
           let w = window-tests s p e in
           let z = eqb-false (s .count) (capacity (lentBy s .columns)) q in
           let r : s .count + 1 ≤ capacity (lentBy s .columns) = below (s .count) (capacity (lentBy s .columns)) (w .1) z in
-          rw (one-added s p (room-of s (s .count + 1) r (w .0)) (w .2)) (leaves-add m rest l s p h r)
+          rw (one-added s p (roomy s (s .count + 1) r (w .0)) (w .2)) (leaves-add m rest l s p h r)
         where
           below : (a b : ℕ) → a ≤ b → (a ≡ b → ⊥) → a + 1 ≤ b
           below a b u v = either (a + 1) b (λ x. x) (λ x. absurd (v (omega arith)))
@@ -223,7 +223,7 @@ module _ (m : Lent) (rest : List Float) where
           let lent : lentBy s ≡ lentBy t = h .lent ∙ sym (one .holds .lent) in
           let r : t .count + 1 ≤ capacity (lentBy t .columns) =
           subst (λ (c : Lent). s .count - 1 + 1 ≤ capacity (c .columns)) lent (omega (arith, z, w .3)) in
-          let is = ap (λ (u : State). addNext u p) (withdraw-taken s 0 (w .0) (w .1) some) ∙ one-added t p (room-of t (t .count + 1) r (one .holds .long)) (w .2) in
+          let is = ap (λ (u : State). addNext u p) (withdraw-taken s 0 (w .0) (w .1) some) ∙ one-added t p (roomy t (t .count + 1) r (one .holds .long)) (w .2) in
           subst (λ (u : State). Leaves m rest s (without 0 l ++ (p ∷ [])) u) (sym is)
           (leaves-then m rest (without 0 l) (without 0 l ++ (p ∷ [])) s t (added t p) one (leaves-add m rest (without 0 l) t p (one .holds) r) (omega arith))
 
@@ -231,12 +231,12 @@ module _ (m : Lent) (rest : List Float) where
 
   leaves : (l : List Sample) (s : State) → Holds m rest l s → (c : Change) → refusalOf (lentBy s) (s .count) c ≡ 0 → Leaves m rest s (changed m l c) (done s c)
   unfolding refusalOf changed
-  leaves l s h (adds p) e = leaves-add m rest l s p h (fits s (s .count + 1) (add-room (s .count) (length (s .columns ofX)) (length (s .columns ofY)) (length (s .sums)) p e .0))
+  leaves l s h (adds p) e = leaves-add m rest l s p h (add-room (s .count) (lengths (s .columns)) (length (s .sums)) p e .0 .count)
   leaves l s h (corrects i y) e =
-      leaves-correct m rest l s i y h (correct-room (s .count) (length (s .columns ofX)) (length (s .columns ofY)) (length (s .sums)) i y e .1)
-  leaves l s h (withdraws i) e = leaves-withdraw m rest l s i h (withdraw-room (s .count) (length (s .columns ofX)) (length (s .columns ofY)) (length (s .sums)) i e .1)
+      leaves-correct m rest l s i y h (correct-room (s .count) (lengths (s .columns)) (length (s .sums)) i y e .1)
+  leaves l s h (withdraws i) e = leaves-withdraw m rest l s i h (withdraw-room (s .count) (lengths (s .columns)) (length (s .sums)) i e .1)
   leaves l s h (frames f) e =
-      let r = frame-room (s .count) (length (s .columns ofX)) (length (s .columns ofY)) (length (s .sums)) f e in
+      let r = frame-room (s .count) (lengths (s .columns)) (length (s .sums)) f e in
       rw (many-added (decode f) s (r .0) (r .2)) (leaves-many m rest (decode f) l s h (r .0))
   leaves l s h (windows p) e = leaves-window l s p h e
 

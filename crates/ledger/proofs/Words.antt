@@ -1,4 +1,4 @@
--- Demand 3's words of a report that passes refusals 1 to 9, from its definition and the laws of the choice. Assumes nothing.
+-- Demand 3's words of a report that passes refusals 1 to 9, from its definition and the laws of the choice.
 use mathlib.Core.Path.{_≡_, refl, sym, ap, _∙_}
 use mathlib.Core.Bool.{Bool, true, false, cond}
 use mathlib.Core.List.{List}
@@ -20,11 +20,10 @@ use Rattle.choice.specs.declared.Scored.{Scored}
 use Rattle.fit.specs.Solved.{scoredBy}
 use Rattle.fit.specs.Chosen.{countsOf, tried, choiceOf}
 use Rattle.measure.specs.Measures.{inverseFails, covarianceAt}
-use Rattle.measure.specs.Written.{zeros}
-use Rattle.report.specs.declared.Settings.{Settings}
+use Rattle.settings.specs.declared.Settings.{Settings}
 use Rattle.report.specs.declared.ReportAnswer.the-variants as answers
 use Rattle.report.specs.Chosen.{reportChoice}
-use Rattle.report.specs.Reports.{Told, told, ReportOut, reportNumber, writtenBy, reportOf, reportPast}
+use Rattle.report.specs.Reports.{ReportOut, reportNumber, refusedLate, writtenBy, reportOf, reportPast}
 use Rattle.ledger.specs.Words.{Words, IsChosen, ledgerSums, degrees, scored}
 
 -- the choice among the counts 1 to bound + 1 is the choice among the degrees 0 to the bound
@@ -54,38 +53,32 @@ module _ (settings : Settings) (l : List Sample) where
 
 -- what a report answers past refusals 1 to 9, from the chosen degree or none
 module _ (settings : Settings) (l : List Sample) where
-  abbrev pub toldOf : OptionDegree → Told
-  toldOf c = reportOf (length l) settings l (ledgerSums settings l) (solvedCount (scored settings l) (degrees settings l)) c
+  abbrev pub reportBy : OptionDegree → ReportOut
+  reportBy c = reportOf (length l) settings l (ledgerSums settings l) (solvedCount (scored settings l) (degrees settings l)) c
 
-  pub past-told : reportPast (length l) settings l (ledgerSums settings l)
-      ≡ record {
-        answer = toldOf (chosenOf (scored settings l) (degrees settings l)) .answer;
-        scratch = zeros (length l);
-        written = toldOf (chosenOf (scored settings l) (degrees settings l)) .written;
-      }
+  pub past-chosen : reportPast (length l) settings l (ledgerSums settings l) ≡ reportBy (chosenOf (scored settings l) (degrees settings l))
   unfolding reportPast
-  past-told = rw (chosen-by settings l, solved-by settings l) refl
+  past-chosen = rw (chosen-by settings l, solved-by settings l) refl
 
   -- its number where a degree is chosen
-  number-some : (d : ℕ) → reportNumber (toldOf (Some (degree d)) .answer) ≡ cond (inverseFails (ledgerSums settings l) (countOf Curve d)) 12 0
+  number-some : (d : ℕ) → reportNumber (reportBy (Some (degree d)) .answer) ≡ cond (inverseFails (ledgerSums settings l) (countOf Curve d)) 12 0
   unfolding reportOf writtenBy
   number-some d = go (inverseFails (ledgerSums settings l) (countOf Curve d)) _ refl
     where
-      go : (t : Bool) (w : Told) → reportNumber (w .answer) ≡ 0 → reportNumber (cond t (told 12) w .answer) ≡ cond t 12 0
+      go : (t : Bool) (w : ReportOut) → reportNumber (w .answer) ≡ 0 → reportNumber (cond t (refusedLate (length l) 12) w .answer) ≡ cond t 12 0
       go true w h = refl
       go false w h = h
 
-module _ (settings : Settings) (l : List Sample) (o : ReportOut)
-    (e : record { answer = o .answer; written = o .written } ≡ toldOf settings l (chosenOf (scored settings l) (degrees settings l))) where
+module _ (settings : Settings) (l : List Sample) (o : ReportOut) (e : o ≡ reportBy settings l (chosenOf (scored settings l) (degrees settings l))) where
   S : ℕ → Scored
   S = scored settings l
 
   b : ℕ
   b = degrees settings l
 
-  answered : (c : OptionDegree) → chosenOf S b ≡ c → o .answer ≡ toldOf settings l c .answer
+  answered : (c : OptionDegree) → chosenOf S b ≡ c → o .answer ≡ reportBy settings l c .answer
   unfolding S b
-  answered c h = ap (λ (t : Told). t .answer) e ∙ ap (λ x. toldOf settings l x .answer) h
+  answered c h = ap (λ (t : ReportOut). t .answer) e ∙ ap (λ x. reportBy settings l x .answer) h
 
   number-of : (d : ℕ) → chosenOf S b ≡ Some (degree d) → reportNumber (o .answer) ≡ cond (inverseFails (ledgerSums settings l) (countOf Curve d)) 12 0
   number-of d h = ap reportNumber (answered (Some (degree d)) h) ∙ number-some settings l d
@@ -120,10 +113,9 @@ module _ (settings : Settings) (l : List Sample) (o : ReportOut)
   12-if-fails d w h = answered (Some (degree d)) (chosen-is S b d w) ∙ (rw h)
 
   otherwise : (d : ℕ) → IsChosen settings l d → inverseFails (ledgerSums settings l) (countOf Curve d) ≡ false
-      → record { answer = o .answer; written = o .written }
-      ≡ writtenBy (length l) settings l d (solvedCount (scored settings l) (degrees settings l)) (solve (ledgerSums settings l) (countOf Curve d) .c) (covarianceAt (ledgerSums settings l) (rowsOf l) (countOf Curve d))
+      → o ≡ writtenBy (length l) settings l d (solvedCount (scored settings l) (degrees settings l)) (solve (ledgerSums settings l) (countOf Curve d) .c) (covarianceAt (ledgerSums settings l) (rowsOf l) (countOf Curve d))
   unfolding S b reportOf
-  otherwise d w h = e ∙ ap (toldOf settings l) (chosen-is S b d w) ∙ (rw h)
+  otherwise d w h = e ∙ ap (reportBy settings l) (chosen-is S b d w) ∙ (rw h)
 
   one-chosen : (d e : ℕ) → IsChosen settings l d → IsChosen settings l e → d ≡ e
   unfolding S b

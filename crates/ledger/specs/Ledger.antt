@@ -15,9 +15,12 @@ use Rattle.monomial.specs.Sums.{sumsOf}
 use Rattle.frame.specs.Frame.{decode}
 use Rattle.book.specs.declared.Answer.{Answer}
 use Rattle.book.specs.declared.Answer.the-variants as answers
-use Rattle.book.specs.Refusals.{capacity, addRefusal, correctRefusal, withdrawRefusal, frameAddRefusal}
-use Rattle.book.specs.Calls.{Column, value, lengths, columnsOf, samplesIn, Out, State, stateOf, after, bookOf, bookAfter, settle, openOut, addOut, correctOut, withdrawOut, addFrameOut}
-use Rattle.ledger.specs.Window.{windowRefusal, windowOut}
+use Rattle.book.specs.Refusals.{addRefusal, correctRefusal, withdrawRefusal, frameAddRefusal}
+use Rattle.refusal.specs.Tests.{capacity}
+use Rattle.book.specs.Calls.{Out, State, stateOf, after, bookOf, bookAfter, openOut, addOut, correctOut, withdrawOut, addFrameOut}
+use Rattle.book.specs.Columns.{Column, value, lengths, columnsOf, samplesAt}
+use Rattle.refusal.specs.Refusals.{settle}
+use Rattle.book.specs.Window.{windowRefusal, windowOut}
 
 -- ---- calls
 
@@ -72,7 +75,7 @@ next s (reads q) = s
 unfoldable pub reply : {R W : Type 0} → Reading R W → State → Call R → Reply W
 reply readOn s (changes c) = said (outOf s c .answer)
 reply readOn s (reads q) =
-    told (readOn q (s .count) (samplesIn (s .count) (s .columns)) (take 272 (s .sums)) (lengths (s .columns)) (length (s .sums)))
+    told (readOn q (s .count) (samplesAt (s .count) (s .columns)) (take 272 (s .sums)) (lengths (s .columns)) (length (s .sums)))
 
 abbrev pub program : {R W : Type 0} → Reading R W → Machine State (Call R) (Reply W)
 program readOn = record { step = next; reply = reply readOn }

@@ -1,5 +1,4 @@
 -- Document 01's plain ledger, lists of calls, and what demand 3 says of them.
-pub mod Window
 pub mod Ledger
 pub mod Questions
 pub mod Words

@@ -7,7 +7,7 @@ use Rattle.statistics.specs.declared.Tolerance.{Tolerance}
 use Rattle.score.specs.declared.Criterion.{Criterion}
 use Rattle.query.specs.Fits.{FitOut, fitOn, validateOn}
 use Rattle.query.specs.Bands.{BandOut, bandFor}
-use Rattle.report.specs.declared.Settings.{Settings}
+use Rattle.settings.specs.declared.Settings.{Settings}
 use Rattle.report.specs.declared.Places.{Places}
 use Rattle.report.specs.Reports.{ReportOut, reportOn}
 use Rattle.ledger.specs.Ledger.{Reading}

@@ -8,7 +8,7 @@ use Rattle.monomial.specs.Samples.{Sample}
 use Rattle.monomial.specs.Rows.{rowsOf}
 use Rattle.monomial.specs.Sums.{sumsOf}
 use Rattle.book.specs.Calls.{bookOf, openOut}
-use Rattle.report.specs.declared.Settings.{Settings}
+use Rattle.settings.specs.declared.Settings.{Settings}
 use Rattle.report.specs.declared.Places.{Places}
 use Rattle.report.specs.Refusals.{reportRefusal}
 use Rattle.report.specs.Reports.{ReportOut, reportOn}

@@ -17,7 +17,7 @@ use Rattle.choice.specs.Laws.{Chosen}
 use Rattle.choice.specs.declared.Scored.{Scored}
 use Rattle.fit.specs.Solved.{scoredBy}
 use Rattle.measure.specs.Measures.{inverseFails, covarianceAt}
-use Rattle.report.specs.declared.Settings.{Settings}
+use Rattle.settings.specs.declared.Settings.{Settings}
 use Rattle.report.specs.declared.ReportAnswer.the-variants as answers
 use Rattle.report.specs.Reports.{ReportOut, writtenBy}
 
@@ -56,5 +56,4 @@ module _ (settings : Settings) (samples : List Sample) where
     -- Otherwise it names the chosen degree and the number of solved degrees, with that fit's coefficients, errors, bands, outliers and pruned terms,
     -- all as the ledger's samples give them.
     pub otherwise : (d : ℕ) → IsChosen d → inverseFails ledgerSums (countOf Curve d) ≡ false
-        → record { answer = o .answer; written = o .written }
-        ≡ writtenBy (length samples) settings samples d (solvedCount scored degrees) (solve ledgerSums (countOf Curve d) .c) (covarianceAt ledgerSums (rowsOf samples) (countOf Curve d))
+        → o ≡ writtenBy (length samples) settings samples d (solvedCount scored degrees) (solve ledgerSums (countOf Curve d) .c) (covarianceAt ledgerSums (rowsOf samples) (countOf Curve d))

@@ -12,15 +12,15 @@ use Rattle.statistics.specs.declared.StddevAndMean.{StddevAndMean}
 use Rattle.statistics.specs.declared.Tolerance.{Tolerance}
 use Rattle.basis.specs.Counts.{countOf}
 use Rattle.basis.specs.declared.Basis.the-variants.{Curve}
-use Rattle.monomial.specs.Samples.{Sample}
+use Rattle.monomial.specs.Samples.{Sample, ysOf}
 use Rattle.monomial.specs.Rows.{rowsOf}
 use Rattle.solve.specs.Solve.{solve}
 use Rattle.covariance.specs.Bands.{bandAt}
 use Rattle.covariance.specs.declared.Band.{Band}
-use Rattle.book.specs.Calls.{settle}
-use Rattle.book.specs.Many.{ysOf}
+use Rattle.refusal.specs.Refusals.{settle}
 use Rattle.measure.specs.Measures.{measureRefusal, covarianceAt}
-use Rattle.measure.specs.Written.{over, zeros}
+use Rattle.lent.specs.Written.{over}
+use Rattle.lent.specs.Written.{zeros}
 use Rattle.query.specs.declared.BandAnswer.{BandAnswer}
 use Rattle.query.specs.declared.BandAnswer.the-variants as answers
 use Rattle.query.specs.Bands.{BandOut, BandIs, bandRefused, bandOn, bandPast}

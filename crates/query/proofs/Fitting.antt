@@ -13,8 +13,9 @@ use Rattle.monomial.specs.Samples.{Sample}
 use Rattle.monomial.specs.Rows.{rowsOf}
 use Rattle.solve.specs.Solve.{solve}
 use Rattle.fit.specs.Solved.{isSolved}
-use Rattle.book.specs.Calls.{settle}
-use Rattle.measure.specs.Written.{over, zeros, over-within}
+use Rattle.refusal.specs.Refusals.{settle}
+use Rattle.lent.specs.Written.{over}
+use Rattle.lent.specs.Written.{zeros, over-within}
 use Rattle.query.specs.declared.FitAnswer.{FitAnswer}
 use Rattle.query.specs.declared.FitAnswer.the-variants as answers
 use Rattle.query.specs.Fits.{FitOut, FitIs, fitRefused, fitPast, validatePast, past-scratch}

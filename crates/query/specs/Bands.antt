@@ -1,4 +1,4 @@
--- Document 01's band for one x and degree: what it answers and writes, from samples, sums and lengths. Assumes nothing.
+-- Document 01's band for one x and degree: what it answers and writes, from samples, sums and lengths.
 use mathlib.Core.Path.{_≡_, refl}
 use mathlib.Core.List.{List, [], _∷_, List·Memᴰ, List·Memᴰ·head, List·Memᴰ·cases-cons, Memᴰ·append-right}
 use mathlib.Core.Logic.{⊎-elim}
@@ -13,20 +13,20 @@ use Rattle.statistics.specs.declared.Confidence.{Confidence}
 use Rattle.statistics.specs.declared.Tolerance.{Tolerance}
 use Rattle.basis.specs.Counts.{countOf}
 use Rattle.basis.specs.declared.Basis.the-variants.{Curve}
-use Rattle.monomial.specs.Samples.{Sample, samplesOf}
+use Rattle.monomial.specs.Samples.{Sample, samplesOf, ysOf}
 use Rattle.monomial.specs.Rows.{rowsOf}
 use Rattle.solve.specs.Solve.{solve}
 use Rattle.covariance.specs.Bands.{bandAt}
 use Rattle.covariance.specs.declared.Band.{Band}
-use Rattle.book.specs.Calls.{settle}
-use Rattle.book.specs.Refusals.{numbered}
-use Rattle.book.specs.Many.{ysOf}
-use Rattle.measure.specs.Given.{settled-among}
+use Rattle.refusal.specs.Refusals.{settle}
+use Rattle.refusal.specs.Laws.{numbered, settled-among}
 use Rattle.measure.specs.Measures.{measureRefusal, covarianceAt}
-use Rattle.measure.specs.Written.{over, zeros}
+use Rattle.lent.specs.Written.{over}
+use Rattle.lent.specs.Written.{zeros}
 use Rattle.query.specs.declared.BandAnswer.{BandAnswer}
 use Rattle.query.specs.declared.BandAnswer.the-variants as answers
-use Rattle.query.specs.Refusals.{bandRefusal, band-numbers}
+use Rattle.query.specs.Refusals.{bandRefusal}
+use Rattle.query.specs.RefusalLaws.{band-numbers}
 
 -- the answer, and the values written to scratch
 pub record BandOut : Type 0 where
@@ -84,4 +84,4 @@ unfolding bandFor bandPast measureRefusal
 band-answers n x degree confidence tolerance samples sums columns places scratch =
     settled-among (λ (o : BandOut). bandNumber (o .answer)) (bandRefusal n x degree confidence tolerance samples columns places scratch)
     (bandPast n x degree confidence tolerance samples sums) _ (0 ∷ 1 ∷ 4 ∷ 7 ∷ 8 ∷ 9 ∷ []) (10 ∷ 12 ∷ [])
-    (band-numbers n x degree confidence tolerance samples columns places scratch) (band-past-number _ _ (numbered _)) refl
+    (band-numbers n samples columns places scratch x degree confidence tolerance) (band-past-number _ _ (numbered _)) refl

@@ -1,4 +1,4 @@
--- Document 01's single fit and validation: what they answer and write, from samples, sums and lengths. Assumes nothing.
+-- Document 01's single fit and validation: what they answer and write, from samples, sums and lengths.
 use mathlib.Core.Path.{_≡_, refl}
 use mathlib.Core.Bool.{Bool, true, false, cond}
 use mathlib.Core.List.{List, [], _∷_, List·Memᴰ, List·Memᴰ·head, List·Memᴰ·tail, List·Memᴰ·cases-cons, Memᴰ·append-left, Memᴰ·append-right}
@@ -18,12 +18,14 @@ use Rattle.solve.specs.Solve.{solve}
 use Rattle.score.specs.declared.Criterion.{Criterion}
 use Rattle.fit.specs.Solved.{isSolved}
 use Rattle.folds.specs.Folds.{validatedChoice}
-use Rattle.book.specs.Calls.{settle}
-use Rattle.measure.specs.Given.{settled-among}
-use Rattle.measure.specs.Written.{over, zeros}
+use Rattle.refusal.specs.Refusals.{settle}
+use Rattle.refusal.specs.Laws.{settled-among}
+use Rattle.lent.specs.Written.{over}
+use Rattle.lent.specs.Written.{zeros}
 use Rattle.query.specs.declared.FitAnswer.{FitAnswer}
 use Rattle.query.specs.declared.FitAnswer.the-variants as answers
-use Rattle.query.specs.Refusals.{fitRefusal, validateRefusal, fit-numbers, validate-numbers}
+use Rattle.query.specs.Refusals.{fitRefusal, validateRefusal}
+use Rattle.query.specs.RefusalLaws.{fit-numbers, validate-numbers}
 
 -- the answer, and the values written to scratch and to the coefficients
 pub record FitOut : Type 0 where
@@ -110,7 +112,7 @@ pub fit-answers : (n degree : ℕ) (samples : List Sample) (sums : List Float) (
 unfolding fitOn
 fit-answers n degree samples sums columns places scratch coefficients =
     settled-among (λ (o : FitOut). fitNumber (o .answer)) (fitRefusal n degree samples columns places scratch coefficients) (fitPast n degree samples sums) _
-    (0 ∷ 1 ∷ 4 ∷ 7 ∷ 8 ∷ []) (10 ∷ []) (fit-numbers n degree samples columns places scratch coefficients)
+    (0 ∷ 1 ∷ 4 ∷ 7 ∷ 8 ∷ []) (10 ∷ []) (fit-numbers n samples columns places scratch degree coefficients)
     (past-among _ (fit-past-number n degree samples sums)) refl
 
 validate-past-number : (n : ℕ) (o : OptionDegree) (samples : List Sample) (sums : List Float)
@@ -124,5 +126,5 @@ pub validate-answers : (n folds : ℕ) (bound : DegreeBound) (criterion : Criter
 unfolding validateOn
 validate-answers n folds bound criterion samples sums columns places scratch coefficients =
     settled-among (λ (o : FitOut). fitNumber (o .answer)) (validateRefusal n folds bound samples columns places scratch coefficients) (validatePast n _ samples sums) _
-    (0 ∷ 1 ∷ 4 ∷ 7 ∷ 8 ∷ []) (10 ∷ 11 ∷ []) (validate-numbers n folds bound samples columns places scratch coefficients)
+    (0 ∷ 1 ∷ 4 ∷ 7 ∷ 8 ∷ []) (10 ∷ 11 ∷ []) (validate-numbers n samples columns places scratch folds bound coefficients)
     (validate-past-number n _ samples sums) refl

@@ -44,12 +44,12 @@ fn solve_at(
 {
     let k = degree.k(Basis::Curve);
     let s = fit::attempt(Basis::Curve, xs, xs, ys, n, &sums[..272], k, &mut *scratch);
-    measure::clear(&mut *scratch, n);
+    lent::clear(&mut *scratch, n);
     if !s.solved {
         return FitAnswer::Refused(10);
     }
     let c = s.c;
-    covariance::put_terms(c, coefficients);
+    lent::put_terms(c, coefficients);
     FitAnswer::Fit(degree)
 }
 
@@ -112,7 +112,7 @@ pub fn validate(
     let most = statistics::max_degree(bound, n);
     let chosen = folds::choose_by_folds(xs, ys, n, folds, most, criterion, &mut *scratch);
     let OptionDegree::Some(degree) = chosen else {
-        measure::clear(scratch, n);
+        lent::clear(scratch, n);
         return FitAnswer::Refused(11);
     };
     solve_at(n, degree, xs, ys, sums, scratch, coefficients)
@@ -149,7 +149,7 @@ pub fn band(
     }
     let k = degree.k(Basis::Curve);
     let m = measure::measure(Basis::Curve, xs, xs, ys, n, &sums[..272], k, &mut *scratch);
-    measure::clear(scratch, n);
+    lent::clear(scratch, n);
     if m.number != 0 {
         return BandAnswer::Refused(m.number);
     }

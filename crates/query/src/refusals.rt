@@ -5,67 +5,32 @@ use statistics::DegreeBound;
 use statistics::Tolerance;
 ghost use mathlib.Core.Path.{_≡_};
 ghost use mathlib.Core.List.{[], _∷_};
-ghost use Prim.Native.Nat.{_≤_};
 ghost use lib.ListN.{length};
 ghost use Rattle.monomial.specs.Samples.{samplesOf};
-ghost use Rattle.query.specs.Refusals.{noScratch, wrongFolds, degreeTooHigh, smaller as smallerF, larger as largerF, leastX, greatestX, fitRefusal, validateRefusal, bandRefusal};
+ghost use Rattle.refusal.specs.Tests.{tooShort};
+ghost use Rattle.query.specs.Refusals.{fitMemory, bandMemory, fitRefusal, validateRefusal, bandRefusal};
 
-// 1, of a call with scratch.
-fn no_scratch(n: usize, xs: usize, ys: usize, sums: usize, scratch: usize) -> bool
-    ensures { λ r. ⌜ r ≡ noScratch n (xs ∷ ys ∷ []) sums scratch ⌝ }
+// 1, of a fit or a validation.
+fn fit_short(
+    n: usize,
+    xs: usize,
+    ys: usize,
+    sums: usize,
+    scratch: usize,
+    coefficients: usize,
+) -> bool
+    ensures { λ r. ⌜ r ≡ tooShort n (xs ∷ ys ∷ []) (fitMemory n sums scratch coefficients) ⌝ }
 {
-    book::too_short(n, xs, ys, sums) | (scratch < n)
+    let written = refusal::short(n, scratch, refusal::short(16, coefficients, false));
+    refusal::too_short(n, xs, ys, refusal::short(272, sums, written))
 }
 
-// 7, of a validation.
-fn wrong_folds(n: usize, folds: usize) -> bool
-    ensures { λ r. ⌜ r ≡ wrongFolds n folds ⌝ }
+// 1, of a band.
+fn band_short(n: usize, xs: usize, ys: usize, sums: usize, scratch: usize) -> bool
+    ensures { λ r. ⌜ r ≡ tooShort n (xs ∷ ys ∷ []) (bandMemory n sums scratch) ⌝ }
 {
-    (n == 0) | ((folds < 2) | (n < folds))
-}
-
-// 8, of an asked degree.
-fn degree_too_high(n: usize, degree: Degree) -> bool
-    ensures { λ r. ⌜ r ≡ degreeTooHigh n (degree .0) ⌝ }
-{
-    let d = degree.0;
-    (n <= d) | (15 < d)
-}
-
-fn smaller(a: f64, x: f64) -> f64
-    ensures { λ r. ⌜ r ≡ smallerF a x ⌝ }
-{
-    if x < a { x } else { a }
-}
-
-fn larger(a: f64, x: f64) -> f64
-    ensures { λ r. ⌜ r ≡ largerF a x ⌝ }
-{
-    if a < x { x } else { a }
-}
-
-// The least of the first n numbers, +infinity if there are none.
-fn least_x(xs: &[f64], ys: &[f64], n: usize) -> f64
-    requires { ⌜ n ≤ length (now xs) ⌝ }
-    ensures { λ r. ⌜ r ≡ leastX (samplesOf n (now (xs .entry)) (now (ys .entry))) ⌝ }
-{
-    let mut v = f64::from_bits(0x7FF0_0000_0000_0000);
-    for i in 0..n {
-        v = smaller(v, xs[i]);
-    }
-    v
-}
-
-// The greatest of the first n numbers, −infinity if there are none.
-fn greatest_x(xs: &[f64], ys: &[f64], n: usize) -> f64
-    requires { ⌜ n ≤ length (now xs) ⌝ }
-    ensures { λ r. ⌜ r ≡ greatestX (samplesOf n (now (xs .entry)) (now (ys .entry))) ⌝ }
-{
-    let mut v = f64::from_bits(0xFFF0_0000_0000_0000);
-    for i in 0..n {
-        v = larger(v, xs[i]);
-    }
-    v
+    let written = refusal::short(n, scratch, false);
+    refusal::too_short(n, xs, ys, refusal::short(272, sums, written))
 }
 
 pub fn fit_refusal(
@@ -79,13 +44,16 @@ pub fn fit_refusal(
 ) -> u8
     ensures { λ r. ⌜ r ≡ fitRefusal n (degree .0) (samplesOf n (now (xs .entry)) (now (ys .entry))) (length (now (xs .entry)) ∷ length (now (ys .entry)) ∷ []) sums scratch coefficients ⌝ }
 {
-    let short = no_scratch(n, xs.len(), ys.len(), sums, scratch);
-    if short | (coefficients < 16) {
+    if fit_short(n, xs.len(), ys.len(), sums, scratch, coefficients) {
         return 1;
     }
-    let wrong = !measure::samples_finite(xs, ys, n);
-    let high = degree_too_high(n, degree);
-    book::first(wrong, 4, book::first(n == 0, 7, book::first(high, 8, 0)))
+    let wrong = !refusal::samples_finite(xs, ys, n);
+    let high = refusal::degree_too_high(n, degree);
+    refusal::first(
+        wrong,
+        4,
+        refusal::first(n == 0, 7, refusal::first(high, 8, 0)),
+    )
 }
 
 pub fn validate_refusal(
@@ -100,15 +68,17 @@ pub fn validate_refusal(
 ) -> u8
     ensures { λ r. ⌜ r ≡ validateRefusal n folds bound (samplesOf n (now (xs .entry)) (now (ys .entry))) (length (now (xs .entry)) ∷ length (now (ys .entry)) ∷ []) sums scratch coefficients ⌝ }
 {
-    let short = no_scratch(n, xs.len(), ys.len(), sums, scratch);
-    if short | (coefficients < 16) {
+    if fit_short(n, xs.len(), ys.len(), sums, scratch, coefficients) {
         return 1;
     }
-    let wrong = !measure::samples_finite(xs, ys, n);
-    let uneven = wrong_folds(n, folds);
-    let most = statistics::max_degree(bound, n);
-    let high = 15 < most.0;
-    book::first(wrong, 4, book::first(uneven, 7, book::first(high, 8, 0)))
+    let wrong = !refusal::samples_finite(xs, ys, n);
+    let uneven = refusal::wrong_folds(n, folds);
+    let high = refusal::bound_too_high(bound, n);
+    refusal::first(
+        wrong,
+        4,
+        refusal::first(uneven, 7, refusal::first(high, 8, 0)),
+    )
 }
 
 pub fn band_refusal(
@@ -124,19 +94,23 @@ pub fn band_refusal(
 ) -> u8
     ensures { λ r. ⌜ r ≡ bandRefusal n x (degree .0) confidence tolerance (samplesOf n (now (xs .entry)) (now (ys .entry))) (length (now (xs .entry)) ∷ length (now (ys .entry)) ∷ []) sums scratch ⌝ }
 {
-    if no_scratch(n, xs.len(), ys.len(), sums, scratch) {
+    if band_short(n, xs.len(), ys.len(), sums, scratch) {
         return 1;
     }
     let given = value::is_finite(x);
-    let score = measure::score_finite(confidence);
-    let width = measure::tolerance_finite(tolerance);
-    let samples = measure::samples_finite(xs, ys, n);
+    let score = refusal::score_finite(confidence);
+    let width = refusal::tolerance_finite(tolerance);
+    let samples = refusal::samples_finite(xs, ys, n);
     let wrong = !(given & score & width & samples);
-    let high = degree_too_high(n, degree);
-    let outside = (x < least_x(xs, ys, n)) | (greatest_x(xs, ys, n) < x);
-    book::first(
+    let high = refusal::degree_too_high(n, degree);
+    let outside = refusal::outside(x, xs, n);
+    refusal::first(
         wrong,
         4,
-        book::first(n == 0, 7, book::first(high, 8, book::first(outside, 9, 0))),
+        refusal::first(
+            n == 0,
+            7,
+            refusal::first(high, 8, refusal::first(outside, 9, 0)),
+        ),
     )
 }

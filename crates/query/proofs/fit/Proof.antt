@@ -1,10 +1,10 @@
--- `query::fit` meets its contract. Assumes nothing.
+-- `query::fit` meets its contract.
 use mathlib.Core.Path.{sym, _∙_}
 use Prim.Native.Nat.{_-_}
 use borrow.Author.Needs.{needs}
 use lib.ListN.{length}
 use Rattle.query.specs.Fits.{fitOn}
-use Rattle.query.specs.Refusals.{fit-room}
+use Rattle.query.specs.RefusalLaws.{fit-room}
 use Rattle.query.proofs.Fitting.{refused-early, let-through}
 use Rattle.query.proofs.fit.Statement.{statement}
 use Rattle.query.proofs.fit.Tie as tie
@@ -19,8 +19,8 @@ solve-at-requires : tie.Need-solve-at-requires
 solve-at-requires c κs =
     let at-args = c .before .before .before .before .before .before .before .before .before .args in
     let at-fit-refusal = c .before .before .before .fit-refusal in
-    let w = fit-room (at-args .book .count) (at-args .degree .0) _ (length (at-args .xs .now)) (length (at-args .ys .now)) (length (at-args .sums .now)) (length (at-args .scratch .now)) (length (at-args .coefficients .now)) (sym (at-fit-refusal .ensures) ∙ c .before .before .if1 .left) in
-    (w .lengths .room .xs, w .lengths .room .ys, w .lengths .scratch, w .lengths .room .sums, w .coefficients, w .most)
+    let w = fit-room _ _ _ _ _ (at-args .degree .0) _ (sym (at-fit-refusal .ensures) ∙ c .before .before .if1 .left) in
+    (w .0 .within .0, w .0 .within .1 .0, w .0 .enough .1 .0, w .0 .enough .0, w .0 .enough .1 .1 .0, w .1)
 
 returns-2 : tie.Need-returns-2
 unfolding fitOn

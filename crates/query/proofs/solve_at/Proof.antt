@@ -12,7 +12,7 @@ use Rattle.solve.specs.Solve.{solve}
 use lib.Seq.{length-take-le}
 use borrow.Author.Tests.{not-true, not-false}
 use Rattle.solve.specs.Laws.{solve-within}
-use Rattle.measure.specs.Written.{over-by, over-cleared}
+use Rattle.lent.specs.Written.{over-by, over-cleared}
 use Rattle.query.proofs.Fitting.{fit-unsolved, fit-solved}
 use Rattle.query.proofs.solve_at.Statement.{statement}
 use Rattle.query.proofs.solve_at.Tie as tie

@@ -1,4 +1,4 @@
--- `query::validate` meets its contract. Assumes nothing.
+-- `query::validate` meets its contract.
 use mathlib.Core.Path.{sym, ap, _∙_}
 use mathlib.Core.List.{List}
 use Prim.Native.Nat.{_+_, _-_}
@@ -11,8 +11,8 @@ use Rattle.basis.specs.declared.Basis.the-variants.{Curve}
 use Rattle.monomial.specs.Rows.{Row, rowsOf, curve-rows}
 use Rattle.choice.specs.Laws.{chosen}
 use Rattle.folds.specs.Folds.{validated, validatedChoice}
-use Rattle.query.specs.Refusals.{validate-room}
-use Rattle.measure.specs.Written.{over-cleared}
+use Rattle.query.specs.RefusalLaws.{validate-room}
+use Rattle.lent.specs.Written.{over-cleared}
 use Rattle.query.specs.Fits.{validateOn}
 use Rattle.query.proofs.Fitting.{refused-early, let-through, none-validated, one-validated}
 use Rattle.query.proofs.validate.Statement.{statement}
@@ -28,8 +28,8 @@ choose-by-folds-requires : tie.Need-choose-by-folds-requires
 choose-by-folds-requires c κs =
     let at-args = c .before .before .before .before .before .before .before .before .before .args in
     let at-validate-refusal = c .before .before .before .validate-refusal in
-    let w = validate-room (at-args .book .count) (at-args .folds) (at-args .bound) _ (length (at-args .xs .now)) (length (at-args .ys .now)) (length (at-args .sums .now)) (length (at-args .scratch .now)) (length (at-args .coefficients .now)) (sym (at-validate-refusal .ensures) ∙ c .before .before .if1 .left) in
-    (w .lengths .room .xs, w .lengths .room .ys, w .lengths .scratch, omega (arith, w .most, c .before .max-degree .ensures))
+    let w = validate-room _ _ _ _ _ (at-args .folds) (at-args .bound) _ (sym (at-validate-refusal .ensures) ∙ c .before .before .if1 .left) in
+    (w .0 .within .0, w .0 .within .1 .0, w .0 .enough .1 .0, omega (arith, w .1, c .before .max-degree .ensures))
 
 clear-requires : tie.Need-clear-requires
 clear-requires c κs =
@@ -37,8 +37,8 @@ clear-requires c κs =
     let at-validate-refusal = c .before .before .before .before .before .before .before .before .before .validate-refusal in
     let at-if1 = c .before .before .before .before .before .before .before .before .if1 in
     let at-choose-by-folds = c .before .before .before .before .before .choose-by-folds in
-    let w = validate-room (at-args .book .count) (at-args .folds) (at-args .bound) _ (length (at-args .xs .now)) (length (at-args .ys .now)) (length (at-args .sums .now)) (length (at-args .scratch .now)) (length (at-args .coefficients .now)) (sym (at-validate-refusal .ensures) ∙ at-if1 .left) in
-    omega (arith, w .lengths .scratch, at-choose-by-folds .ensures .1 .long)
+    let w = validate-room _ _ _ _ _ (at-args .folds) (at-args .bound) _ (sym (at-validate-refusal .ensures) ∙ at-if1 .left) in
+    omega (arith, w .0 .enough .1 .0, at-choose-by-folds .ensures .1 .long)
 
 returns-2 : tie.Need-returns-2
 unfolding validateOn
@@ -63,10 +63,10 @@ solve-at-requires c κs =
     let at-max-degree = c .before .before .before .before .before .before .before .before .before .max-degree in
     let at-choose-by-folds = c .before .before .before .before .before .before .before .choose-by-folds in
     let at-chosen = c .before .before .before .chosen in
-    let w = validate-room (at-args .book .count) (at-args .folds) (at-args .bound) _ (length (at-args .xs .now)) (length (at-args .ys .now)) (length (at-args .sums .now)) (length (at-args .scratch .now)) (length (at-args .coefficients .now)) (sym (at-validate-refusal .ensures) ∙ at-if1 .left) in
+    let w = validate-room _ _ _ _ _ (at-args .folds) (at-args .bound) _ (sym (at-validate-refusal .ensures) ∙ at-if1 .left) in
     let found = at-choose-by-folds .ensures .0 ∙ ap (λ (rows : List Row). validatedChoice (at-args .criterion) rows (at-args .folds) (at-max-degree .result .0)) (curve-rows (at-args .book .count) (at-args .xs .now) (at-args .xs .now) (at-args .ys .now)) in
     let d = chosen (λ d. validated (at-args .criterion) (rowsOf (samplesOf (at-args .book .count) (at-args .xs .now) (at-args .ys .now))) (at-args .folds) (countOf Curve d)) (at-max-degree .result .0 + 1) _ (sym found ∙ at-chosen .given .1) in
-    (w .lengths .room .xs, w .lengths .room .ys, omega (arith, w .lengths .scratch, at-choose-by-folds .ensures .1 .long), w .lengths .room .sums, w .coefficients, omega (arith, w .most, at-max-degree .ensures, d .within))
+    (w .0 .within .0, w .0 .within .1 .0, omega (arith, w .0 .enough .1 .0, at-choose-by-folds .ensures .1 .long), w .0 .enough .0, w .0 .enough .1 .1 .0, omega (arith, w .1, at-max-degree .ensures, d .within))
 
 returns-3 : tie.Need-returns-3
 unfolding validateOn

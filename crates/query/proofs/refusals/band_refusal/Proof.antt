@@ -1,63 +1,57 @@
--- `query::refusals::band_refusal` meets its contract. Assumes nothing.
-use mathlib.Core.Path.{refl, sym, ap, ap₂, _∙_}
-use mathlib.Core.Bool.{not, _&&_, _||_}
-use Prim.Native.Nat.{_-_}
+use mathlib.Core.Path.{_≡_, refl, sym, ap, ap₂, subst, _∙_}
+use mathlib.Core.Bool.{Bool, true, false, cond, not, _&&_, _||_}
+use mathlib.Core.List.{List, [], _∷_, _++_, map}
+use Prim.Native.Nat.{ℕ, _+_, _-_, _*_, _/_, _%_, _≤_, _<_}
+use native.Mathlib.Omega.{arith}
 use borrow.Author.Needs.{needs}
-use lib.ListN.{length}
+use lib.ListN.{length, getD, set, take, drop, replicate, length-set}
+use lib.Ieee.{Float, nan, binary64, add, sub, mul, div}
+use mathlib.Core.Path.{refl, sym, ap, ap₂, _∙_}
+use mathlib.Core.Bool.{not, _&&_}
 use lib.Dec.{eqb}
-use lib.Ieee.{lt}
-use Rattle.book.specs.Refusals.{first-of, first-end}
-use Rattle.measure.specs.Given.{short-first, rest-first}
-use Rattle.query.specs.Refusals.{bandRefusal, lengths}
+use Rattle.monomial.specs.Samples.{xs-of-samples}
+use Rattle.refusal.specs.Laws.{first-of, first-end, first-holds, first-fails}
+use Rattle.refusal.specs.Rooms.{room}
+use Rattle.refusal.specs.Tests.{outside}
+use Rattle.query.specs.Refusals.{bandRefusal}
 use Rattle.query.proofs.refusals.band_refusal.Statement.{statement}
 use Rattle.query.proofs.refusals.band_refusal.Tie as tie
 
 returns : tie.Need-returns
 unfolding bandRefusal
-returns c = short-first _ _ 1 _ (c .before .no-scratch .ensures) (c .if1 .taken)
+returns c = first-holds 1 _ (c .before .band-short .ensures) (c .if1 .taken)
 
 samples-finite-requires : tie.Need-samples-finite-requires
 samples-finite-requires c κs =
-    let at-args = c .before .before .before .before .before .before .before .args in
-    let at-no-scratch = c .before .before .before .before .no-scratch in
+    let at-band-short = c .before .before .before .before .band-short in
     let at-if1 = c .before .before .before .if1 in
-    let r = lengths (at-args .n) (length (at-args .xs .now)) (length (at-args .ys .now)) (at-args .sums) (at-args .scratch) (sym (at-no-scratch .ensures) ∙ at-if1 .left) in
-    (r .room .xs, r .room .ys)
+    let r = room _ _ _ (sym (at-band-short .ensures) ∙ at-if1 .left) in
+    (r .within .0, r .within .1 .0)
 
-least-x-requires : tie.Need-least-x-requires
-least-x-requires c κs =
-    let at-args = c .before .before .before .before .before .before .before .before .before .args in
-    let at-no-scratch = c .before .before .before .before .before .before .no-scratch in
+outside-requires : tie.Need-outside-requires
+outside-requires c κs =
+    let at-band-short = c .before .before .before .before .before .before .band-short in
     let at-if1 = c .before .before .before .before .before .if1 in
-    let r = lengths (at-args .n) (length (at-args .xs .now)) (length (at-args .ys .now)) (at-args .sums) (at-args .scratch) (sym (at-no-scratch .ensures) ∙ at-if1 .left) in
-    r .room .xs
-
-greatest-x-requires : tie.Need-greatest-x-requires
-greatest-x-requires c κs =
-    let at-args = c .before .before .before .before .before .before .before .before .before .before .args in
-    let at-no-scratch = c .before .before .before .before .before .before .before .no-scratch in
-    let at-if1 = c .before .before .before .before .before .before .if1 in
-    let r = lengths (at-args .n) (length (at-args .xs .now)) (length (at-args .ys .now)) (at-args .sums) (at-args .scratch) (sym (at-no-scratch .ensures) ∙ at-if1 .left) in
-    r .room .xs
+    room _ _ _ (sym (at-band-short .ensures) ∙ at-if1 .left) .within .0
 
 returns-2 : tie.Need-returns-2
 unfolding bandRefusal
 returns-2 c =
-    let at-no-scratch = c .before .before .before .before .before .before .before .before .before .before .before .before .no-scratch in
-    let at-if1 = c .before .before .before .before .before .before .before .before .before .before .before .if1 in
-    let at-is-finite = c .before .before .before .before .before .before .before .before .before .before .is-finite in
-    let at-score-finite = c .before .before .before .before .before .before .before .before .before .score-finite in
-    let at-tolerance-finite = c .before .before .before .before .before .before .before .before .tolerance-finite in
-    let at-samples-finite = c .before .before .before .before .before .before .before .samples-finite in
-    let at-args = c .before .before .before .before .before .before .before .before .before .before .before .before .before .before .before .args in
-    let at-degree-too-high = c .before .before .before .before .before .before .degree-too-high in
-    let at-least-x = c .before .before .before .before .before .least-x in
-    let at-greatest-x = c .before .before .before .before .greatest-x in
+    let at-band-short = c .before .before .before .before .before .before .before .before .before .before .before .band-short in
+    let at-if1 = c .before .before .before .before .before .before .before .before .before .before .if1 in
+    let at-outside = c .before .before .before .before .outside in
+    let at-args = c .before .before .before .before .before .before .before .before .before .before .before .before .before .before .args in
+    let at-is-finite = c .before .before .before .before .before .before .before .before .before .is-finite in
+    let at-score-finite = c .before .before .before .before .before .before .before .before .score-finite in
+    let at-tolerance-finite = c .before .before .before .before .before .before .before .tolerance-finite in
+    let at-samples-finite = c .before .before .before .before .before .before .samples-finite in
+    let at-degree-too-high = c .before .before .before .before .before .degree-too-high in
     let at-first = c .before .before .before .first in
-    rest-first _ _ 1 _ _ (at-no-scratch .ensures) (at-if1 .left)
+    let within = room _ _ _ (sym (at-band-short .ensures) ∙ at-if1 .left) .within .0 in
+    let beyond = at-outside .ensures ∙ ap (outside (at-args .x)) (sym (xs-of-samples (at-args .n) (at-args .xs .now) (at-args .ys .now) within)) in
+    first-fails 1 _ (at-band-short .ensures) (at-if1 .left)
     (first-of 4 _ (ap not (ap₂ _&&_ (ap₂ _&&_ (ap₂ _&&_ (at-is-finite .ensures) (at-score-finite .ensures)) (at-tolerance-finite .ensures)) (at-samples-finite .ensures)))
-    (first-of 7 _ {t = eqb (at-args .n) 0} refl (first-of 8 _ (at-degree-too-high .ensures)
-    (first-of 9 _ (ap₂ (λ a b. lt (at-args .x) a || lt b (at-args .x)) (at-least-x .ensures) (at-greatest-x .ensures)) first-end (at-first .ensures)) (c .before .before .first2 .ensures)) (c .before .first3 .ensures)) (c .first4 .ensures))
+    (first-of 7 _ {t = eqb (at-args .n) 0} refl (first-of 8 _ (at-degree-too-high .ensures) (first-of 9 _ beyond first-end (at-first .ensures)) (c .before .before .first2 .ensures)) (c .before .first3 .ensures)) (c .first4 .ensures))
 
 pub band-refusal-spec : {M : Type 1} → statement M
 band-refusal-spec =
@@ -70,8 +64,7 @@ band-refusal-spec =
     (λ c κs. search needs)
     samples-finite-requires
     (λ c κs. search needs)
-    least-x-requires
-    greatest-x-requires
+    outside-requires
     (λ c κs. search needs)
     (λ c κs. search needs)
     (λ c κs. search needs)

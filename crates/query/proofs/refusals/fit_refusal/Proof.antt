@@ -1,41 +1,38 @@
--- `query::refusals::fit_refusal` meets its contract. Assumes nothing.
-use mathlib.Core.Path.{refl, sym, ap, _∙_}
-use mathlib.Core.Bool.{Bool, not, _||_}
-use mathlib.Core.List.{[], _∷_}
-use Prim.Native.Nat.{_-_}
+use mathlib.Core.Path.{_≡_, refl, sym, ap, ap₂, subst, _∙_}
+use mathlib.Core.Bool.{Bool, true, false, cond, not, _&&_, _||_}
+use mathlib.Core.List.{List, [], _∷_, _++_, map}
+use Prim.Native.Nat.{ℕ, _+_, _-_, _*_, _/_, _%_, _≤_, _<_}
+use native.Mathlib.Omega.{arith}
 use borrow.Author.Needs.{needs}
-use lib.ListN.{length}
-use lib.Dec.{ltb, eqb}
-use Rattle.loops.specs.Cases.{or-false}
-use Rattle.book.specs.Refusals.{first-of, first-end}
-use Rattle.measure.specs.Given.{short-first, rest-first}
-use Rattle.query.specs.Refusals.{noScratch, fitRefusal, lengths}
+use lib.ListN.{length, getD, set, take, drop, replicate, length-set}
+use lib.Ieee.{Float, nan, binary64, add, sub, mul, div}
+use mathlib.Core.Path.{refl, sym, ap, _∙_}
+use mathlib.Core.Bool.{not}
+use lib.Dec.{eqb}
+use Rattle.refusal.specs.Laws.{first-of, first-end, first-holds, first-fails}
+use Rattle.refusal.specs.Rooms.{room}
+use Rattle.query.specs.Refusals.{fitRefusal}
 use Rattle.query.proofs.refusals.fit_refusal.Statement.{statement}
 use Rattle.query.proofs.refusals.fit_refusal.Tie as tie
 
 returns : tie.Need-returns
 unfolding fitRefusal
-returns c =
-    let at-args = c .before .before .before .before .args in
-    let more = ltb (at-args .coefficients) 16 in
-    short-first (noScratch (at-args .n) (length (at-args .xs .now) ∷ length (at-args .ys .now) ∷ []) (at-args .sums) (at-args .scratch) || more) (c .before .no-scratch .result || more) 1 _ (ap (λ (t : Bool). t || more) (c .before .no-scratch .ensures)) (c .if1 .taken)
+returns c = first-holds 1 _ (c .before .fit-short .ensures) (c .if1 .taken)
 
 samples-finite-requires : tie.Need-samples-finite-requires
 samples-finite-requires c κs =
-    let at-args = c .before .before .before .before .args in
-    let r = lengths (at-args .n) (length (at-args .xs .now)) (length (at-args .ys .now)) (at-args .sums) (at-args .scratch) (sym (c .before .no-scratch .ensures) ∙ or-false _ _ (c .if1 .left) .0) in
-    (r .room .xs, r .room .ys)
+    let r = room _ _ _ (sym (c .before .fit-short .ensures) ∙ c .if1 .left) in
+    (r .within .0, r .within .1 .0)
 
 returns-2 : tie.Need-returns-2
 unfolding fitRefusal
 returns-2 c =
-    let at-args = c .before .before .before .before .before .before .before .before .before .args in
-    let at-no-scratch = c .before .before .before .before .before .before .no-scratch in
+    let at-fit-short = c .before .before .before .before .before .before .fit-short in
     let at-if1 = c .before .before .before .before .before .if1 in
     let at-samples-finite = c .before .before .before .before .samples-finite in
+    let at-args = c .before .before .before .before .before .before .before .before .before .args in
     let at-degree-too-high = c .before .before .before .degree-too-high in
-    let more = ltb (at-args .coefficients) 16 in
-    rest-first (noScratch (at-args .n) (length (at-args .xs .now) ∷ length (at-args .ys .now) ∷ []) (at-args .sums) (at-args .scratch) || more) (at-no-scratch .result || more) 1 _ _ (ap (λ (t : Bool). t || more) (at-no-scratch .ensures)) (at-if1 .left)
+    first-fails 1 _ (at-fit-short .ensures) (at-if1 .left)
     (first-of 4 _ (ap not (at-samples-finite .ensures)) (first-of 7 _ {t = eqb (at-args .n) 0} refl (first-of 8 _ (at-degree-too-high .ensures) first-end (c .before .before .first .ensures)) (c .before .first2 .ensures)) (c .first3 .ensures))
 
 pub fit-refusal-spec : {M : Type 1} → statement M

@@ -1,4 +1,4 @@
--- E11: in a window book an add to a full book first withdraws sample 0. By 01's withdrawal and add. Definitions only. (In the product: book/specs.)
+-- Document 02's window book: an add to a full book first withdraws sample 0, by 01's withdrawal and add. Definitions only.
 use mathlib.Core.Bool.{cond, not}
 use mathlib.Core.List.{List, [], _∷_}
 use Prim.Native.Nat.{ℕ}
@@ -6,13 +6,17 @@ use lib.Dec.{eqb}
 use lib.ListN.{length}
 use lib.Ieee.{Float}
 use Rattle.monomial.specs.Samples.{Sample}
-use Rattle.book.specs.Refusals.{by, firstOf, capacity, tooShort, sampleFinite}
-use Rattle.book.specs.Calls.{Columns, lengths, Out, State, after, settle, refused, withdrawOut, addNext, bookAnswered}
+use Rattle.refusal.specs.Refusals.{Refusal, by, firstOf, settle}
+use Rattle.refusal.specs.Tests.{capacity, bookShort, sampleFinite}
+use Rattle.book.specs.Columns.{Columns, lengths}
+use Rattle.book.specs.Calls.{Out, State, after, refused, withdrawOut, addNext, bookAnswered}
 
 -- 5's condition for single adds there is that capacity is zero
+abbrev pub windowTests : ℕ → Sample → List ℕ → ℕ → List Refusal
+windowTests n p columns sums = by (bookShort n columns sums) 1 ∷ by (not (sampleFinite p)) 4 ∷ by (eqb (capacity columns) 0) 5 ∷ []
+
 unfoldable pub windowRefusal : ℕ → Sample → List ℕ → ℕ → ℕ
-windowRefusal n p columns sums =
-    firstOf (by (tooShort n columns sums) 1 ∷ by (not (sampleFinite p)) 4 ∷ by (eqb (capacity columns) 0) 5 ∷ [])
+windowRefusal n p columns sums = firstOf (windowTests n p columns sums)
 
 -- a full book without sample 0, any other as it is
 unfoldable pub withPlace : State → State

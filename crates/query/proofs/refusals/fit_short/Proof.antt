@@ -1,0 +1,21 @@
+use mathlib.Core.Path.{_≡_, refl, sym, ap, ap₂, subst, _∙_}
+use mathlib.Core.Bool.{Bool, true, false, cond, not, _&&_, _||_}
+use mathlib.Core.List.{List, [], _∷_, _++_, map}
+use Prim.Native.Nat.{ℕ, _+_, _-_, _*_, _/_, _%_, _≤_, _<_}
+use native.Mathlib.Omega.{arith}
+use borrow.Author.Needs.{needs}
+use lib.ListN.{length, getD, set, take, drop, replicate, length-set}
+use lib.Ieee.{Float, nan, binary64, add, sub, mul, div}
+use Rattle.refusal.specs.Rooms.{short-of, short-end, short-is}
+use Rattle.query.proofs.refusals.fit_short.Statement.{statement}
+use Rattle.query.proofs.refusals.fit_short.Tie as tie
+
+returns : tie.Need-returns
+returns c =
+    let at-short = c .before .before .before .short in
+    short-is _ _ _ (c .too-short .ensures) (short-of _ _ _ (c .before .short3 .ensures) (short-of _ _ _ (c .before .before .short2 .ensures) (short-of _ _ _ (at-short .ensures) short-end)))
+
+pub fit-short-spec : {M : Type 1} → statement M
+fit-short-spec =
+    tie.close
+    (tie.spec (λ c κs. search needs) (λ c κs. search needs) (λ c κs. search needs) (λ c κs. search needs) returns)
