@@ -1,4 +1,4 @@
--- From what the book's own call promises to what the C interface promises. Assumes nothing.
+-- From what the book's own call promises to what the C interface promises.
 use mathlib.Core.Path.{_≡_, refl, ap, _∙_}
 use mathlib.Core.Bool.{true, false}
 use mathlib.Core.List.{List, [], _∷_}
@@ -14,39 +14,22 @@ use Rattle.query.specs.declared.BandAnswer.{BandAnswer}
 use Rattle.query.specs.Fits.{FitOut, FitIs}
 use Rattle.query.specs.Bands.{BandOut, BandIs}
 use Rattle.report.specs.declared.ReportAnswer.{ReportAnswer}
-use Rattle.report.specs.Reports.{ReportOut, ReportIs}
-use Rattle.measure.specs.Written.{over}
+use Rattle.report.specs.Reports.{ReportOut, Does}
+use Rattle.report.specs.Outputs.{Lent}
+use Rattle.lent.specs.Slices.{Slice, before, after}
+use Rattle.lent.specs.Written.{over}
 use Rattle.capi.specs.Packed.{packedRefusal, packedBook, packedFit, packedBand, packedReport, bandNumbers, bandInto, BookPacked, FitPacked, BandPacked, ReportPacked}
 
 pub book-packed : {o : Out} {a : Answer} {r : ℕ} {xs ys sums : List Float} → Is o a xs ys sums → r ≡ packedBook a → BookPacked o r xs ys sums
 book-packed i e =
     record { answer = e ∙ ap packedBook (i .answer); lent = record { answer = refl; xs = i .xs; ys = i .ys; sums = i .sums } }
 
-pub fit-packed : {o : FitOut} {a : FitAnswer} {r : ℕ} {s s′ c c′ : List Float} → FitIs o a s s′ c c′ → r ≡ packedFit a → FitPacked o r s s′ c c′
-fit-packed i e =
+pub fit-packed : {o : FitOut} {a : FitAnswer} {r : ℕ} (s c : Slice Float) → FitIs o a (before s) (after s) (before c) (after c) → r ≡ packedFit a → FitPacked o r s c
+fit-packed s c i e =
     record { answer = e ∙ ap packedFit (i .answer); lent = record { answer = refl; scratch = i .scratch; coefficients = i .coefficients } }
 
-pub report-packed : {o : ReportOut} {a : ReportAnswer} {r : ℕ} {s s′ c c′ e e′ : List Float} {p p′ : List ℕ} {l l′ u u′ : List Float} {b b′ : List ℕ}
-    → ReportIs o a s s′ c c′ e e′ p p′ l l′ u u′ b b′ → r ≡ packedReport a → ReportPacked o r s s′ c c′ e e′ p p′ l l′ u u′ b b′
-report-packed i q =
-    let w = i .outputs in
-    record {
-      answer = q ∙ ap packedReport (w .answer);
-      lent =
-          record {
-            scratch = i .scratch;
-            outputs =
-                record {
-                  answer = refl;
-                  coefficients = w .coefficients;
-                  errors = w .errors;
-                  pruned = w .pruned;
-                  lower = w .lower;
-                  upper = w .upper;
-                  outliers = w .outliers;
-                };
-          };
-    }
+pub report-packed : {o : ReportOut} {a : ReportAnswer} {r : ℕ} {w : Lent} → Does o a w → r ≡ packedReport a → ReportPacked o r w
+report-packed i q = record { answer = q ∙ ap packedReport (i .answer); lent = record { answer = refl; outputs = i .outputs } }
 
 -- three places are written
 pub three-written : (v w u : Float) (l : List Float) → 3 ≤ length l → set (set (set l 0 v) 1 w) 2 u ≡ over (v ∷ w ∷ u ∷ []) l
@@ -56,18 +39,18 @@ three-written v w u (a ∷ b ∷ []) h = absurd (omega arith)
 three-written v w u (a ∷ b ∷ d ∷ l) h = refl
 
 -- a band into too few places, and into enough
-module _ (o : BandOut) (places : ℕ) (s v : List Float) where
-  pub band-short : ltb places 3 ≡ true → (r : ℕ) → r ≡ packedRefusal 1 → BandPacked (bandInto places o) r s s v v
+module _ (o : BandOut) (places : ℕ) (s v : Slice Float) where
+  pub band-short : ltb places 3 ≡ true → after s ≡ before s → after v ≡ before v → (r : ℕ) → r ≡ packedRefusal 1 → BandPacked (bandInto places o) r s v
   unfolding bandInto packedBand bandNumbers
-  band-short h r e = rw h (record { answer = e; lent = record { answer = refl; scratch = refl }; numbers = refl })
+  band-short h es ev r e = rw h (record { answer = e; lent = record { answer = refl; scratch = es }; numbers = ev })
 
-  pub band-packed : ltb places 3 ≡ false → (a : BandAnswer) (r : ℕ) (s′ v′ : List Float) → BandIs o a s s′ → r ≡ packedBand a
-      → v′ ≡ over (bandNumbers a) v → BandPacked (bandInto places o) r s s′ v v′
+  pub band-packed : ltb places 3 ≡ false → (a : BandAnswer) (r : ℕ) → BandIs o a (before s) (after s) → r ≡ packedBand a
+      → after v ≡ over (bandNumbers a) (before v) → BandPacked (bandInto places o) r s v
   unfolding bandInto
-  band-packed h a r s′ v′ i e n =
+  band-packed h a r i e n =
       rw h
       (record {
         answer = e ∙ ap packedBand (i .answer);
         lent = record { answer = refl; scratch = i .scratch };
-        numbers = n ∙ ap (λ (b : BandAnswer). over (bandNumbers b) v) (i .answer);
+        numbers = n ∙ ap (λ (b : BandAnswer). over (bandNumbers b) (before v)) (i .answer);
       })

@@ -1,5 +1,5 @@
 -- What the calls can answer fits the fields that it is packed into: a count of at most 4,096, a degree of at most 15, at most 16 solved degrees and
--- pruned terms, at most 4,096 outliers, and refusals 1 to 12. Assumes nothing.
+-- pruned terms, at most 4,096 outliers, and refusals 1 to 12.
 use mathlib.Core.Path.{_≡_, refl, ap, _∙_}
 use mathlib.Core.Bool.{Bool, true, false, cond, not, _&&_}
 use mathlib.Core.List.{List, [], _∷_, map, List·Memᴰ, List·Memᴰ·head, List·Memᴰ·tail}
@@ -35,20 +35,26 @@ use Rattle.covariance.specs.Marks.{mark, ones, ones-again}
 use Rattle.covariance.specs.Pruning.{prunes, prunedAt, prunedBytes}
 use Rattle.covariance.specs.Bands.{bandAt, outlies, outlierOf, outliersOf}
 use Rattle.frame.specs.Frame.{decode}
-use Rattle.book.specs.Refusals.{by, numbered, openRefusal, addRefusal, correctRefusal, withdrawRefusal, frameAddRefusal, open-numbers, add-numbers, correct-numbers, withdraw-numbers, frame-numbers, add-room, correct-room, withdraw-room, frame-room}
-use Rattle.book.specs.Calls.{columnsOf, Out, stateOf, settle, refused, openOut, addOut, correctOut, withdrawOut, addFrameOut}
+use Rattle.book.specs.Refusals.{openRefusal, addRefusal, correctRefusal, withdrawRefusal, frameAddRefusal}
+use Rattle.refusal.specs.Refusals.{by, settle}
+use Rattle.refusal.specs.Laws.{numbered}
+use Rattle.book.specs.RefusalLaws.{open-numbers, add-numbers, correct-numbers, withdraw-numbers, frame-numbers, add-room, correct-room, withdraw-room, frame-room}
+use Rattle.book.specs.Calls.{Out, stateOf, refused, openOut, addOut, correctOut, withdrawOut, addFrameOut}
+use Rattle.book.specs.Columns.{columnsOf}
 use Rattle.book.specs.Many.{many-added, added-is}
 use Rattle.measure.specs.Measures.{inverseFails, measureRefusal, covarianceAt}
-use Rattle.query.specs.Refusals.{fitRefusal, validateRefusal, bandRefusal, fit-numbers, validate-numbers, band-numbers, fit-room, validate-room}
+use Rattle.query.specs.Refusals.{fitRefusal, validateRefusal, bandRefusal}
+use Rattle.query.specs.RefusalLaws.{fit-numbers, validate-numbers, band-numbers, fit-room, validate-room}
 use Rattle.query.specs.declared.BandAnswer.the-variants as bands
 use Rattle.query.specs.Fits.{FitOut, fitRefused, fitPast, fitOn, fitOut, validatePast, validateOn, validateOut}
 use Rattle.query.specs.Bands.{BandOut, bandRefused, bandPast, bandFor, bandOut}
 use Rattle.report.specs.declared.ReportAnswer.the-variants as reports
-use Rattle.report.specs.declared.Settings.{Settings}
+use Rattle.settings.specs.declared.Settings.{Settings}
 use Rattle.report.specs.declared.Places.{Places}
-use Rattle.report.specs.Refusals.{reportRefusal, report-numbers, report-room}
+use Rattle.report.specs.Refusals.{reportRefusal}
+use Rattle.report.specs.RefusalLaws.{report-numbers, report-room}
 use Rattle.report.specs.Chosen.{reportChoice, chosen-solved}
-use Rattle.report.specs.Reports.{ReportOut, nothing, told, reportOf, reportPast, reportOn, reportOut, writtenBy}
+use Rattle.report.specs.Reports.{ReportOut, refusedEarly, refusedLate, reportOf, reportPast, reportOn, reportOut, writtenBy}
 use Rattle.capi.specs.Packed.{BookFits, FitFits, BandFits, ReportFits, bandInto}
 
 -- the largest of a list of numbers
@@ -103,7 +109,7 @@ solved-most S b =
 
 -- ---- the calls that change a book
 
-book-fits : (k : ℕ) (good : Out) (xs ys sums : List Float) → k ≤ 12 → (k ≡ 0 → BookFits (good .answer)) → BookFits (settle k good (refused k (columnsOf xs ys) sums) .answer)
+book-fits : (k : ℕ) (good : Out) (xs ys sums : List Float) → k ≤ 255 → (k ≡ 0 → BookFits (good .answer)) → BookFits (settle k good (refused k (columnsOf xs ys) sums) .answer)
 unfolding BookFits
 book-fits zero good xs ys sums h g = g refl
 book-fits (suc k) good xs ys sums h g = (omega arith, h)
@@ -118,30 +124,30 @@ module _ (n : ℕ) (xs ys sums : List Float) where
   unfolding addOut BookFits
   add-fits p =
       book-fits (addRefusal n p (length xs ∷ length ys ∷ []) (length sums)) _ xs ys sums
-      (omega (arith, among _ (add-numbers n p (length xs ∷ length ys ∷ []) (length sums))))
-      (λ e. add-room n (length xs) (length ys) (length sums) p e .0 .most)
+      (omega (arith, among _ (add-numbers n (length xs ∷ length ys ∷ []) (length sums) p)))
+      (λ e. add-room n (length xs ∷ length ys ∷ []) (length sums) p e .0 .most)
 
   pub correct-fits : (i : ℕ) (y : Float) → BookFits (correctOut n i y (columnsOf xs ys) sums .answer)
   unfolding correctOut BookFits
   correct-fits i y =
       book-fits (correctRefusal n i y (length xs ∷ length ys ∷ []) (length sums)) _ xs ys sums
-      (omega (arith, among _ (correct-numbers n i y (length xs ∷ length ys ∷ []) (length sums))))
-      (λ e. correct-room n (length xs) (length ys) (length sums) i y e .0 .most)
+      (omega (arith, among _ (correct-numbers n (length xs ∷ length ys ∷ []) (length sums) i y)))
+      (λ e. correct-room n (length xs ∷ length ys ∷ []) (length sums) i y e .0 .most)
 
   pub withdraw-fits : (i : ℕ) → BookFits (withdrawOut n i (columnsOf xs ys) sums .answer)
   unfolding withdrawOut BookFits
   withdraw-fits i =
       book-fits (withdrawRefusal n i (length xs ∷ length ys ∷ []) (length sums)) _ xs ys sums
-      (omega (arith, among _ (withdraw-numbers n i (length xs ∷ length ys ∷ []) (length sums))))
-      (λ e. omega (arith, withdraw-room n (length xs) (length ys) (length sums) i e .0 .most))
+      (omega (arith, among _ (withdraw-numbers n (length xs ∷ length ys ∷ []) (length sums) i)))
+      (λ e. omega (arith, withdraw-room n (length xs ∷ length ys ∷ []) (length sums) i e .0 .most))
 
   pub frame-fits : (f : List ℕ) → BookFits (addFrameOut n f (columnsOf xs ys) sums .answer)
   unfolding addFrameOut BookFits
   frame-fits f =
       let s = stateOf n xs ys sums in
       book-fits (frameAddRefusal n f (length xs ∷ length ys ∷ []) (length sums)) _ xs ys sums
-      (omega (arith, among _ (frame-numbers n f (length xs ∷ length ys ∷ []) (length sums))))
-      (λ e. let r = frame-room n (length xs) (length ys) (length sums) f e in rw (many-added (decode f) s (r .0) (r .2) ∙ added-is (decode f) s) (r .0 .most))
+      (omega (arith, among _ (frame-numbers n (length xs ∷ length ys ∷ []) (length sums) f)))
+      (λ e. let r = frame-room n (length xs ∷ length ys ∷ []) (length sums) f e in rw (many-added (decode f) s (r .0) (r .2) ∙ added-is (decode f) s) (r .0 .most))
 
 -- ---- fit and validation
 
@@ -153,7 +159,7 @@ past-fits n degree samples sums h = go (isSolved sums (rowsOf samples) (countOf 
     go true e = rw e h
     go false e = rw e (omega arith, omega arith)
 
-fit-settles : (k : ℕ) (good : FitOut) → k ≤ 12 → (k ≡ 0 → FitFits (good .answer)) → FitFits (settle k good (fitRefused k) .answer)
+fit-settles : (k : ℕ) (good : FitOut) → k ≤ 255 → (k ≡ 0 → FitFits (good .answer)) → FitFits (settle k good (fitRefused k) .answer)
 unfolding FitFits
 fit-settles zero good h g = g refl
 fit-settles (suc k) good h g = (omega arith, h)
@@ -163,9 +169,9 @@ module _ (n : ℕ) (xs ys sums scratch coefficients : List Float) where
   unfolding fitOn
   fit-fits degree =
       fit-settles (fitRefusal n degree (samplesOf n xs ys) (length xs ∷ length ys ∷ []) (length sums) (length scratch) (length coefficients)) _
-      (omega (arith, among _ (fit-numbers n degree (samplesOf n xs ys) (length xs ∷ length ys ∷ []) (length sums) (length scratch) (length coefficients))))
+      (omega (arith, among _ (fit-numbers n (samplesOf n xs ys) (length xs ∷ length ys ∷ []) (length sums) (length scratch) degree (length coefficients))))
       (λ e.
-      past-fits n degree _ _ (fit-room n degree (samplesOf n xs ys) (length xs) (length ys) (length sums) (length scratch) (length coefficients) e .most))
+      past-fits n degree _ _ (fit-room n (samplesOf n xs ys) (length xs ∷ length ys ∷ []) (length sums) (length scratch) degree (length coefficients) e .1))
 
   pub validate-fits : (folds : ℕ) (bound : DegreeBound) (criterion : Criterion)
       → FitFits (validateOut n xs ys sums scratch coefficients folds bound criterion .answer)
@@ -173,9 +179,9 @@ module _ (n : ℕ) (xs ys sums scratch coefficients : List Float) where
   validate-fits folds bound criterion =
       let samples = samplesOf n xs ys in
       fit-settles (validateRefusal n folds bound samples (length xs ∷ length ys ∷ []) (length sums) (length scratch) (length coefficients)) _
-      (omega (arith, among _ (validate-numbers n folds bound samples (length xs ∷ length ys ∷ []) (length sums) (length scratch) (length coefficients))))
+      (omega (arith, among _ (validate-numbers n samples (length xs ∷ length ys ∷ []) (length sums) (length scratch) folds bound (length coefficients))))
       (λ e.
-      chosen-fits (validate-room n folds bound samples (length xs) (length ys) (length sums) (length scratch) (length coefficients) e .most)
+      chosen-fits (validate-room n samples (length xs ∷ length ys ∷ []) (length sums) (length scratch) folds bound (length coefficients) e .1)
       (validatedChoice criterion (rowsOf samples) folds (maxDegree bound n)) refl)
     where
       chosen-fits : maxDegree bound n ≤ 15 → (o : OptionDegree) → validatedChoice criterion (rowsOf (samplesOf n xs ys)) folds (maxDegree bound n) ≡ o
@@ -187,16 +193,16 @@ module _ (n : ℕ) (xs ys sums scratch coefficients : List Float) where
 
 -- ---- the band
 
-measure-most : (sums : List Float) (rows : List Row) (k : ℕ) → measureRefusal sums rows k ≤ 12
+measure-most : (sums : List Float) (rows : List Row) (k : ℕ) → measureRefusal sums rows k ≤ 255
 unfolding measureRefusal
 measure-most sums rows k = omega (arith, among _ (numbered (by (not (isSolved sums rows k)) 10 ∷ by (inverseFails sums k) 12 ∷ [])))
 
-band-settles : (k : ℕ) (b : Band) → k ≤ 12 → BandFits (settle k (bands.Band b) (bands.Refused k))
+band-settles : (k : ℕ) (b : Band) → k ≤ 255 → BandFits (settle k (bands.Band b) (bands.Refused k))
 unfolding BandFits
 band-settles zero b h = tt
 band-settles (suc k) b h = (omega arith, h)
 
-out-settles : (k : ℕ) (good : BandOut) → k ≤ 12 → BandFits (good .answer) → BandFits (settle k good (bandRefused k) .answer)
+out-settles : (k : ℕ) (good : BandOut) → k ≤ 255 → BandFits (good .answer) → BandFits (settle k good (bandRefused k) .answer)
 unfolding BandFits
 out-settles zero good h g = g
 out-settles (suc k) good h g = (omega arith, h)
@@ -216,7 +222,7 @@ band-fits n x degree confidence tolerance xs ys sums scratch places =
     let samples = samplesOf n xs ys in
     into-fits places _
     (out-settles (bandRefusal n x degree confidence tolerance samples (length xs ∷ length ys ∷ []) (length sums) (length scratch)) _
-    (omega (arith, among _ (band-numbers n x degree confidence tolerance samples (length xs ∷ length ys ∷ []) (length sums) (length scratch))))
+    (omega (arith, among _ (band-numbers n samples (length xs ∷ length ys ∷ []) (length sums) (length scratch) x degree confidence tolerance)))
     (band-settles (measureRefusal (take 272 sums) (rowsOf samples) (countOf Curve degree)) _ (measure-most _ _ _)))
 
 -- ---- the report
@@ -253,12 +259,12 @@ module _ (n : ℕ) (settings : Settings) (samples : List Sample) (sums : List Fl
     where
       go : (t : Bool)
           → ReportFits
-          (cond t (told 12) (writtenBy n settings samples (d .0) (reportChoice n settings samples sums .solved) (solve sums (countOf Curve (d .0)) .c) (covarianceAt sums (rowsOf samples) (countOf Curve (d .0)))) .answer)
+          (cond t (refusedLate n 12) (writtenBy n settings samples (d .0) (reportChoice n settings samples sums .solved) (solve sums (countOf Curve (d .0)) .c) (covarianceAt sums (rowsOf samples) (countOf Curve (d .0)))) .answer)
       go true = (omega arith, omega arith)
       go false = written-fits (d .0) _ _ _ (omega (arith, chosen-solved n settings samples sums d e .0)) choice-solved
 
-report-settles : (k : ℕ) (good : ReportOut) → k ≤ 12 → (k ≡ 0 → ReportFits (good .answer))
-    → ReportFits (settle k good (record { answer = reports.Refused k; scratch = []; written = nothing }) .answer)
+report-settles : (k : ℕ) (good : ReportOut) → k ≤ 255 → (k ≡ 0 → ReportFits (good .answer))
+    → ReportFits (settle k good (refusedEarly k) .answer)
 unfolding ReportFits
 report-settles zero good h g = g refl
 report-settles (suc k) good h g = (omega arith, h)
@@ -270,6 +276,6 @@ report-fits n settings xs ys sums places =
     report-settles (reportRefusal n settings samples (length xs ∷ length ys ∷ []) (length sums) places) _
     (omega (arith, among _ (report-numbers n settings samples (length xs ∷ length ys ∷ []) (length sums) places)))
     (λ e.
-    let w = report-room n settings samples (length xs) (length ys) (length sums) places e in
+    let w = report-room n settings samples (length xs ∷ length ys ∷ []) (length sums) places e in
     chosen-fits n settings samples (take 272 sums) (omega (arith, w .room .most, length-samples n xs ys)) (w .most)
     (reportChoice n settings samples (take 272 sums) .chosen) refl)

@@ -16,8 +16,11 @@ use Rattle.query.specs.Fits.{FitOut, FitIs}
 use Rattle.query.specs.Bands.{BandOut, BandIs, bandRefused}
 use Rattle.report.specs.declared.ReportAnswer.{ReportAnswer}
 use Rattle.report.specs.declared.ReportAnswer.the-variants as reports
-use Rattle.report.specs.Reports.{ReportOut, ReportIs}
-use Rattle.measure.specs.Written.{over}
+use Rattle.report.specs.Reports.{ReportOut, reportOut, Does}
+use Rattle.report.specs.Outputs.{Lent, placesOf}
+use Rattle.settings.specs.declared.Settings.{Settings}
+use Rattle.lent.specs.Slices.{Slice, before, after}
+use Rattle.lent.specs.Written.{over}
 
 -- ---- packed answers
 
@@ -57,10 +60,10 @@ bandNumbers (bands.Refused k) = []
 unfoldable pub bandInto : ℕ → BandOut → BandOut
 bandInto places o = cond (ltb places 3) (bandRefused 1) o
 
--- ---- what fits its field: refusals 1 to 12, and what the calls can answer
+-- ---- what fits its field: a refusal's number of one byte, and what the calls can answer
 
 abbrev pub RefusalFits : ℕ → Type 0
-RefusalFits k = (1 ≤ k) × (k ≤ 12)
+RefusalFits k = (1 ≤ k) × (k ≤ 255)
 
 unfoldable pub BookFits : Answer → Type 0
 BookFits (books.Book b) = b .count ≤ 4096
@@ -84,16 +87,21 @@ pub record BookPacked (o : Out) (r : ℕ) (xs ys sums : List Float) : Type 0 whe
   pub answer : r ≡ packedBook (o .answer)
   pub lent : Is o (o .answer) xs ys sums
 
-pub record FitPacked (o : FitOut) (r : ℕ) (s s′ c c′ : List Float) : Type 0 where
+-- s and c: scratch and the coefficients
+pub record FitPacked (o : FitOut) (r : ℕ) (s c : Slice Float) : Type 0 where
   pub answer : r ≡ packedFit (o .answer)
-  pub lent : FitIs o (o .answer) s s′ c c′
+  pub lent : FitIs o (o .answer) (before s) (after s) (before c) (after c)
 
--- v and v′: the lent places for the band's three numbers, before and after
-pub record BandPacked (o : BandOut) (r : ℕ) (s s′ v v′ : List Float) : Type 0 where
+-- s and v: scratch, and the lent places for the band's three numbers
+pub record BandPacked (o : BandOut) (r : ℕ) (s v : Slice Float) : Type 0 where
   pub answer : r ≡ packedBand (o .answer)
-  pub lent : BandIs o (o .answer) s s′
-  pub numbers : v′ ≡ over (bandNumbers (o .answer)) v
+  pub lent : BandIs o (o .answer) (before s) (after s)
+  pub numbers : after v ≡ over (bandNumbers (o .answer)) (before v)
 
-pub record ReportPacked (o : ReportOut) (r : ℕ) (s s′ c c′ e e′ : List Float) (p p′ : List ℕ) (l l′ u u′ : List Float) (b b′ : List ℕ) : Type 0 where
+pub record ReportPacked (o : ReportOut) (r : ℕ) (w : Lent) : Type 0 where
   pub answer : r ≡ packedReport (o .answer)
-  pub lent : ReportIs o (o .answer) s s′ c c′ e e′ p p′ l l′ u u′ b b′
+  pub lent : Does o (o .answer) w
+
+-- of a report of the columns xs and ys and these sums
+abbrev pub ReportPackedIs : ℕ → Settings → List Float → List Float → List Float → ℕ → Lent → Type 0
+ReportPackedIs n settings xs ys sums r w = ReportPacked (reportOut n settings xs ys sums (placesOf (w .found))) r w

@@ -1,4 +1,4 @@
--- Reading a packed answer, as include/stakebook.h does, gives the answer back: no bit is lost. Assumes nothing.
+-- Reading a packed answer, as include/stakebook.h does, gives the answer back: no bit is lost.
 use mathlib.Core.Path.{_≡_, refl, ap, _∙_}
 use mathlib.Core.List.{List}
 use Prim.Native.Nat.{ℕ, _+_, _-_, _*_, _/_, _%_, _≤_, _<_}
@@ -12,14 +12,15 @@ use Rattle.monomial.specs.Samples.{Sample}
 use Rattle.score.specs.declared.Criterion.{Criterion}
 use Rattle.book.specs.declared.Answer.{Answer}
 use Rattle.book.specs.declared.Answer.the-variants as books
-use Rattle.book.specs.Calls.{columnsOf, openOut, addOut, correctOut, withdrawOut, addFrameOut}
+use Rattle.book.specs.Calls.{openOut, addOut, correctOut, withdrawOut, addFrameOut}
+use Rattle.book.specs.Columns.{columnsOf}
 use Rattle.query.specs.declared.FitAnswer.{FitAnswer}
 use Rattle.query.specs.declared.FitAnswer.the-variants as fits
 use Rattle.query.specs.declared.BandAnswer.{BandAnswer}
 use Rattle.query.specs.declared.BandAnswer.the-variants as bands
 use Rattle.query.specs.Fits.{fitOut, validateOut}
 use Rattle.query.specs.Bands.{bandOut}
-use Rattle.report.specs.declared.Settings.{Settings}
+use Rattle.settings.specs.declared.Settings.{Settings}
 use Rattle.report.specs.declared.Places.{Places}
 use Rattle.report.specs.declared.ReportAnswer.{ReportAnswer}
 use Rattle.report.specs.declared.ReportAnswer.the-variants as reports

@@ -6,18 +6,19 @@ use basis::Degree;
 use book::Book;
 use query::BandAnswer;
 use report::ReportAnswer;
-use report::Settings;
 ghost use mathlib.Core.Path.{_≡_};
 ghost use mathlib.Core.List.{[]};
 ghost use Prim.Native.Nat.{_≤_};
 ghost use lib.ListN.{length};
-ghost use Rattle.book.specs.Calls.{columnsOf, openOut, addOut, correctOut, withdrawOut, addFrameOut};
-ghost use Rattle.measure.specs.Written.{over};
+ghost use Rattle.book.specs.Calls.{openOut, addOut, correctOut, withdrawOut, addFrameOut};
+ghost use Rattle.book.specs.Columns.{columnsOf};
+ghost use Rattle.lent.specs.Slices.{before};
+ghost use Rattle.lent.specs.Written.{over};
 ghost use Rattle.query.specs.Fits.{fitOut, validateOut};
 ghost use Rattle.query.specs.Bands.{bandOut};
-ghost use Rattle.report.specs.Reports.{reportOut};
-ghost use Rattle.codes.specs.Codes.{boundOf, criterionOf, confidenceOf, toleranceOf};
-ghost use Rattle.capi.specs.Packed.{packedCounts, packedReport, ReportFits, packedBand, bandNumbers, BookPacked, FitPacked, BandPacked, bandInto, ReportPacked};
+ghost use Rattle.report.specs.Outputs.{outputs};
+ghost use Rattle.settings.specs.Numbers.{boundOf, criterionOf, confidenceOf, toleranceOf, settingsOf};
+ghost use Rattle.capi.specs.Packed.{packedCounts, packedReport, ReportFits, packedBand, bandNumbers, BookPacked, FitPacked, BandPacked, bandInto, ReportPackedIs};
 
 // The four numbers of a report, each in its field.
 fn counts(degree: usize, solved: usize, outliers: usize, pruned: usize) -> u64
@@ -137,7 +138,7 @@ pub extern "C" fn stakebook_fit(
     scratch: &mut [f64],
     coefficients: &mut [f64],
 ) -> u64
-    ensures { λ r. ⌜ FitPacked (fitOut count (now (xs .entry)) (now (ys .entry)) (now (sums .entry)) (now (scratch .entry)) (now (coefficients .entry)) degree) r (now (scratch .entry)) (now (scratch .exit)) (now (coefficients .entry)) (now (coefficients .exit)) ⌝ }
+    ensures { λ r. ⌜ FitPacked (fitOut count (before xs) (before ys) (before sums) (before scratch) (before coefficients) degree) r scratch coefficients ⌝ }
 {
     packed::fit(query::fit(
         Book { count },
@@ -164,10 +165,10 @@ pub extern "C" fn stakebook_validate(
     scratch: &mut [f64],
     coefficients: &mut [f64],
 ) -> u64
-    ensures { λ r. ⌜ FitPacked (validateOut count (now (xs .entry)) (now (ys .entry)) (now (sums .entry)) (now (scratch .entry)) (now (coefficients .entry)) folds (boundOf bound most) (criterionOf criterion)) r (now (scratch .entry)) (now (scratch .exit)) (now (coefficients .entry)) (now (coefficients .exit)) ⌝ }
+    ensures { λ r. ⌜ FitPacked (validateOut count (before xs) (before ys) (before sums) (before scratch) (before coefficients) folds (boundOf bound most) (criterionOf criterion)) r scratch coefficients ⌝ }
 {
-    let by = codes::bound(bound, most);
-    let scored = codes::criterion(criterion);
+    let by = settings::bound(bound, most);
+    let scored = settings::criterion(criterion);
     packed::fit(query::validate(
         Book { count },
         folds,
@@ -197,13 +198,13 @@ pub extern "C" fn stakebook_band(
     scratch: &mut [f64],
     numbers: &mut [f64],
 ) -> u64
-    ensures { λ r. ⌜ BandPacked (bandInto (length (now (numbers .entry))) (bandOut count x degree (confidenceOf confidence score) (toleranceOf tolerance value) (now (xs .entry)) (now (ys .entry)) (now (sums .entry)) (now (scratch .entry)))) r (now (scratch .entry)) (now (scratch .exit)) (now (numbers .entry)) (now (numbers .exit)) ⌝ }
+    ensures { λ r. ⌜ BandPacked (bandInto (length (before numbers)) (bandOut count x degree (confidenceOf confidence score) (toleranceOf tolerance value) (before xs) (before ys) (before sums) (before scratch))) r scratch numbers ⌝ }
 {
     if numbers.len() < 3 {
         return packed::refused(1);
     }
-    let with = codes::confidence(confidence, score);
-    let allowed = codes::tolerance(tolerance, value);
+    let with = settings::confidence(confidence, score);
+    let allowed = settings::tolerance(tolerance, value);
     let answer = query::band(
         Book { count },
         x,
@@ -240,14 +241,9 @@ pub extern "C" fn stakebook_report(
     upper: &mut [f64],
     outliers: &mut [u8],
 ) -> u64
-    ensures { λ r. ⌜ ReportPacked (reportOut count (record { bound = boundOf bound most; criterion = criterionOf criterion; confidence = confidenceOf confidence score; tolerance = toleranceOf tolerance value }) (now (xs .entry)) (now (ys .entry)) (now (sums .entry)) (record { scratch = length (now (scratch .entry)); coefficients = length (now (coefficients .entry)); errors = length (now (errors .entry)); pruned = length (now (pruned .entry)); lower = length (now (lower .entry)); upper = length (now (upper .entry)); outliers = length (now (outliers .entry)) })) r (now (scratch .entry)) (now (scratch .exit)) (now (coefficients .entry)) (now (coefficients .exit)) (now (errors .entry)) (now (errors .exit)) (now (pruned .entry)) (now (pruned .exit)) (now (lower .entry)) (now (lower .exit)) (now (upper .entry)) (now (upper .exit)) (now (outliers .entry)) (now (outliers .exit)) ⌝ }
+    ensures { λ r. ⌜ ReportPackedIs count (settingsOf bound most criterion confidence score tolerance value) (before xs) (before ys) (before sums) r (outputs scratch coefficients errors pruned lower upper outliers) ⌝ }
 {
-    let settings = Settings {
-        bound: codes::bound(bound, most),
-        criterion: codes::criterion(criterion),
-        confidence: codes::confidence(confidence, score),
-        tolerance: codes::tolerance(tolerance, value),
-    };
+    let settings = settings::numbered(bound, most, criterion, confidence, score, tolerance, value);
     packed_report(report::report(
         Book { count },
         settings,

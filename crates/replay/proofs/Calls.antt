@@ -1,4 +1,4 @@
--- One call: what it answers becomes its results, and what it leaves the next state. Assumes nothing.
+-- One call: what it answers becomes its results, and what it leaves the next state.
 use mathlib.Core.Path.{_≡_, refl, ap, subst, _∙_}
 use mathlib.Core.List.{List, _++_}
 use Prim.Native.Nat.{ℕ, zero, suc, _+_, _-_, _≤_, _<_}
@@ -7,18 +7,20 @@ use lib.ListN.{length, take, drop}
 use lib.Ieee.{Float}
 use Rattle.book.specs.declared.Answer.{Answer}
 use Rattle.book.specs.declared.Answer.the-variants as answers
-use Rattle.book.specs.Calls.{columnsOf, columns-are, Is, State, stateOf, bookAfter, addOut, correctOut, withdrawOut}
-use Rattle.report.specs.declared.Settings.{Settings}
+use Rattle.book.specs.Calls.{Is, State, stateOf, bookAfter, addOut, correctOut, withdrawOut}
+use Rattle.book.specs.Columns.{columnsOf, columns-are}
+use Rattle.settings.specs.declared.Settings.{Settings}
 use Rattle.report.specs.declared.Places.{Places}
 use Rattle.report.specs.declared.ReportAnswer.{ReportAnswer}
 use Rattle.report.specs.declared.ReportAnswer.the-variants as tells
-use Rattle.report.specs.Reports.{ReportOut, ReportIs}
+use Rattle.report.specs.Reports.{ReportOut, Does}
+use Rattle.report.specs.Outputs.{Outputs, nothing, placesOf}
 use Rattle.ledger.specs.Ledger.{said, changes, reads, Change, adds, corrects, withdraws, outOf, next, reply}
 use Rattle.ledger.specs.Questions.{reports, readOn}
 use Rattle.replay.specs.declared.Done.{Done}
 use Rattle.replay.specs.Records.{callOf}
-use Rattle.replay.specs.Replay.{resultsOf, reportResults, scratchOf, writtenOf}
-use Rattle.replay.specs.Steps.{resultsIn, settled, toldOf, Outputs, outputs, WroteAt, Changed, Reported, Windows}
+use Rattle.replay.specs.Replay.{resultsOf, reportResults, writtenOf, overAllAt}
+use Rattle.replay.specs.Steps.{resultsIn, settled, toldOf, Changed, Reported, Windows}
 use Rattle.replay.proofs.Laws.{window-over, window-length, over-nothing}
 
 -- what settle and tell record
@@ -76,22 +78,20 @@ module _ (kind i : ℕ) (x y : Float) (settings : Settings) (places : Places) (n
         rw q (changed (stateOf n xs ys sums) (withdraws i) r d a b t h e)
 
 -- a call that changes a book writes nothing else
-none-written : {a : Answer} (at : ℕ) (w : Outputs) → WroteAt at (said a) w w
-unfolding scratchOf writtenOf
-none-written at w =
-    record {
-      scratch = over-nothing at (w .scratch);
-      coefficients = over-nothing at (w .coefficients);
-      errors = over-nothing at (w .errors);
-      pruned = over-nothing at (w .pruned);
-      lower = over-nothing at (w .lower);
-      upper = over-nothing at (w .upper);
-      outliers = over-nothing at (w .outliers);
-    }
+none-written : (at : ℕ) (w : Outputs) → w ≡ overAllAt at nothing w
+none-written at w = λ i. record {
+  scratch = over-nothing at (w .scratch) i;
+  coefficients = over-nothing at (w .coefficients) i;
+  errors = over-nothing at (w .errors) i;
+  pruned = over-nothing at (w .pruned) i;
+  lower = over-nothing at (w .lower) i;
+  upper = over-nothing at (w .upper) i;
+  outliers = over-nothing at (w .outliers) i;
+}
 
 pub nothing-else : (kind i : ℕ) (x y : Float) (settings : Settings) (places : Places) → kind < 3 → (s : State) (at : ℕ) (w : Outputs)
-    → WroteAt at (reply readOn s (callOf kind i x y settings places)) w w
-unfolding callOf reply scratchOf writtenOf
+    → w ≡ overAllAt at (writtenOf (reply readOn s (callOf kind i x y settings places))) w
+unfolding callOf reply writtenOf
 nothing-else zero i x y settings places h s at w = none-written at w
 nothing-else (suc zero) i x y settings places h s at w = none-written at w
 nothing-else (suc (suc zero)) i x y settings places h s at w = none-written at w
@@ -109,20 +109,21 @@ is-report (suc (suc (suc k))) i x y settings places h = refl
 -- ---- a report into windows
 
 module _ (n at : ℕ) (p : Places) (w : Outputs) (room : Windows at p w) where
-  -- the windows have the lengths that are asked for
-  abbrev cut : Places
+  -- the windows that are cut out
+  abbrev cut : Outputs
   cut =
       record {
-        scratch = length (take (at + p .scratch - at) (drop at (w .scratch)));
-        coefficients = length (take (at + p .coefficients - at) (drop at (w .coefficients)));
-        errors = length (take (at + p .errors - at) (drop at (w .errors)));
-        pruned = length (take (at + p .pruned - at) (drop at (w .pruned)));
-        lower = length (take (at + p .lower - at) (drop at (w .lower)));
-        upper = length (take (at + p .upper - at) (drop at (w .upper)));
-        outliers = length (take (at + p .outliers - at) (drop at (w .outliers)));
+        scratch = take (at + p .scratch - at) (drop at (w .scratch));
+        coefficients = take (at + p .coefficients - at) (drop at (w .coefficients));
+        errors = take (at + p .errors - at) (drop at (w .errors));
+        pruned = take (at + p .pruned - at) (drop at (w .pruned));
+        lower = take (at + p .lower - at) (drop at (w .lower));
+        upper = take (at + p .upper - at) (drop at (w .upper));
+        outliers = take (at + p .outliers - at) (drop at (w .outliers));
       }
 
-  cut-is : cut ≡ p
+  -- have the lengths that are asked for
+  cut-is : placesOf cut ≡ p
   cut-is = λ j. record {
     scratch = window-length at (p .scratch) (w .scratch) (room .scratch) j;
     coefficients = window-length at (p .coefficients) (w .coefficients) (room .coefficients) j;
@@ -133,35 +134,37 @@ module _ (n at : ℕ) (p : Places) (w : Outputs) (room : Windows at p w) where
     outliers = window-length at (p .outliers) (w .outliers) (room .outliers) j;
   }
 
-  -- g is the report by its places; what it left in the windows is put back
-  module _ (g : Places → ReportOut) (r : ReportAnswer) (d : Done) (s c e : List Float) (b : List ℕ) (l u : List Float) (o : List ℕ) where
+  -- g is the report by its places; v is what it left in the windows, and is put back
+  module _ (g : Places → ReportOut) (r : ReportAnswer) (d : Done) (v : Outputs) where
     abbrev filled : Outputs
     filled =
-        outputs (take at (w .scratch) ++ (s ++ drop (at + p .scratch - at) (drop at (w .scratch))))
-        (take at (w .coefficients) ++ (c ++ drop (at + p .coefficients - at) (drop at (w .coefficients))))
-        (take at (w .errors) ++ (e ++ drop (at + p .errors - at) (drop at (w .errors)))) (take at (w .pruned) ++ (b ++ drop (at + p .pruned - at) (drop at (w .pruned))))
-        (take at (w .lower) ++ (l ++ drop (at + p .lower - at) (drop at (w .lower)))) (take at (w .upper) ++ (u ++ drop (at + p .upper - at) (drop at (w .upper))))
-        (take at (w .outliers) ++ (o ++ drop (at + p .outliers - at) (drop at (w .outliers))))
+        record {
+          scratch = take at (w .scratch) ++ (v .scratch ++ drop (at + p .scratch - at) (drop at (w .scratch)));
+          coefficients = take at (w .coefficients) ++ (v .coefficients ++ drop (at + p .coefficients - at) (drop at (w .coefficients)));
+          errors = take at (w .errors) ++ (v .errors ++ drop (at + p .errors - at) (drop at (w .errors)));
+          pruned = take at (w .pruned) ++ (v .pruned ++ drop (at + p .pruned - at) (drop at (w .pruned)));
+          lower = take at (w .lower) ++ (v .lower ++ drop (at + p .lower - at) (drop at (w .lower)));
+          upper = take at (w .upper) ++ (v .upper ++ drop (at + p .upper - at) (drop at (w .upper)));
+          outliers = take at (w .outliers) ++ (v .outliers ++ drop (at + p .outliers - at) (drop at (w .outliers)));
+        }
 
-    pub report-into : ReportIs (g cut) r (take (at + p .scratch - at) (drop at (w .scratch))) s (take (at + p .coefficients - at) (drop at (w .coefficients))) c
-        (take (at + p .errors - at) (drop at (w .errors))) e (take (at + p .pruned - at) (drop at (w .pruned))) b (take (at + p .lower - at) (drop at (w .lower))) l
-        (take (at + p .upper - at) (drop at (w .upper))) u (take (at + p .outliers - at) (drop at (w .outliers))) o
-        → length s ≡ cut .scratch → length c ≡ cut .coefficients → length e ≡ cut .errors → length b ≡ cut .pruned → length l ≡ cut .lower → length u ≡ cut .upper
-        → length o ≡ cut .outliers → d ≡ toldOf n r → Reported n at (g p) d w filled
-    unfolding scratchOf writtenOf
+    pub report-into : Does (g (placesOf cut)) r (record { found = cut; left = v }) → length (v .scratch) ≡ length (cut .scratch)
+        → length (v .coefficients) ≡ length (cut .coefficients) → length (v .errors) ≡ length (cut .errors) → length (v .pruned) ≡ length (cut .pruned)
+        → length (v .lower) ≡ length (cut .lower) → length (v .upper) ≡ length (cut .upper) → length (v .outliers) ≡ length (cut .outliers) → d ≡ toldOf n r
+        → Reported n at (g p) d (record { found = w; left = filled })
     report-into h ls lc le lb ll lu lo q =
-        let i = h .outputs in
-        subst (λ (z : ReportOut). Reported n at z d w filled) (ap g cut-is)
+        let o = g (placesOf cut) .written in
+        let e = h .outputs in
+        subst (λ (z : ReportOut). Reported n at z d (record { found = w; left = filled })) (ap g cut-is)
         (record {
-          done = q ∙ ap (toldOf n) (i .answer);
-          wrote =
-              record {
-                scratch = window-over at (at + p .scratch - at) (g cut .scratch) (w .scratch) s (h .scratch) ls;
-                coefficients = window-over at (at + p .coefficients - at) (g cut .written .coefficients) (w .coefficients) c (i .coefficients) lc;
-                errors = window-over at (at + p .errors - at) (g cut .written .errors) (w .errors) e (i .errors) le;
-                pruned = window-over at (at + p .pruned - at) (g cut .written .pruned) (w .pruned) b (i .pruned) lb;
-                lower = window-over at (at + p .lower - at) (g cut .written .lower) (w .lower) l (i .lower) ll;
-                upper = window-over at (at + p .upper - at) (g cut .written .upper) (w .upper) u (i .upper) lu;
-                outliers = window-over at (at + p .outliers - at) (g cut .written .outliers) (w .outliers) o (i .outliers) lo;
-              };
+          done = q ∙ ap (toldOf n) (h .answer);
+          wrote = λ i. record {
+            scratch = window-over at (at + p .scratch - at) (o .scratch) (w .scratch) (v .scratch) (ap (λ (z : Outputs). z .scratch) e) ls i;
+            coefficients = window-over at (at + p .coefficients - at) (o .coefficients) (w .coefficients) (v .coefficients) (ap (λ (z : Outputs). z .coefficients) e) lc i;
+            errors = window-over at (at + p .errors - at) (o .errors) (w .errors) (v .errors) (ap (λ (z : Outputs). z .errors) e) le i;
+            pruned = window-over at (at + p .pruned - at) (o .pruned) (w .pruned) (v .pruned) (ap (λ (z : Outputs). z .pruned) e) lb i;
+            lower = window-over at (at + p .lower - at) (o .lower) (w .lower) (v .lower) (ap (λ (z : Outputs). z .lower) e) ll i;
+            upper = window-over at (at + p .upper - at) (o .upper) (w .upper) (v .upper) (ap (λ (z : Outputs). z .upper) e) lu i;
+            outliers = window-over at (at + p .outliers - at) (o .outliers) (w .outliers) (v .outliers) (ap (λ (z : Outputs). z .outliers) e) lo i;
+          };
         })

@@ -1,11 +1,11 @@
--- Values written into lent buffers: into a window that is cut out, and window after window. Assumes nothing.
+-- Values written into lent buffers: into a window that is cut out, and window after window.
 use mathlib.Core.Path.{_≡_, refl, sym, ap, _∙_}
 use mathlib.Core.List.{List, [], _∷_, _++_, append-assoc}
 use Prim.Native.Nat.{ℕ, suc, _+_, _-_, _*_, _≤_}
 use native.Mathlib.Omega.{arith}
 use lib.ListN.{length, set, take, drop, length-append, length-drop, length-take, take-append-drop}
 use lib.Seq.{drop-append-le, length-front, length-take-le}
-use Rattle.measure.specs.Written.{over}
+use Rattle.lent.specs.Written.{over}
 use Rattle.replay.specs.Replay.{overAt, writeAll}
 
 -- values that are written without making a list longer stand in it
@@ -50,13 +50,12 @@ five-set a b c d e (_ ∷ _ ∷ _ ∷ _ ∷ []) h = absurd (omega arith)
 five-set a b c d e (_ ∷ _ ∷ _ ∷ _ ∷ _ ∷ l) h = refl
 
 -- one reply more
-pub write-snoc : {A B : Type 0} (width : ℕ) (f : B → List A) (j : ℕ) (rs : List B) (r : B) (lent : List A)
-    → writeAll width f j (rs ++ (r ∷ [])) lent ≡ overAt (width * (j + length rs)) (f r) (writeAll width f j rs lent)
+pub write-snoc : {B W : Type 0} (put : ℕ → B → W → W) (j : ℕ) (rs : List B) (r : B) (w : W)
+    → writeAll put j (rs ++ (r ∷ [])) w ≡ put (j + length rs) r (writeAll put j rs w)
 unfolding writeAll
-write-snoc width f j [] r lent =
+write-snoc put j [] r w =
     let e : j ≡ j + 0 = omega arith in
-    ap (λ i. overAt (width * i) (f r) lent) e
-write-snoc width f j (q ∷ rs) r lent =
+    ap (λ i. put i r w) e
+write-snoc put j (q ∷ rs) r w =
     let e : j + 1 + length rs ≡ j + suc (length rs) = omega arith in
-    write-snoc width f (j + 1) rs r (overAt (width * j) (f q) lent)
-    ∙ ap (λ i. overAt (width * i) (f r) (writeAll width f (j + 1) rs (overAt (width * j) (f q) lent))) e
+    write-snoc put (j + 1) rs r (put j q w) ∙ ap (λ i. put i r (writeAll put (j + 1) rs (put j q w))) e

@@ -1,4 +1,4 @@
--- Buffers that hold a list of calls have room for each: its record, its results, and its windows. Assumes nothing.
+-- Buffers that hold a list of calls have room for each: its record, its results, and its windows.
 use mathlib.Core.Path.{_≡_, refl, ap}
 use mathlib.Core.Bool.{Bool, true, false, _&&_, _||_}
 use mathlib.Core.List.{List}
@@ -13,9 +13,9 @@ use Rattle.loops.specs.Fold.{allOf, all-cons}
 use Rattle.loops.specs.Places.{table}
 use Rattle.report.specs.declared.Places.{Places}
 use Rattle.replay.specs.declared.Buffers.{Buffers}
-use Rattle.replay.specs.Records.{placesAt, callCount, holds, fitsIn, allFit, hasRoom, wellFormed}
-use Rattle.replay.specs.Replay.{Memory, buffersOf}
-use Rattle.replay.specs.Steps.{outputsOf, Stands, Windows}
+use Rattle.replay.specs.Records.{placesAt, callCount, holds, holdsAll, fitsIn, allFit, hasRoom, wellFormed}
+use Rattle.replay.specs.Replay.{Memory, buffersIn}
+use Rattle.replay.specs.Steps.{Stands, Windows}
 
 and-both : (a b : Bool) → a && b ≡ true → (a ≡ true) × (b ≡ true)
 and-both true b h = (refl, h)
@@ -23,30 +23,38 @@ and-both false b h = absurd (let z : _≡_ {A = ℕ} 0 1 = cc in omega arith)
 
 -- ---- of the tests, their parts
 
+record HeldAll (width m : ℕ) (p : Places) : Type 0 where
+  scratch : holds width m (p .scratch) ≡ true
+  coefficients : holds width m (p .coefficients) ≡ true
+  errors : holds width m (p .errors) ≡ true
+  pruned : holds width m (p .pruned) ≡ true
+  lower : holds width m (p .lower) ≡ true
+  upper : holds width m (p .upper) ≡ true
+  outliers : holds width m (p .outliers) ≡ true
+
+held-all : (width m : ℕ) (p : Places) → holdsAll width m p ≡ true → HeldAll width m p
+unfolding holdsAll
+held-all width m p h =
+    let o = and-both _ (holds width m (p .outliers)) h in
+    let u = and-both _ (holds width m (p .upper)) (o .0) in
+    let l = and-both _ (holds width m (p .lower)) (u .0) in
+    let b = and-both _ (holds width m (p .pruned)) (l .0) in
+    let e = and-both _ (holds width m (p .errors)) (b .0) in
+    let c = and-both (holds width m (p .scratch)) (holds width m (p .coefficients)) (e .0) in
+    record { scratch = c .0; coefficients = c .1; errors = e .1; pruned = b .1; lower = l .1; upper = u .1; outliers = o .1 }
+
 record Roomy (m words numbers width : ℕ) (b : Buffers) : Type 0 where
   word : m ≤ words / 9
   number : m ≤ numbers / 4
   results : m ≤ b .results / 5
   sums : 272 ≤ b .sums
-  scratch : holds width m (b .scratch) ≡ true
-  coefficients : holds width m (b .coefficients) ≡ true
-  errors : holds width m (b .errors) ≡ true
-  pruned : holds width m (b .pruned) ≡ true
-  lower : holds width m (b .lower) ≡ true
-  upper : holds width m (b .upper) ≡ true
-  outliers : holds width m (b .outliers) ≡ true
+  outputs : HeldAll width m (b .outputs)
 
 roomy : (m words numbers width : ℕ) (b : Buffers) → hasRoom m words numbers width b ≡ true → Roomy m words numbers width b
 unfolding hasRoom
 roomy m words numbers width b h =
-    let o = and-both _ (holds width m (b .outliers)) h in
-    let u = and-both _ (holds width m (b .upper)) (o .0) in
-    let l = and-both _ (holds width m (b .lower)) (u .0) in
-    let p = and-both _ (holds width m (b .pruned)) (l .0) in
-    let e = and-both _ (holds width m (b .errors)) (p .0) in
-    let c = and-both _ (holds width m (b .coefficients)) (e .0) in
-    let s = and-both _ (holds width m (b .scratch)) (c .0) in
-    let t = and-both _ (leb 272 (b .sums)) (s .0) in
+    let w = and-both _ (holdsAll width m (b .outputs)) h in
+    let t = and-both _ (leb 272 (b .sums)) (w .0) in
     let r = and-both _ (leb m (b .results / 5)) (t .0) in
     let n = and-both (leb m (words / 9)) (leb m (numbers / 4)) (r .0) in
     record {
@@ -54,13 +62,7 @@ roomy m words numbers width b h =
       number = leb-true _ _ (n .1);
       results = leb-true _ _ (r .1);
       sums = leb-true _ _ (t .1);
-      scratch = s .1;
-      coefficients = c .1;
-      errors = e .1;
-      pruned = p .1;
-      lower = l .1;
-      upper = u .1;
-      outliers = o .1;
+      outputs = held-all width m (b .outputs) (w .1);
     }
 
 -- the words hold m records
@@ -134,7 +136,7 @@ window-room width m k n l h q f = go (eqb width 0) refl h
         omega (arith, ap (λ v. v * k) z, zero-mul k)
     go false e r = omega (arith, record-room width m k l (leb-true m (l / width) r) q)
 
-module _ (kinds words : List ℕ) (numbers : List Float) (width k : ℕ) (m : Memory) (h : Formed kinds words numbers width (buffersOf m)) (q : k < callCount kinds)
+module _ (kinds words : List ℕ) (numbers : List Float) (width k : ℕ) (m : Memory) (h : Formed kinds words numbers width (buffersIn m)) (q : k < callCount kinds)
   where
     pub stands : Stands kinds words numbers k
     stands =
@@ -147,18 +149,18 @@ module _ (kinds words : List ℕ) (numbers : List Float) (width k : ℕ) (m : Me
     pub results-room : 5 * k + 5 ≤ length (m .results)
     results-room = record-room 5 (callCount kinds) k (length (m .results)) (h .room .results) q
 
-    pub windows : Windows (width * k) (placesAt words k) (outputsOf m)
+    pub windows : Windows (width * k) (placesAt words k) (m .outputs)
     unfolding allFit
     windows =
         let n = callCount kinds in
         let p = placesAt words k in
         let f = fit-parts width p (all-at (fitsIn width) (placesAt words) n k (h .fit) q) in
         record {
-          scratch = window-room width n k (p .scratch) (length (m .scratch)) (h .room .scratch) q (f .scratch);
-          coefficients = window-room width n k (p .coefficients) (length (m .coefficients)) (h .room .coefficients) q (f .coefficients);
-          errors = window-room width n k (p .errors) (length (m .errors)) (h .room .errors) q (f .errors);
-          pruned = window-room width n k (p .pruned) (length (m .pruned)) (h .room .pruned) q (f .pruned);
-          lower = window-room width n k (p .lower) (length (m .lower)) (h .room .lower) q (f .lower);
-          upper = window-room width n k (p .upper) (length (m .upper)) (h .room .upper) q (f .upper);
-          outliers = window-room width n k (p .outliers) (length (m .outliers)) (h .room .outliers) q (f .outliers);
+          scratch = window-room width n k (p .scratch) (length (m .outputs .scratch)) (h .room .outputs .scratch) q (f .scratch);
+          coefficients = window-room width n k (p .coefficients) (length (m .outputs .coefficients)) (h .room .outputs .coefficients) q (f .coefficients);
+          errors = window-room width n k (p .errors) (length (m .outputs .errors)) (h .room .outputs .errors) q (f .errors);
+          pruned = window-room width n k (p .pruned) (length (m .outputs .pruned)) (h .room .outputs .pruned) q (f .pruned);
+          lower = window-room width n k (p .lower) (length (m .outputs .lower)) (h .room .outputs .lower) q (f .lower);
+          upper = window-room width n k (p .upper) (length (m .outputs .upper)) (h .room .outputs .upper) q (f .upper);
+          outliers = window-room width n k (p .outliers) (length (m .outputs .outliers)) (h .room .outputs .outliers) q (f .outliers);
         }

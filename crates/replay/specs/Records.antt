@@ -8,8 +8,9 @@ use lib.ListN.{length, getD}
 use lib.Ieee.{Float, nan}
 use Rattle.loops.specs.Fold.{allOf}
 use Rattle.loops.specs.Places.{table}
-use Rattle.codes.specs.Codes.{boundOf, criterionOf, confidenceOf, toleranceOf}
-use Rattle.report.specs.declared.Settings.{Settings}
+use Rattle.basis.specs.Sizes.{sumPlaces}
+use Rattle.settings.specs.Numbers.{settingsOf}
+use Rattle.settings.specs.declared.Settings.{Settings}
 use Rattle.report.specs.declared.Places.{Places}
 use Rattle.replay.specs.declared.Buffers.{Buffers}
 use Rattle.ledger.specs.Ledger.{Call, changes, reads, adds, corrects, withdraws}
@@ -20,12 +21,8 @@ use Rattle.ledger.specs.Questions.{Question, reports}
 -- the numbers: x, y, the Custom score, and the tolerance's number
 unfoldable pub settingsAt : List ℕ → List ℕ → List Float → ℕ → Settings
 settingsAt kinds words numbers k =
-    record {
-      bound = boundOf (getD kinds (5 * k + 1) 0) (getD words (9 * k + 1) 0);
-      criterion = criterionOf (getD kinds (5 * k + 2) 0);
-      confidence = confidenceOf (getD kinds (5 * k + 3) 0) (getD numbers (4 * k + 2) nan);
-      tolerance = toleranceOf (getD kinds (5 * k + 4) 0) (getD numbers (4 * k + 3) nan);
-    }
+    settingsOf (getD kinds (5 * k + 1) 0) (getD words (9 * k + 1) 0) (getD kinds (5 * k + 2) 0) (getD kinds (5 * k + 3) 0) (getD numbers (4 * k + 2) nan)
+    (getD kinds (5 * k + 4) 0) (getD numbers (4 * k + 3) nan)
 
 unfoldable pub placesAt : List ℕ → ℕ → Places
 placesAt words k =
@@ -74,11 +71,16 @@ fitsIn width p =
 unfoldable pub allFit : List ℕ → ℕ → ℕ → Bool
 allFit words width m = allOf (fitsIn width) (table (placesAt words) m)
 
+-- memory of these lengths holds m windows each
+unfoldable pub holdsAll : ℕ → ℕ → Places → Bool
+holdsAll width m p =
+    holds width m (p .scratch) && holds width m (p .coefficients) && holds width m (p .errors) && holds width m (p .pruned) && holds width m (p .lower)
+    && holds width m (p .upper) && holds width m (p .outliers)
+
 -- buffers of these lengths hold m records, five results a call, a window a call, and the 272 sums
 unfoldable pub hasRoom : ℕ → ℕ → ℕ → ℕ → Buffers → Bool
 hasRoom m words numbers width b =
-    leb m (words / 9) && leb m (numbers / 4) && leb m (b .results / 5) && leb 272 (b .sums) && holds width m (b .scratch) && holds width m (b .coefficients)
-    && holds width m (b .errors) && holds width m (b .pruned) && holds width m (b .lower) && holds width m (b .upper) && holds width m (b .outliers)
+    leb m (words / 9) && leb m (numbers / 4) && leb m (b .results / 5) && leb sumPlaces (b .sums) && holdsAll width m (b .outputs)
 
 -- they do, and every record's memory fits
 unfoldable pub wellFormed : List ℕ → List ℕ → List Float → ℕ → Buffers → Bool

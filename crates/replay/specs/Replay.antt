@@ -6,14 +6,15 @@ use Prim.Native.Nat.{ℕ, _+_, _*_}
 use lib.ListN.{length, take, drop}
 use lib.Ieee.{Float}
 use Rattle.book.specs.declared.Answer.the-variants as answers
-use Rattle.book.specs.Calls.{ofX, ofY}
-use Rattle.measure.specs.Written.{over}
+use Rattle.book.specs.Columns.{ofX, ofY}
+use Rattle.lent.specs.Written.{over}
 use Rattle.report.specs.declared.ReportAnswer.{ReportAnswer}
 use Rattle.report.specs.declared.ReportAnswer.the-variants as reports
-use Rattle.report.specs.Reports.{Written, nothing}
+use Rattle.report.specs.Outputs.{nothing, Outputs, Lent, placesOf}
 use Rattle.ledger.specs.Ledger.{Call, Reply, said, told, lentOf, final, opened, ledgerEnd, ledgerReplies}
 use Rattle.ledger.specs.Questions.{Question, Told, fitted, banded, reported, readOn}
 use Rattle.ledger.specs.Whole.{WholeBook}
+use Rattle.lent.specs.Slices.{Slice, before, after}
 use Rattle.replay.specs.declared.Buffers.{Buffers}
 use Rattle.replay.specs.declared.Replayed.{Replayed}
 use Rattle.replay.specs.declared.Replayed.the-variants as replays
@@ -34,14 +35,8 @@ resultsOf (told (reported o)) = reportResults (o .answer)
 resultsOf (told (fitted o)) = 0 ∷ 0 ∷ 0 ∷ 0 ∷ 0 ∷ []
 resultsOf (told (banded o)) = 0 ∷ 0 ∷ 0 ∷ 0 ∷ 0 ∷ []
 
--- the values written to scratch, and those written to the outputs
-unfoldable pub scratchOf : Reply Told → List Float
-scratchOf (said a) = []
-scratchOf (told (reported o)) = o .scratch
-scratchOf (told (fitted o)) = []
-scratchOf (told (banded o)) = []
-
-unfoldable pub writtenOf : Reply Told → Written
+-- the values written to the memory of a report
+unfoldable pub writtenOf : Reply Told → Outputs
 writtenOf (said a) = nothing
 writtenOf (told (reported o)) = o .written
 writtenOf (told (fitted o)) = nothing
@@ -53,10 +48,30 @@ writtenOf (told (banded o)) = nothing
 unfoldable pub overAt : {A : Type 0} → ℕ → List A → List A → List A
 overAt i values lent = take i lent ++ over values (drop i lent)
 
--- the j-th reply is written from place width × j on, and so the later ones
-unfoldable pub writeAll : {A B : Type 0} → ℕ → (B → List A) → ℕ → List B → List A → List A
-writeAll width f j [] lent = lent
-writeAll width f j (r ∷ rs) lent = writeAll width f (j + 1) rs (overAt (width * j) (f r) lent)
+abbrev pub overAllAt : ℕ → Outputs → Outputs → Outputs
+overAllAt i values lent =
+    record {
+      scratch = overAt i (values .scratch) (lent .scratch);
+      coefficients = overAt i (values .coefficients) (lent .coefficients);
+      errors = overAt i (values .errors) (lent .errors);
+      pruned = overAt i (values .pruned) (lent .pruned);
+      lower = overAt i (values .lower) (lent .lower);
+      upper = overAt i (values .upper) (lent .upper);
+      outliers = overAt i (values .outliers) (lent .outliers);
+    }
+
+-- the replies are written one after another, the j-th by `put j`
+unfoldable pub writeAll : {B W : Type 0} → (ℕ → B → W → W) → ℕ → List B → W → W
+writeAll put j [] w = w
+writeAll put j (r ∷ rs) w = writeAll put (j + 1) rs (put j r w)
+
+-- five results a call
+abbrev pub putResults : ℕ → Reply Told → List ℕ → List ℕ
+putResults j r results = overAt (5 * j) (resultsOf r) results
+
+-- a window a call in each memory of a report
+abbrev pub putOutputs : ℕ → ℕ → Reply Told → Outputs → Outputs
+putOutputs width j r w = overAllAt (width * j) (writtenOf r) w
 
 -- what is lent to be written: the columns, the sums, the results, and a window a call of each memory of a report
 pub record Memory : Type 0 where
@@ -64,13 +79,19 @@ pub record Memory : Type 0 where
   pub ys : List Float
   pub sums : List Float
   pub results : List ℕ
-  pub scratch : List Float
-  pub coefficients : List Float
-  pub errors : List Float
-  pub pruned : List ℕ
-  pub lower : List Float
-  pub upper : List Float
-  pub outliers : List ℕ
+  pub outputs : Outputs
+
+-- as a call finds it and as it leaves it
+pub record LentMemory : Type 0 where
+  pub found : Memory
+  pub left : Memory
+
+abbrev pub memory : Slice Float → Slice Float → Slice Float → Slice ℕ → Lent → LentMemory
+memory xs ys sums results w =
+    record {
+      found = record { xs = before xs; ys = before ys; sums = before sums; results = before results; outputs = w .found };
+      left = record { xs = after xs; ys = after ys; sums = after sums; results = after results; outputs = w .left };
+    }
 
 -- the calls cs from a book just opened: n is the book, m the memory before and m′ after
 pub record Ran (cs : List (Call Question)) (width n : ℕ) (m m′ : Memory) : Type 0 where
@@ -81,30 +102,16 @@ pub record Ran (cs : List (Call Question)) (width n : ℕ) (m m′ : Memory) : T
   pub ys : m′ .ys ≡ final (opened (m .xs) (m .ys) (m .sums)) cs .columns ofY
   pub sums : m′ .sums ≡ final (opened (m .xs) (m .ys) (m .sums)) cs .sums
   -- and all that is recorded is what the plain ledger replies
-  pub results : m′ .results ≡ writeAll 5 resultsOf 0 (ledgerReplies readOn (lentOf (m .xs) (m .ys) (m .sums)) [] cs) (m .results)
-  pub scratch : m′ .scratch ≡ writeAll width scratchOf 0 (ledgerReplies readOn (lentOf (m .xs) (m .ys) (m .sums)) [] cs) (m .scratch)
-  pub coefficients : m′ .coefficients ≡ writeAll width (λ r. writtenOf r .coefficients) 0 (ledgerReplies readOn (lentOf (m .xs) (m .ys) (m .sums)) [] cs) (m .coefficients)
-  pub errors : m′ .errors ≡ writeAll width (λ r. writtenOf r .errors) 0 (ledgerReplies readOn (lentOf (m .xs) (m .ys) (m .sums)) [] cs) (m .errors)
-  pub pruned : m′ .pruned ≡ writeAll width (λ r. writtenOf r .pruned) 0 (ledgerReplies readOn (lentOf (m .xs) (m .ys) (m .sums)) [] cs) (m .pruned)
-  pub lower : m′ .lower ≡ writeAll width (λ r. writtenOf r .lower) 0 (ledgerReplies readOn (lentOf (m .xs) (m .ys) (m .sums)) [] cs) (m .lower)
-  pub upper : m′ .upper ≡ writeAll width (λ r. writtenOf r .upper) 0 (ledgerReplies readOn (lentOf (m .xs) (m .ys) (m .sums)) [] cs) (m .upper)
-  pub outliers : m′ .outliers ≡ writeAll width (λ r. writtenOf r .outliers) 0 (ledgerReplies readOn (lentOf (m .xs) (m .ys) (m .sums)) [] cs) (m .outliers)
+  pub results : m′ .results ≡ writeAll putResults 0 (ledgerReplies readOn (lentOf (m .xs) (m .ys) (m .sums)) [] cs) (m .results)
+  pub outputs : m′ .outputs ≡ writeAll (putOutputs width) 0 (ledgerReplies readOn (lentOf (m .xs) (m .ys) (m .sums)) [] cs) (m .outputs)
 
 -- ---- the promise of `replay`
 
-abbrev pub buffersOf : Memory → Buffers
-buffersOf m =
-    record {
-      sums = length (m .sums);
-      results = length (m .results);
-      scratch = length (m .scratch);
-      coefficients = length (m .coefficients);
-      errors = length (m .errors);
-      pruned = length (m .pruned);
-      lower = length (m .lower);
-      upper = length (m .upper);
-      outliers = length (m .outliers);
-    }
+abbrev pub buffersOf : List Float → List ℕ → Outputs → Buffers
+buffersOf sums results w = record { sums = length sums; results = length results; outputs = placesOf w }
+
+abbrev pub buffersIn : Memory → Buffers
+buffersIn m = buffersOf (m .sums) (m .results) (m .outputs)
 
 -- the answer is a book, and it and the memory are what the calls leave
 pub record RanBook (cs : List (Call Question)) (width : ℕ) (m m′ : Memory) (r : Replayed) : Type 0 where
@@ -112,9 +119,9 @@ pub record RanBook (cs : List (Call Question)) (width : ℕ) (m m′ : Memory) (
   pub answer : r ≡ replays.Book (record { count = count })
   pub ran : Ran cs width count m m′
 
--- r is the answer, m the memory before and m′ after
-pub record ReplayIs (kinds words : List ℕ) (numbers : List Float) (width : ℕ) (m m′ : Memory) (r : Replayed) : Type 0 where
+-- r is the answer, m the memory
+pub record ReplayIs (kinds words : List ℕ) (numbers : List Float) (width : ℕ) (m : LentMemory) (r : Replayed) : Type 0 where
   -- buffers that hold no list of calls: they say so, and no place is written
-  pub malformed : wellFormed kinds words numbers width (buffersOf m) ≡ false → (r ≡ replays.Malformed) × (m′ ≡ m)
+  pub malformed : wellFormed kinds words numbers width (buffersIn (m .found)) ≡ false → (r ≡ replays.Malformed) × (m .left ≡ m .found)
   -- any other: all its calls were run
-  pub ran : wellFormed kinds words numbers width (buffersOf m) ≡ true → RanBook (callsOf kinds words numbers) width m m′ r
+  pub ran : wellFormed kinds words numbers width (buffersIn (m .found)) ≡ true → RanBook (callsOf kinds words numbers) width (m .found) (m .left) r

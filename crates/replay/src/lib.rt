@@ -3,17 +3,19 @@ use book::Answer;
 use book::Book;
 use report::Places;
 use report::ReportAnswer;
-use report::Settings;
+use settings::Settings;
 ghost use mathlib.Core.Path.{_≡_};
 ghost use mathlib.Core.Bool.{true};
 ghost use Prim.Native.Nat.{_+_, _*_, _≤_, _<_};
 ghost use lib.ListN.{length};
 ghost use Rattle.book.specs.Calls.{stateOf};
 ghost use Rattle.report.specs.Reports.{reportOut};
-ghost use Rattle.measure.specs.Written.{over};
-ghost use Rattle.replay.specs.Records.{settingsAt, placesAt, callOf, callAt, callsOf, holds, fitsIn, allFit, hasRoom, wellFormed};
-ghost use Rattle.replay.specs.Replay.{ReplayIs, Ran, buffersOf};
-ghost use Rattle.replay.specs.Steps.{resultsIn, settled, toldOf, Changed, Reported, Turned, Stands, Windows, outputs, memory};
+ghost use Rattle.lent.specs.Slices.{before};
+ghost use Rattle.lent.specs.Written.{over};
+ghost use Rattle.report.specs.Outputs.{outputs, outputsNow};
+ghost use Rattle.replay.specs.Records.{settingsAt, placesAt, callOf, callAt, callsOf, holds, holdsAll, fitsIn, allFit, hasRoom, wellFormed};
+ghost use Rattle.replay.specs.Replay.{ReplayIs, memory, buffersOf};
+ghost use Rattle.replay.specs.Steps.{resultsIn, settled, toldOf, Changed, Reported, TurnIs, RunIs, Stands, Windows};
 
 // How a replay ends: with the book after the last call, or because the buffers do not hold a list of calls.
 pub enum Replayed {
@@ -25,13 +27,7 @@ pub enum Replayed {
 pub struct Buffers {
     pub sums: usize,
     pub results: usize,
-    pub scratch: usize,
-    pub coefficients: usize,
-    pub errors: usize,
-    pub pruned: usize,
-    pub lower: usize,
-    pub upper: usize,
-    pub outliers: usize,
+    pub outputs: Places,
 }
 
 // The book that goes on to the next call, and the results recorded of a call: the refusal's number, 0 for none; the book's count or the degree;
@@ -53,16 +49,14 @@ fn settings_at(kinds: &[u32], words: &[usize], numbers: &[f64], k: usize) -> Set
     let kind = 5 * k;
     let word = 9 * k;
     let number = 4 * k;
-    let bound = codes::bound(kinds[kind + 1], words[word + 1]);
-    let criterion = codes::criterion(kinds[kind + 2]);
-    let confidence = codes::confidence(kinds[kind + 3], numbers[number + 2]);
-    let tolerance = codes::tolerance(kinds[kind + 4], numbers[number + 3]);
-    Settings {
-        bound,
-        criterion,
-        confidence,
-        tolerance,
-    }
+    let bound = kinds[kind + 1];
+    let most = words[word + 1];
+    let criterion = kinds[kind + 2];
+    let confidence = kinds[kind + 3];
+    let score = numbers[number + 2];
+    let tolerance = kinds[kind + 4];
+    let value = numbers[number + 3];
+    settings::numbered(bound, most, criterion, confidence, score, tolerance, value)
 }
 
 // The lengths of the k-th record.
@@ -118,21 +112,29 @@ fn all_fit(words: &[usize], width: usize, m: usize) -> bool
     fit
 }
 
+// Whether m windows fit into each memory of a report.
+fn room_in_all(width: usize, m: usize, p: Places) -> bool
+    ensures { λ r. ⌜ r ≡ holdsAll width m p ⌝ }
+{
+    room(width, m, p.scratch)
+        & room(width, m, p.coefficients)
+        & room(width, m, p.errors)
+        & room(width, m, p.pruned)
+        & room(width, m, p.lower)
+        & room(width, m, p.upper)
+        & room(width, m, p.outliers)
+}
+
 // Whether the buffers have room for m calls.
 fn has_room(m: usize, words: usize, numbers: usize, width: usize, b: Buffers) -> bool
     ensures { λ r. ⌜ r ≡ hasRoom m words numbers width b ⌝ }
 {
+    let outputs = b.outputs;
     (m <= words / 9)
         & (m <= numbers / 4)
         & (m <= b.results / 5)
         & (272 <= b.sums)
-        & room(width, m, b.scratch)
-        & room(width, m, b.coefficients)
-        & room(width, m, b.errors)
-        & room(width, m, b.pruned)
-        & room(width, m, b.lower)
-        & room(width, m, b.upper)
-        & room(width, m, b.outliers)
+        & room_in_all(width, m, outputs)
 }
 
 // Whether the buffers hold a list of calls, with room for all that is written.
@@ -270,8 +272,8 @@ fn report_at(
     upper: &mut [f64],
     outliers: &mut [u8],
 ) -> Done
-    requires { ⌜ Windows at p (outputs (now scratch) (now coefficients) (now errors) (now pruned) (now lower) (now upper) (now outliers)) ⌝ }
-    ensures { λ r. ⌜ Reported (book .count) at (reportOut (book .count) settings (now (xs .entry)) (now (ys .entry)) (now (sums .entry)) p) r (outputs (now (scratch .entry)) (now (coefficients .entry)) (now (errors .entry)) (now (pruned .entry)) (now (lower .entry)) (now (upper .entry)) (now (outliers .entry))) (outputs (now (scratch .exit)) (now (coefficients .exit)) (now (errors .exit)) (now (pruned .exit)) (now (lower .exit)) (now (upper .exit)) (now (outliers .exit))) ⌝ }
+    requires { ⌜ Windows at p (outputsNow scratch coefficients errors pruned lower upper outliers) ⌝ }
+    ensures { λ r. ⌜ Reported (book .count) at (reportOut (book .count) settings (before xs) (before ys) (before sums) p) r (outputs scratch coefficients errors pruned lower upper outliers) ⌝ }
 {
     let s = at + p.scratch;
     let c = at + p.coefficients;
@@ -317,8 +319,8 @@ fn turn(
     upper: &mut [f64],
     outliers: &mut [u8],
 ) -> Book
-    requires { ⌜ Stands (now kinds) (now words) (now numbers) k × (5 * k + 5 ≤ length (now results)) × Windows (width * k) (placesAt (now words) k) (outputs (now scratch) (now coefficients) (now errors) (now pruned) (now lower) (now upper) (now outliers)) ⌝ }
-    ensures { λ r. ⌜ Turned (callAt (now (kinds .entry)) (now (words .entry)) (now (numbers .entry)) k) width k (book .count) (memory (now (xs .entry)) (now (ys .entry)) (now (sums .entry)) (now (results .entry)) (outputs (now (scratch .entry)) (now (coefficients .entry)) (now (errors .entry)) (now (pruned .entry)) (now (lower .entry)) (now (upper .entry)) (now (outliers .entry)))) (r .count) (memory (now (xs .exit)) (now (ys .exit)) (now (sums .exit)) (now (results .exit)) (outputs (now (scratch .exit)) (now (coefficients .exit)) (now (errors .exit)) (now (pruned .exit)) (now (lower .exit)) (now (upper .exit)) (now (outliers .exit)))) ⌝ }
+    requires { ⌜ Stands (now kinds) (now words) (now numbers) k × (5 * k + 5 ≤ length (now results)) × Windows (width * k) (placesAt (now words) k) (outputsNow scratch coefficients errors pruned lower upper outliers) ⌝ }
+    ensures { λ r. ⌜ TurnIs (callAt (before kinds) (before words) (before numbers) k) width k (book .count) (r .count) (memory xs ys sums results (outputs scratch coefficients errors pruned lower upper outliers)) ⌝ }
 {
     let settings = settings_at(kinds, words, numbers, k);
     let places = places_at(words, k);
@@ -372,8 +374,8 @@ fn run(
     upper: &mut [f64],
     outliers: &mut [u8],
 ) -> Book
-    requires { ⌜ wellFormed (now kinds) (now words) (now numbers) width (buffersOf (memory (now xs) (now ys) (now sums) (now results) (outputs (now scratch) (now coefficients) (now errors) (now pruned) (now lower) (now upper) (now outliers)))) ≡ true ⌝ }
-    ensures { λ r. ⌜ Ran (callsOf (now (kinds .entry)) (now (words .entry)) (now (numbers .entry))) width (r .count) (memory (now (xs .entry)) (now (ys .entry)) (now (sums .entry)) (now (results .entry)) (outputs (now (scratch .entry)) (now (coefficients .entry)) (now (errors .entry)) (now (pruned .entry)) (now (lower .entry)) (now (upper .entry)) (now (outliers .entry)))) (memory (now (xs .exit)) (now (ys .exit)) (now (sums .exit)) (now (results .exit)) (outputs (now (scratch .exit)) (now (coefficients .exit)) (now (errors .exit)) (now (pruned .exit)) (now (lower .exit)) (now (upper .exit)) (now (outliers .exit)))) ⌝ }
+    requires { ⌜ wellFormed (now kinds) (now words) (now numbers) width (buffersOf (now sums) (now results) (outputsNow scratch coefficients errors pruned lower upper outliers)) ≡ true ⌝ }
+    ensures { λ r. ⌜ RunIs (callsOf (before kinds) (before words) (before numbers)) width (r .count) (memory xs ys sums results (outputs scratch coefficients errors pruned lower upper outliers)) ⌝ }
 {
     let a = book::open(sums);
     let first = settle(Book { count: 0 }, a);
@@ -424,11 +426,9 @@ pub fn replay(
     upper: &mut [f64],
     outliers: &mut [u8],
 ) -> Replayed
-    ensures { λ r. ⌜ ReplayIs (now (kinds .entry)) (now (words .entry)) (now (numbers .entry)) width (memory (now (xs .entry)) (now (ys .entry)) (now (sums .entry)) (now (results .entry)) (outputs (now (scratch .entry)) (now (coefficients .entry)) (now (errors .entry)) (now (pruned .entry)) (now (lower .entry)) (now (upper .entry)) (now (outliers .entry)))) (memory (now (xs .exit)) (now (ys .exit)) (now (sums .exit)) (now (results .exit)) (outputs (now (scratch .exit)) (now (coefficients .exit)) (now (errors .exit)) (now (pruned .exit)) (now (lower .exit)) (now (upper .exit)) (now (outliers .exit)))) r ⌝ }
+    ensures { λ r. ⌜ ReplayIs (before kinds) (before words) (before numbers) width (memory xs ys sums results (outputs scratch coefficients errors pruned lower upper outliers)) r ⌝ }
 {
-    let b = Buffers {
-        sums: sums.len(),
-        results: results.len(),
+    let places = Places {
         scratch: scratch.len(),
         coefficients: coefficients.len(),
         errors: errors.len(),
@@ -436,6 +436,11 @@ pub fn replay(
         lower: lower.len(),
         upper: upper.len(),
         outliers: outliers.len(),
+    };
+    let b = Buffers {
+        sums: sums.len(),
+        results: results.len(),
+        outputs: places,
     };
     if !well_formed(kinds, words, numbers, width, b) {
         return Replayed::Malformed;

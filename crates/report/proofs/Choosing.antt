@@ -1,4 +1,4 @@
--- What the choice of a report comes to: no degree, or one that is measured. Assumes nothing.
+-- What the choice of a report comes to: no degree, or one that is measured.
 use mathlib.Core.Path.{_≡_, refl, sym, ap, _∙_}
 use mathlib.Core.Bool.{true, cond}
 use mathlib.Core.List.{List}
@@ -17,10 +17,10 @@ use Rattle.monomial.specs.Rows.{rowsOf}
 use Rattle.fit.specs.Solved.{isSolved}
 use Rattle.fit.specs.Chosen.{choiceOf, countsOf}
 use Rattle.fit.specs.declared.Choice.{Choice}
-use Rattle.book.specs.Refusals.{firstOf}
+use Rattle.refusal.specs.Refusals.{firstOf}
 use Rattle.measure.specs.Measures.{Measures, measureRefusal, inverseFails}
 use Rattle.measure.specs.declared.Measured.{Measured}
-use Rattle.report.specs.declared.Settings.{Settings}
+use Rattle.settings.specs.declared.Settings.{Settings}
 use Rattle.report.specs.declared.Chosen.{Chosen}
 use Rattle.report.specs.Chosen.{reportChoice, chosenRefusal, Chooses, chosen-solved}
 
@@ -54,11 +54,11 @@ module _ (n : ℕ) (settings : Settings) (samples : List Sample) (sums : List Fl
 
   -- no degree is chosen
   pub chooses-none : r .chosen ≡ None → (d : Degree) (c v s t : List Float) → Within n s t
-      → Chooses n settings samples sums s t (record { number = 11; degree = d; solved = r .solved; c = c; covariance = v })
+      → Chooses n settings samples sums s t (record { number = 11; choice = r; degree = d; c = c; covariance = v })
   chooses-none h d c v s t w =
       record {
         number = none-number h;
-        solved = ap (λ (a : Choice). a .solved) choice-is;
+        choice = choice-is;
         degree = λ z. absurd (omega arith);
         coefficients = λ z. absurd (omega arith);
         covariance = λ z. absurd (omega arith);
@@ -68,11 +68,11 @@ module _ (n : ℕ) (settings : Settings) (samples : List Sample) (sums : List Fl
   -- d is chosen, and measured
   pub chooses-some : (d : Degree) → r .chosen ≡ Some d → (a : Measured) (s t u : List Float) → Within n s t
       → Measures sums (rowsOf samples) (countOf Curve (d .0)) n t u a
-      → Chooses n settings samples sums s u (record { number = a .number; degree = d; solved = r .solved; c = a .c; covariance = a .covariance })
+      → Chooses n settings samples sums s u (record { number = a .number; choice = r; degree = d; c = a .c; covariance = a .covariance })
   chooses-some d h a s t u w q =
       record {
         number = some-number d h (a .number) (q .number);
-        solved = ap (λ (b : Choice). b .solved) choice-is;
+        choice = choice-is;
         degree = λ z. chosen-is (Some d) h;
         coefficients = λ z. q .coefficients;
         covariance = q .covariance;

@@ -1,4 +1,4 @@
--- The choice of a report: over the degrees 0 to its bound, from its samples and sums. Assumes nothing.
+-- The choice of a report: over the degrees 0 to its bound, from its samples and sums.
 use mathlib.Core.Path.{_≡_, sym, ap, _∙_}
 use mathlib.Core.Bool.{true, cond}
 use mathlib.Core.List.{List}
@@ -21,7 +21,7 @@ use Rattle.fit.specs.Solved.{isSolved, scoredBy}
 use Rattle.fit.specs.Chosen.{choiceOf, countsOf, tried}
 use Rattle.fit.specs.declared.Choice.{Choice}
 use Rattle.measure.specs.Measures.{inverseFails, covarianceAt}
-use Rattle.report.specs.declared.Settings.{Settings}
+use Rattle.settings.specs.declared.Settings.{Settings}
 use Rattle.report.specs.declared.Chosen.{Chosen}
 
 -- A report's bound is `max_degree` for its setting and n, and its degrees run from 0 to the bound.
@@ -36,7 +36,7 @@ chosenRefusal (Some d) sums = cond (inverseFails sums (countOf Curve (d .0))) 12
 -- the promise of the code's choice: r, and scratch s before and t after
 pub record Chooses (n : ℕ) (settings : Settings) (samples : List Sample) (sums s t : List Float) (r : Chosen) : Type 0 where
   pub number : r .number ≡ chosenRefusal (reportChoice n settings samples sums .chosen) sums
-  pub solved : r .solved ≡ reportChoice n settings samples sums .solved
+  pub choice : r .choice ≡ reportChoice n settings samples sums
   pub degree : r .number ≡ 0 → reportChoice n settings samples sums .chosen ≡ Some (r .degree)
   pub coefficients : r .number ≡ 0 → r .c ≡ solve sums (countOf Curve (r .degree .0)) .c
   pub covariance : r .number ≡ 0 → r .covariance ≡ covarianceAt sums (rowsOf samples) (countOf Curve (r .degree .0))

@@ -1,4 +1,7 @@
--- Document 01's report: its refusals, the choice, and what it answers and writes.
+-- Document 01's report: its refusals, the choice, what it writes, and what it answers.
 pub mod Refusals
+pub mod RefusalLaws
 pub mod Chosen
+pub mod Outputs
 pub mod Reports
+pub mod ReportLaws

@@ -6,24 +6,15 @@ use basis::Basis;
 use basis::Degree;
 use basis::OptionDegree;
 use book::Book;
-use score::Criterion;
-use statistics::Confidence;
-use statistics::DegreeBound;
-use statistics::Tolerance;
+use fit::Choice;
+use settings::Settings;
 ghost use Prim.Native.Nat.{_+_, _≤_, _<_};
 ghost use lib.ListN.{length};
 ghost use Rattle.monomial.specs.Samples.{samplesOf};
 ghost use Rattle.statistics.specs.Degrees.{maxDegree};
-ghost use Rattle.report.specs.Reports.{Writes, ReportIs, reportOut, writtenBy};
+ghost use Rattle.report.specs.Outputs.{outputs};
+ghost use Rattle.report.specs.Reports.{Does, ReportIs, writtenBy};
 ghost use Rattle.report.specs.Chosen.{Chooses};
-
-// How a degree is chosen, and what the bands allow.
-pub struct Settings {
-    pub bound: DegreeBound,
-    pub criterion: Criterion,
-    pub confidence: Confidence,
-    pub tolerance: Tolerance,
-}
 
 // How many places are lent of each memory that a report writes.
 pub struct Places {
@@ -47,11 +38,11 @@ pub enum ReportAnswer {
     Refused(u8),
 }
 
-// The chosen degree with its coefficients and their covariance. A number other than 0 is that of a refusal, 11 or 12.
+// The choice, with the coefficients of the chosen degree and their covariance. A number other than 0 is that of a refusal, 11 or 12.
 pub struct Chosen {
     pub number: u8,
+    pub choice: Choice,
     pub degree: Degree,
-    pub solved: usize,
     pub c: [f64; 16],
     pub covariance: [f64; 256],
 }
@@ -82,13 +73,12 @@ fn choose(
         criterion,
         &mut *scratch,
     );
-    let solved = choice.solved;
     let chosen = choice.chosen;
     match chosen {
         OptionDegree::None => Chosen {
             number: 11,
+            choice,
             degree: Degree(0),
-            solved,
             c: [0.0; 16],
             covariance: [0.0; 256],
         },
@@ -99,8 +89,8 @@ fn choose(
             let covariance = m.covariance;
             Chosen {
                 number: m.number,
+                choice,
                 degree,
-                solved,
                 c,
                 covariance,
             }
@@ -118,6 +108,7 @@ fn write(
     v: [f64; 256],
     xs: &[f64],
     ys: &[f64],
+    scratch: &mut [f64],
     coefficients: &mut [f64],
     errors: &mut [f64],
     pruned: &mut [u8],
@@ -126,8 +117,8 @@ fn write(
     outliers: &mut [u8],
 ) -> ReportAnswer
     requires { ⌜ (n ≤ length (now xs)) × (n ≤ length (now ys)) × (degree .0 < n) × (degree .0 ≤ 15) ⌝ }
-    requires { ⌜ (16 ≤ length (now coefficients)) × (16 ≤ length (now errors)) × (16 ≤ length (now pruned)) × (n ≤ length (now lower)) × (n ≤ length (now upper)) × (n ≤ length (now outliers)) ⌝ }
-    ensures { λ r. ⌜ Writes (writtenBy n settings (samplesOf n (now (xs .entry)) (now (ys .entry))) (degree .0) solved c v) r (now (coefficients .entry)) (now (coefficients .exit)) (now (errors .entry)) (now (errors .exit)) (now (pruned .entry)) (now (pruned .exit)) (now (lower .entry)) (now (lower .exit)) (now (upper .entry)) (now (upper .exit)) (now (outliers .entry)) (now (outliers .exit)) ⌝ }
+    requires { ⌜ (n ≤ length (now scratch)) × (16 ≤ length (now coefficients)) × (16 ≤ length (now errors)) × (16 ≤ length (now pruned)) × (n ≤ length (now lower)) × (n ≤ length (now upper)) × (n ≤ length (now outliers)) ⌝ }
+    ensures { λ r. ⌜ Does (writtenBy n settings (samplesOf n (now (xs .entry)) (now (ys .entry))) (degree .0) solved c v) r (outputs scratch coefficients errors pruned lower upper outliers) ⌝ }
 {
     let k = degree.k(Basis::Curve);
     let df = n - k.0;
@@ -137,8 +128,9 @@ fn write(
     let z = statistics::z_score(confidence);
     let spread = statistics::stddev_and_mean(ys, n);
     let e = covariance::errors(k, &v);
-    covariance::put_terms(c, coefficients);
-    covariance::put_terms(e, errors);
+    lent::clear(scratch, n);
+    lent::put_terms(c, coefficients);
+    lent::put_terms(e, errors);
     let terms = covariance::put_pruned(k, &c, &e, t, pruned);
     let marks = covariance::put_bands(
         Basis::Curve,
@@ -179,7 +171,7 @@ pub fn report(
     upper: &mut [f64],
     outliers: &mut [u8],
 ) -> ReportAnswer
-    ensures { λ r. ⌜ ReportIs (reportOut (book .count) settings (now (xs .entry)) (now (ys .entry)) (now (sums .entry)) (record { scratch = length (now (scratch .entry)); coefficients = length (now (coefficients .entry)); errors = length (now (errors .entry)); pruned = length (now (pruned .entry)); lower = length (now (lower .entry)); upper = length (now (upper .entry)); outliers = length (now (outliers .entry)) })) r (now (scratch .entry)) (now (scratch .exit)) (now (coefficients .entry)) (now (coefficients .exit)) (now (errors .entry)) (now (errors .exit)) (now (pruned .entry)) (now (pruned .exit)) (now (lower .entry)) (now (lower .exit)) (now (upper .entry)) (now (upper .exit)) (now (outliers .entry)) (now (outliers .exit)) ⌝ }
+    ensures { λ r. ⌜ ReportIs (book .count) settings (now (xs .entry)) (now (ys .entry)) (now (sums .entry)) r (outputs scratch coefficients errors pruned lower upper outliers) ⌝ }
 {
     let n = book.count;
     let places = Places {
@@ -196,21 +188,23 @@ pub fn report(
         return ReportAnswer::Refused(refusal);
     }
     let m = choose(n, settings, xs, ys, &sums[..272], &mut *scratch);
-    measure::clear(&mut *scratch, n);
     if m.number != 0 {
+        lent::clear(scratch, n);
         return ReportAnswer::Refused(m.number);
     }
+    let choice = m.choice;
     let c = m.c;
     let v = m.covariance;
     write(
         n,
         settings,
         m.degree,
-        m.solved,
+        choice.solved,
         c,
         v,
         xs,
         ys,
+        scratch,
         coefficients,
         errors,
         pruned,

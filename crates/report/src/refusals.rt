@@ -3,21 +3,31 @@ ghost use mathlib.Core.Path.{_≡_};
 ghost use mathlib.Core.List.{[], _∷_};
 ghost use lib.ListN.{length};
 ghost use Rattle.monomial.specs.Samples.{samplesOf};
-ghost use Rattle.report.specs.Refusals.{tooFew, reportRefusal};
+ghost use Rattle.refusal.specs.Tests.{tooShort};
+ghost use Rattle.report.specs.Refusals.{reportMemory, reportRefusal};
 use crate::Places;
-use crate::Settings;
+use settings::Settings;
 
-// 1, of what a report writes.
-fn too_few(n: usize, p: Places) -> bool
-    ensures { λ r. ⌜ r ≡ tooFew n p ⌝ }
+// 1, of a report: the sums, and all that it writes.
+fn report_short(n: usize, xs: usize, ys: usize, sums: usize, p: Places) -> bool
+    ensures { λ r. ⌜ r ≡ tooShort n (xs ∷ ys ∷ []) (reportMemory n sums p) ⌝ }
 {
-    (p.scratch < n)
-        | (p.coefficients < 16)
-        | (p.errors < 16)
-        | (p.pruned < 16)
-        | (p.lower < n)
-        | (p.upper < n)
-        | (p.outliers < n)
+    let bands = refusal::short(
+        n,
+        p.lower,
+        refusal::short(n, p.upper, refusal::short(n, p.outliers, false)),
+    );
+    let terms = refusal::short(
+        16,
+        p.coefficients,
+        refusal::short(16, p.errors, refusal::short(16, p.pruned, bands)),
+    );
+    refusal::too_short(
+        n,
+        xs,
+        ys,
+        refusal::short(272, sums, refusal::short(n, p.scratch, terms)),
+    )
 }
 
 pub fn report_refusal(
@@ -30,18 +40,20 @@ pub fn report_refusal(
 ) -> u8
     ensures { λ r. ⌜ r ≡ reportRefusal n settings (samplesOf n (now (xs .entry)) (now (ys .entry))) (length (now (xs .entry)) ∷ length (now (ys .entry)) ∷ []) sums places ⌝ }
 {
-    let short = book::too_short(n, xs.len(), ys.len(), sums);
-    if short | too_few(n, places) {
+    if report_short(n, xs.len(), ys.len(), sums, places) {
         return 1;
     }
     let bound = settings.bound;
     let confidence = settings.confidence;
     let tolerance = settings.tolerance;
-    let score = measure::score_finite(confidence);
-    let width = measure::tolerance_finite(tolerance);
-    let samples = measure::samples_finite(xs, ys, n);
-    let most = statistics::max_degree(bound, n);
+    let score = refusal::score_finite(confidence);
+    let width = refusal::tolerance_finite(tolerance);
+    let samples = refusal::samples_finite(xs, ys, n);
     let wrong = !(score & width & samples);
-    let high = 15 < most.0;
-    book::first(wrong, 4, book::first(n == 0, 7, book::first(high, 8, 0)))
+    let high = refusal::bound_too_high(bound, n);
+    refusal::first(
+        wrong,
+        4,
+        refusal::first(n == 0, 7, refusal::first(high, 8, 0)),
+    )
 }

@@ -1,4 +1,4 @@
--- `capi::packed_band` meets its contract. Assumes nothing.
+-- `capi::packed_band` meets its contract.
 use mathlib.Core.Path.{refl}
 use native.Mathlib.Omega.{arith}
 use borrow.Author.Needs.{needs}

@@ -1,4 +1,4 @@
--- `capi::packed_report` meets its contract. Assumes nothing.
+-- `capi::packed_report` meets its contract.
 use borrow.Author.Needs.{needs}
 use Rattle.capi.specs.Packed.{packedReport, ReportFits}
 use Rattle.capi.proofs.packed_report.Statement.{statement}

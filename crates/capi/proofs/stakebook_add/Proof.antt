@@ -1,4 +1,4 @@
--- `capi::stakebook_add` meets its contract. Assumes nothing.
+-- `capi::stakebook_add` meets its contract.
 use borrow.Author.Needs.{needs}
 use Rattle.capi.proofs.Promises.{book-packed}
 use Rattle.capi.proofs.stakebook_add.Statement.{statement}

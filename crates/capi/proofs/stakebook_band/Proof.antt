@@ -1,12 +1,19 @@
--- `capi::stakebook_band` meets its contract. Assumes nothing.
+use mathlib.Core.Path.{_≡_, refl, sym, ap, ap₂, subst, _∙_}
+use mathlib.Core.Bool.{Bool, true, false, cond, not, _&&_, _||_}
+use mathlib.Core.List.{List, [], _∷_, _++_, map}
+use Prim.Native.Nat.{ℕ, _+_, _-_, _*_, _/_, _%_, _≤_, _<_}
+use native.Mathlib.Omega.{arith}
 use borrow.Author.Needs.{needs}
+use lib.ListN.{length, getD, set, take, drop, replicate, length-set}
+use lib.Ieee.{Float, nan, binary64, add, sub, mul, div}
+use mathlib.Core.Path.{refl}
 use borrow.Author.Tests.{lt-ltb, le-ltb}
 use Rattle.capi.proofs.Promises.{band-short, band-packed}
 use Rattle.capi.proofs.stakebook_band.Statement.{statement}
 use Rattle.capi.proofs.stakebook_band.Tie as tie
 
 returns : tie.Need-returns
-returns c = band-short _ _ _ _ (lt-ltb _ _ (c .before .if1 .taken)) _ (c .refused .ensures)
+returns c = band-short _ _ _ _ (lt-ltb _ _ (c .before .if1 .taken)) refl refl _ (c .refused .ensures)
 
 returns-2 : tie.Need-returns-2
 returns-2 c =
@@ -15,7 +22,7 @@ returns-2 c =
     let at-if1 = c .before .before .before .before .before .before .before .before .before .before .if1 in
     let at-band = c .before .before .before .before .before .before .band in
     rw (← at-confidence .ensures, ← at-tolerance .ensures)
-    (band-packed _ _ _ _ (le-ltb _ _ (at-if1 .left)) _ _ _ _ (at-band .ensures) (c .before .before .packed-band .ensures .0) (c .before .before .packed-band .ensures .1))
+    (band-packed _ _ _ _ (le-ltb _ _ (at-if1 .left)) _ _ (at-band .ensures) (c .before .before .packed-band .ensures .0) (c .before .before .packed-band .ensures .1))
 
 pub stakebook-band-spec : {M : Type 1} → statement M
 stakebook-band-spec =

@@ -1,5 +1,11 @@
--- `capi::stakebook_fit` meets its contract. Assumes nothing.
+use mathlib.Core.Path.{_≡_, refl, sym, ap, ap₂, subst, _∙_}
+use mathlib.Core.Bool.{Bool, true, false, cond, not, _&&_, _||_}
+use mathlib.Core.List.{List, [], _∷_, _++_, map}
+use Prim.Native.Nat.{ℕ, _+_, _-_, _*_, _/_, _%_, _≤_, _<_}
+use native.Mathlib.Omega.{arith}
 use borrow.Author.Needs.{needs}
+use lib.ListN.{length, getD, set, take, drop, replicate, length-set}
+use lib.Ieee.{Float, nan, binary64, add, sub, mul, div}
 use Rattle.capi.proofs.Promises.{fit-packed}
 use Rattle.capi.proofs.stakebook_fit.Statement.{statement}
 use Rattle.capi.proofs.stakebook_fit.Tie as tie
@@ -7,7 +13,7 @@ use Rattle.capi.proofs.stakebook_fit.Tie as tie
 returns : tie.Need-returns
 returns c =
     let at-fit = c .before .before .before .before .before .fit in
-    fit-packed (at-fit .ensures) (c .fit2 .ensures)
+    fit-packed _ _ (at-fit .ensures) (c .fit2 .ensures)
 
 pub stakebook-fit-spec : {M : Type 1} → statement M
 stakebook-fit-spec =

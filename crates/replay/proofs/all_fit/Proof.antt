@@ -1,4 +1,4 @@
--- `replay::all_fit` meets its contract. Assumes nothing.
+-- `replay::all_fit` meets its contract.
 use mathlib.Core.Path.{_≡_, refl, sym, ap, _∙_}
 use mathlib.Core.Bool.{true, _&&_}
 use Prim.Native.Nat.{_-_, _≤_}

@@ -1,4 +1,4 @@
--- `replay::change` meets its contract. Assumes nothing.
+-- `replay::change` meets its contract.
 use borrow.Author.Needs.{needs}
 use Rattle.replay.proofs.Calls.{change-adds, change-corrects, change-withdraws}
 use Rattle.replay.proofs.change.Statement.{statement}

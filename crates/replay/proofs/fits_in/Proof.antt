@@ -1,4 +1,4 @@
--- `replay::fits_in` meets its contract. Assumes nothing.
+-- `replay::fits_in` meets its contract.
 use borrow.Author.Needs.{needs}
 use Rattle.replay.specs.Records.{fitsIn}
 use Rattle.replay.proofs.fits_in.Statement.{statement}

@@ -1,4 +1,4 @@
--- `replay::places_at` meets its contract. Assumes nothing.
+-- `replay::places_at` meets its contract.
 use borrow.Author.Needs.{needs}
 use Rattle.replay.specs.Records.{placesAt}
 use Rattle.replay.proofs.places_at.Statement.{statement}

@@ -1,4 +1,4 @@
--- `replay::put` meets its contract. Assumes nothing.
+-- `replay::put` meets its contract.
 use native.Mathlib.Omega.{arith}
 use borrow.Author.Needs.{needs}
 use lib.ListN.{length-set}

@@ -1,9 +1,17 @@
--- `replay::report_at` meets its contract. Assumes nothing.
+use mathlib.Core.Path.{_≡_, refl, sym, ap, ap₂, subst, _∙_}
+use mathlib.Core.Bool.{Bool, true, false, cond, not, _&&_, _||_}
+use mathlib.Core.List.{List, [], _∷_, _++_, map}
+use Prim.Native.Nat.{ℕ, _+_, _-_, _*_, _/_, _%_, _≤_, _<_}
+use native.Mathlib.Omega.{arith}
+use borrow.Author.Needs.{needs}
+use lib.ListN.{length, getD, set, take, drop, replicate, length-set}
+use lib.Ieee.{Float, nan, binary64, add, sub, mul, div}
+use mathlib.Core.Path.{ap}
+use Rattle.report.specs.Outputs.{Outputs}
 use Prim.Native.Nat.{_+_, _-_}
 use native.Mathlib.Omega.{arith}
 use borrow.Author.Needs.{needs}
 use Rattle.report.specs.Reports.{reportOut}
-use Rattle.replay.specs.Steps.{outputs}
 use Rattle.replay.proofs.Laws.{window-same}
 use Rattle.replay.proofs.Calls.{report-into}
 use Rattle.replay.proofs.report_at.Statement.{statement}
@@ -121,56 +129,56 @@ same-length c =
     let at-args = c .before .before .before .before .before .before .before .before .before .before .before .before .before .before .before .before .before .before .before .before .before .before .before .before .before .before .before .before .before .before .before .before .before .before .before .before .before .before .before .before .args in
     let at-report = c .before .before .before .before .before .before .before .before .before .before .before .before .before .before .before .report in
     let at-pre = c .before .before .before .before .before .before .before .before .before .before .before .before .before .before .before .before .before .before .before .before .before .before .before .before .before .before .before .before .before .before .before .before .before .before .before .before .before .before .before .before .pre in
-    window-same (at-args .at) (at-args .at + at-args .p .scratch - at-args .at) (at-args .scratch .now) (at-report .ensures .scratch) (at-report .kept .1 .1 .1 .1 .1 .0) (omega (arith, at-pre .scratch))
+    window-same (at-args .at) (at-args .at + at-args .p .scratch - at-args .at) (at-args .scratch .now) (ap (λ (z : Outputs). z .scratch) (at-report .ensures .outputs)) (at-report .kept .1 .1 .1 .1 .1 .0) (omega (arith, at-pre .scratch))
 
 same-length-2 : tie.Need-same-length-2
 same-length-2 c =
     let at-args = c .before .before .before .before .before .before .before .before .before .before .before .before .before .before .before .before .before .before .before .before .before .before .before .before .before .before .before .before .before .before .before .before .before .before .before .before .before .before .before .before .args in
     let at-report = c .before .before .before .before .before .before .before .before .before .before .before .before .before .before .before .report in
     let at-pre = c .before .before .before .before .before .before .before .before .before .before .before .before .before .before .before .before .before .before .before .before .before .before .before .before .before .before .before .before .before .before .before .before .before .before .before .before .before .before .before .before .pre in
-    window-same (at-args .at) (at-args .at + at-args .p .coefficients - at-args .at) (at-args .coefficients .now) (at-report .ensures .outputs .coefficients) (at-report .kept .1 .1 .1 .1 .1 .1 .0) (omega (arith, at-pre .coefficients))
+    window-same (at-args .at) (at-args .at + at-args .p .coefficients - at-args .at) (at-args .coefficients .now) (ap (λ (z : Outputs). z .coefficients) (at-report .ensures .outputs)) (at-report .kept .1 .1 .1 .1 .1 .1 .0) (omega (arith, at-pre .coefficients))
 
 same-length-3 : tie.Need-same-length-3
 same-length-3 c =
     let at-args = c .before .before .before .before .before .before .before .before .before .before .before .before .before .before .before .before .before .before .before .before .before .before .before .before .before .before .before .before .before .before .before .before .before .before .before .before .before .before .before .before .args in
     let at-report = c .before .before .before .before .before .before .before .before .before .before .before .before .before .before .before .report in
     let at-pre = c .before .before .before .before .before .before .before .before .before .before .before .before .before .before .before .before .before .before .before .before .before .before .before .before .before .before .before .before .before .before .before .before .before .before .before .before .before .before .before .before .pre in
-    window-same (at-args .at) (at-args .at + at-args .p .errors - at-args .at) (at-args .errors .now) (at-report .ensures .outputs .errors) (at-report .kept .1 .1 .1 .1 .1 .1 .1 .0) (omega (arith, at-pre .errors))
+    window-same (at-args .at) (at-args .at + at-args .p .errors - at-args .at) (at-args .errors .now) (ap (λ (z : Outputs). z .errors) (at-report .ensures .outputs)) (at-report .kept .1 .1 .1 .1 .1 .1 .1 .0) (omega (arith, at-pre .errors))
 
 same-length-4 : tie.Need-same-length-4
 same-length-4 c =
     let at-args = c .before .before .before .before .before .before .before .before .before .before .before .before .before .before .before .before .before .before .before .before .before .before .before .before .before .before .before .before .before .before .before .before .before .before .before .before .before .before .before .before .args in
     let at-report = c .before .before .before .before .before .before .before .before .before .before .before .before .before .before .before .report in
     let at-pre = c .before .before .before .before .before .before .before .before .before .before .before .before .before .before .before .before .before .before .before .before .before .before .before .before .before .before .before .before .before .before .before .before .before .before .before .before .before .before .before .before .pre in
-    window-same (at-args .at) (at-args .at + at-args .p .pruned - at-args .at) (at-args .pruned .now) (at-report .ensures .outputs .pruned) (at-report .kept .1 .1 .1 .1 .1 .1 .1 .1 .0) (omega (arith, at-pre .pruned))
+    window-same (at-args .at) (at-args .at + at-args .p .pruned - at-args .at) (at-args .pruned .now) (ap (λ (z : Outputs). z .pruned) (at-report .ensures .outputs)) (at-report .kept .1 .1 .1 .1 .1 .1 .1 .1 .0) (omega (arith, at-pre .pruned))
 
 same-length-5 : tie.Need-same-length-5
 same-length-5 c =
     let at-args = c .before .before .before .before .before .before .before .before .before .before .before .before .before .before .before .before .before .before .before .before .before .before .before .before .before .before .before .before .before .before .before .before .before .before .before .before .before .before .before .before .args in
     let at-report = c .before .before .before .before .before .before .before .before .before .before .before .before .before .before .before .report in
     let at-pre = c .before .before .before .before .before .before .before .before .before .before .before .before .before .before .before .before .before .before .before .before .before .before .before .before .before .before .before .before .before .before .before .before .before .before .before .before .before .before .before .before .pre in
-    window-same (at-args .at) (at-args .at + at-args .p .lower - at-args .at) (at-args .lower .now) (at-report .ensures .outputs .lower) (at-report .kept .1 .1 .1 .1 .1 .1 .1 .1 .1 .0) (omega (arith, at-pre .lower))
+    window-same (at-args .at) (at-args .at + at-args .p .lower - at-args .at) (at-args .lower .now) (ap (λ (z : Outputs). z .lower) (at-report .ensures .outputs)) (at-report .kept .1 .1 .1 .1 .1 .1 .1 .1 .1 .0) (omega (arith, at-pre .lower))
 
 same-length-6 : tie.Need-same-length-6
 same-length-6 c =
     let at-args = c .before .before .before .before .before .before .before .before .before .before .before .before .before .before .before .before .before .before .before .before .before .before .before .before .before .before .before .before .before .before .before .before .before .before .before .before .before .before .before .before .args in
     let at-report = c .before .before .before .before .before .before .before .before .before .before .before .before .before .before .before .report in
     let at-pre = c .before .before .before .before .before .before .before .before .before .before .before .before .before .before .before .before .before .before .before .before .before .before .before .before .before .before .before .before .before .before .before .before .before .before .before .before .before .before .before .before .pre in
-    window-same (at-args .at) (at-args .at + at-args .p .upper - at-args .at) (at-args .upper .now) (at-report .ensures .outputs .upper) (at-report .kept .1 .1 .1 .1 .1 .1 .1 .1 .1 .1 .0) (omega (arith, at-pre .upper))
+    window-same (at-args .at) (at-args .at + at-args .p .upper - at-args .at) (at-args .upper .now) (ap (λ (z : Outputs). z .upper) (at-report .ensures .outputs)) (at-report .kept .1 .1 .1 .1 .1 .1 .1 .1 .1 .1 .0) (omega (arith, at-pre .upper))
 
 same-length-7 : tie.Need-same-length-7
 same-length-7 c =
     let at-args = c .before .before .before .before .before .before .before .before .before .before .before .before .before .before .before .before .before .before .before .before .before .before .before .before .before .before .before .before .before .before .before .before .before .before .before .before .before .before .before .before .args in
     let at-report = c .before .before .before .before .before .before .before .before .before .before .before .before .before .before .before .report in
     let at-pre = c .before .before .before .before .before .before .before .before .before .before .before .before .before .before .before .before .before .before .before .before .before .before .before .before .before .before .before .before .before .before .before .before .before .before .before .before .before .before .before .before .pre in
-    window-same (at-args .at) (at-args .at + at-args .p .outliers - at-args .at) (at-args .outliers .now) (at-report .ensures .outputs .outliers) (at-report .kept .1 .1 .1 .1 .1 .1 .1 .1 .1 .1 .1 .0) (omega (arith, at-pre .outliers))
+    window-same (at-args .at) (at-args .at + at-args .p .outliers - at-args .at) (at-args .outliers .now) (ap (λ (z : Outputs). z .outliers) (at-report .ensures .outputs)) (at-report .kept .1 .1 .1 .1 .1 .1 .1 .1 .1 .1 .1 .0) (omega (arith, at-pre .outliers))
 
 returns : tie.Need-returns
 returns c =
     let at-args = c .before .before .before .before .before .before .before .before .before .before .before .before .before .before .before .before .before .before .before .before .before .before .before .before .before .before .before .before .before .before .before .before .before .before .before .before .before .before .before .before .args in
     let at-pre = c .before .before .before .before .before .before .before .before .before .before .before .before .before .before .before .before .before .before .before .before .before .before .before .before .before .before .before .before .before .before .before .before .before .before .before .before .before .before .before .before .pre in
     let at-report = c .before .before .before .before .before .before .before .before .before .before .before .before .before .before .before .report in
-    report-into (at-args .book .count) (at-args .at) (at-args .p) (outputs (at-args .scratch .now) (at-args .coefficients .now) (at-args .errors .now) (at-args .pruned .now) (at-args .lower .now) (at-args .upper .now) (at-args .outliers .now)) (at-pre) (λ q. reportOut (at-args .book .count) (at-args .settings) (at-args .xs .now) (at-args .ys .now) (at-args .sums .now) q) (at-report .result) (c .tell .result) _ _ _ _ _ _ _ (at-report .ensures) (at-report .kept .1 .1 .1 .1 .1 .0) (at-report .kept .1 .1 .1 .1 .1 .1 .0) (at-report .kept .1 .1 .1 .1 .1 .1 .1 .0) (at-report .kept .1 .1 .1 .1 .1 .1 .1 .1 .0) (at-report .kept .1 .1 .1 .1 .1 .1 .1 .1 .1 .0) (at-report .kept .1 .1 .1 .1 .1 .1 .1 .1 .1 .1 .0) (at-report .kept .1 .1 .1 .1 .1 .1 .1 .1 .1 .1 .1 .0) (c .tell .ensures)
+    report-into (at-args .book .count) (at-args .at) (at-args .p) (record { scratch = at-args .scratch .now; coefficients = at-args .coefficients .now; errors = at-args .errors .now; pruned = at-args .pruned .now; lower = at-args .lower .now; upper = at-args .upper .now; outliers = at-args .outliers .now }) (at-pre) (λ q. reportOut (at-args .book .count) (at-args .settings) (at-args .xs .now) (at-args .ys .now) (at-args .sums .now) q) (at-report .result) (c .tell .result) _ (at-report .ensures) (at-report .kept .1 .1 .1 .1 .1 .0) (at-report .kept .1 .1 .1 .1 .1 .1 .0) (at-report .kept .1 .1 .1 .1 .1 .1 .1 .0) (at-report .kept .1 .1 .1 .1 .1 .1 .1 .1 .0) (at-report .kept .1 .1 .1 .1 .1 .1 .1 .1 .1 .0) (at-report .kept .1 .1 .1 .1 .1 .1 .1 .1 .1 .1 .0) (at-report .kept .1 .1 .1 .1 .1 .1 .1 .1 .1 .1 .1 .0) (c .tell .ensures)
 
 pub report-at-spec : {M : Type 1} → statement M
 report-at-spec =

@@ -1,4 +1,4 @@
--- `replay::room` meets its contract. Assumes nothing.
+-- `replay::room` meets its contract.
 use borrow.Author.Needs.{needs}
 use borrow.Author.Tests.{eq-eqb, ne-eqb}
 use Rattle.replay.proofs.room.Statement.{statement}

@@ -1,16 +1,18 @@
--- `replay::settings_at` meets its contract. Assumes nothing.
+use mathlib.Core.Path.{_≡_, refl, sym, ap, ap₂, subst, _∙_}
+use mathlib.Core.Bool.{Bool, true, false, cond, not, _&&_, _||_}
+use mathlib.Core.List.{List, [], _∷_, _++_, map}
+use Prim.Native.Nat.{ℕ, _+_, _-_, _*_, _/_, _%_, _≤_, _<_}
+use native.Mathlib.Omega.{arith}
 use borrow.Author.Needs.{needs}
+use lib.ListN.{length, getD, set, take, drop, replicate, length-set}
+use lib.Ieee.{Float, nan, binary64, add, sub, mul, div}
 use Rattle.replay.specs.Records.{settingsAt}
 use Rattle.replay.proofs.settings_at.Statement.{statement}
 use Rattle.replay.proofs.settings_at.Tie as tie
 
 returns : tie.Need-returns
 unfolding settingsAt
-returns c =
-    let at-bound = c .before .before .before .before .before .before .before .before .bound in
-    let at-criterion = c .before .before .before .before .before .before .criterion in
-    let at-confidence = c .before .before .before .confidence in
-    λ i. record { bound = at-bound .ensures i; criterion = at-criterion .ensures i; confidence = at-confidence .ensures i; tolerance = c .tolerance .ensures i }
+returns c = c .numbered .ensures
 
 pub settings-at-spec : {M : Type 1} → statement M
 settings-at-spec =
@@ -25,18 +27,15 @@ settings-at-spec =
     (λ c. search needs)
     (λ c. search needs)
     (λ c. search needs)
-    (λ c κs. search needs)
-    (λ c. search needs)
-    (λ c. search needs)
-    (λ c. search needs)
-    (λ c κs. search needs)
     (λ c. search needs)
     (λ c. search needs)
     (λ c. search needs)
     (λ c. search needs)
     (λ c. search needs)
     (λ c. search needs)
-    (λ c κs. search needs)
+    (λ c. search needs)
+    (λ c. search needs)
+    (λ c. search needs)
     (λ c. search needs)
     (λ c. search needs)
     (λ c. search needs)

@@ -1,4 +1,4 @@
--- `replay::settle` meets its contract. Assumes nothing.
+-- `replay::settle` meets its contract.
 use mathlib.Core.Path.{sym, ap}
 use borrow.Author.Needs.{needs}
 use Rattle.replay.specs.Steps.{settled}

@@ -1,4 +1,4 @@
--- `replay::tell` meets its contract. Assumes nothing.
+-- `replay::tell` meets its contract.
 use mathlib.Core.Path.{sym, ap}
 use borrow.Author.Needs.{needs}
 use Rattle.replay.specs.Steps.{toldOf}

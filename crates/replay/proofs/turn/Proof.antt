@@ -1,10 +1,17 @@
--- `replay::turn` meets its contract. Assumes nothing.
+use mathlib.Core.Path.{_≡_, refl, sym, ap, ap₂, subst, _∙_}
+use mathlib.Core.Bool.{Bool, true, false, cond, not, _&&_, _||_}
+use mathlib.Core.List.{List, [], _∷_, _++_, map}
+use Prim.Native.Nat.{ℕ, _+_, _-_, _*_, _/_, _%_, _≤_, _<_}
+use native.Mathlib.Omega.{arith}
+use borrow.Author.Needs.{needs}
+use lib.ListN.{length, getD, set, take, drop, replicate, length-set}
+use lib.Ieee.{Float, nan, binary64, add, sub, mul, div}
 use mathlib.Core.Path.{refl, sym, subst}
 use Prim.Native.Nat.{_*_}
 use native.Mathlib.Omega.{arith}
 use borrow.Author.Needs.{needs}
 use lib.ListN.{length-take, length-drop}
-use Rattle.replay.specs.Steps.{Windows, outputs, memory}
+use Rattle.replay.specs.Steps.{Windows}
 use Rattle.replay.proofs.Turns.{turned-change, turned-report}
 use Rattle.replay.proofs.turn.Statement.{statement}
 use Rattle.replay.proofs.turn.Tie as tie
@@ -156,7 +163,7 @@ returns c =
     let at-places-at = c .before .before .before .before .before .before .before .before .before .before .before .before .before .before .before .before .before .before .before .places-at in
     let at-change = c .before .before .before .before .before .before .before .before .before .before .change in
     let at-if1 = c .before .before .before .before .before .before .before .before .before .before .before .before .before .before .before .before .before .if1 in
-    turned-change (at-args .kinds .now) (at-args .words .now) (at-args .numbers .now) (at-args .width) (at-args .k) (at-args .book .count) (memory (at-args .xs .now) (at-args .ys .now) (at-args .sums .now) (at-args .results .now) (outputs (at-args .scratch .now) (at-args .coefficients .now) (at-args .errors .now) (at-args .pruned .now) (at-args .lower .now) (at-args .upper .now) (at-args .outliers .now))) _ _ (at-settings-at .ensures) (at-places-at .ensures) (at-change .result) _ (c .before .before .put .ensures) (c .before .before .put .kept .1 .0) _ _ _ (at-if1 .taken) (at-change .ensures)
+    turned-change (at-args .kinds .now) (at-args .words .now) (at-args .numbers .now) (at-args .width) (at-args .k) (at-args .book .count) (record { xs = at-args .xs .now; ys = at-args .ys .now; sums = at-args .sums .now; results = at-args .results .now; outputs = (record { scratch = at-args .scratch .now; coefficients = at-args .coefficients .now; errors = at-args .errors .now; pruned = at-args .pruned .now; lower = at-args .lower .now; upper = at-args .upper .now; outliers = at-args .outliers .now }) }) _ _ (at-settings-at .ensures) (at-places-at .ensures) (at-change .result) _ (c .before .before .put .ensures) (c .before .before .put .kept .1 .0) _ _ _ (at-if1 .taken) (at-change .ensures)
 
 mul-report-at : tie.Need-mul-report-at
 mul-report-at c =
@@ -169,7 +176,7 @@ report-at-requires c κs =
     let at-args = c .before .before .before .before .before .before .before .before .before .before .before .before .before .before .before .before .before .before .before .before .before .before .before .before .before .before .before .before .args in
     let at-places-at = c .before .before .before .before .before .before .before .before .before .before .before .before .places-at in
     let at-pre = c .before .before .before .before .before .before .before .before .before .before .before .before .before .before .before .before .before .before .before .before .before .before .before .before .before .before .before .before .pre in
-    subst (λ p. Windows (at-args .width * at-args .k) p (outputs (at-args .scratch .now) (at-args .coefficients .now) (at-args .errors .now) (at-args .pruned .now) (at-args .lower .now) (at-args .upper .now) (at-args .outliers .now))) (sym (at-places-at .ensures)) (at-pre .2)
+    subst (λ p. Windows (at-args .width * at-args .k) p (record { scratch = at-args .scratch .now; coefficients = at-args .coefficients .now; errors = at-args .errors .now; pruned = at-args .pruned .now; lower = at-args .lower .now; upper = at-args .upper .now; outliers = at-args .outliers .now })) (sym (at-places-at .ensures)) (at-pre .2)
 
 mul-put-2 : tie.Need-mul-put-2
 mul-put-2 c =
@@ -248,7 +255,7 @@ returns-2 c =
     let at-places-at = c .before .before .before .before .before .before .before .before .before .before .before .before .before .before .before .before .before .before .before .before .before .before .before .before .before .before .before .before .before .before .before .places-at in
     let at-report-at = c .before .before .before .before .before .before .before .before .before .before .before .before .before .before .before .before .before .before .report-at in
     let at-if1 = c .before .before .before .before .before .before .before .before .before .before .before .before .before .before .before .before .before .before .before .before .before .before .before .before .before .before .before .before .before .if1 in
-    turned-report (at-args .kinds .now) (at-args .words .now) (at-args .numbers .now) (at-args .width) (at-args .k) (at-args .book .count) (memory (at-args .xs .now) (at-args .ys .now) (at-args .sums .now) (at-args .results .now) (outputs (at-args .scratch .now) (at-args .coefficients .now) (at-args .errors .now) (at-args .pruned .now) (at-args .lower .now) (at-args .upper .now) (at-args .outliers .now))) _ _ (at-settings-at .ensures) (at-places-at .ensures) (at-report-at .result) _ (c .before .before .put2 .ensures) (c .before .before .put2 .kept .1 .0) _ (at-if1 .left) (at-report-at .ensures)
+    turned-report (at-args .kinds .now) (at-args .words .now) (at-args .numbers .now) (at-args .width) (at-args .k) (at-args .book .count) (record { xs = at-args .xs .now; ys = at-args .ys .now; sums = at-args .sums .now; results = at-args .results .now; outputs = (record { scratch = at-args .scratch .now; coefficients = at-args .coefficients .now; errors = at-args .errors .now; pruned = at-args .pruned .now; lower = at-args .lower .now; upper = at-args .upper .now; outliers = at-args .outliers .now }) }) _ _ (at-settings-at .ensures) (at-places-at .ensures) (at-report-at .result) _ (c .before .before .put2 .ensures) (c .before .before .put2 .kept .1 .0) _ (at-if1 .left) (at-report-at .ensures)
 
 pub turn-spec : {M : Type 1} → statement M
 turn-spec =

@@ -1,4 +1,4 @@
--- `replay::well_formed` meets its contract. Assumes nothing.
+-- `replay::well_formed` meets its contract.
 use mathlib.Core.Path.{sym, ap, _∙_}
 use mathlib.Core.Bool.{_&&_}
 use borrow.Author.Needs.{needs}

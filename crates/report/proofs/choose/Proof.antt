@@ -1,4 +1,4 @@
--- `report::choose` meets its contract. Assumes nothing.
+-- `report::choose` meets its contract.
 use mathlib.Core.Path.{ap, _∙_}
 use mathlib.Core.List.{List}
 use native.Mathlib.Omega.{arith}

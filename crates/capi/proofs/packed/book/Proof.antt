@@ -1,4 +1,4 @@
--- `capi::packed::book` meets its contract. Assumes nothing.
+-- `capi::packed::book` meets its contract.
 use borrow.Author.Needs.{needs}
 use Rattle.capi.specs.Packed.{packedBook}
 use Rattle.capi.proofs.packed.book.Statement.{statement}

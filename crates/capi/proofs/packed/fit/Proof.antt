@@ -1,4 +1,4 @@
--- `capi::packed::fit` meets its contract. Assumes nothing.
+-- `capi::packed::fit` meets its contract.
 use borrow.Author.Needs.{needs}
 use Rattle.capi.specs.Packed.{packedFit}
 use Rattle.capi.proofs.packed.fit.Statement.{statement}
