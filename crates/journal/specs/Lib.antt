@@ -1,3 +1,0 @@
--- What the program's contracts cite.
-pub mod Front
-pub mod Answers
