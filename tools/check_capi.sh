@@ -5,7 +5,7 @@ cd "$(dirname "$0")/.."
 rt staticlib capi | tail -n 1
 
 # the judge still prints the committed answers, and the C example prints them too
-cargo run --release --quiet -p judge --bin journal < examples/c/season.calls | cmp - examples/c/season.answers
+cargo run --release --quiet -p journal -- --judge < examples/c/season.calls | cmp - examples/c/season.answers
 make --silent --always-make -C examples/c
 target/season | cmp - examples/c/season.answers
 echo "C example: as the judge"

@@ -1,10 +1,10 @@
 //! Arguments of calls, most of them fit to be let through, some not.
 
+use journal::Call;
 use judge::fit::{Criterion, Settings};
 use judge::statistics::{Confidence, DegreeBound, Tolerance};
 use judge::Sample;
 
-use crate::call::Call;
 use crate::random::Random;
 
 /// One in so many arguments is not finite.
@@ -89,6 +89,15 @@ pub fn folds(random: &mut Random, n: usize) -> usize {
     }
 }
 
+/// The least number above a finite one.
+fn next_up(v: f64) -> f64 {
+    match v.to_bits() {
+        bits if v > 0.0 => f64::from_bits(bits + 1),
+        bits if v < 0.0 => f64::from_bits(bits - 1),
+        _ => f64::from_bits(1),
+    }
+}
+
 /// Mostly from the least to the greatest x of the samples, its ends among them.
 pub fn band_x(random: &mut Random, samples: &[Sample]) -> f64 {
     if samples.is_empty() || random.one_in(RARE) {
@@ -100,8 +109,8 @@ pub fn band_x(random: &mut Random, samples: &[Sample]) -> f64 {
         0 => least,
         1 => greatest,
         2 => -least,
-        3 => least.next_down(),
-        4 => greatest.next_up(),
+        3 => -next_up(-least),
+        4 => next_up(greatest),
         5..=7 => samples[random.below(samples.len())].x,
         _ => random.within(least, greatest),
     }

@@ -3,18 +3,17 @@
 //! Each time is the best of many calls. Ratios come first: the further side (the port) by the judge, which is a
 //! plain transcription, and polyfit and GSL by the port. Where a side has no such call, its places are empty.
 
-use std::hint::black_box;
+use std::mem::ManuallyDrop;
+use std::ptr;
 use std::time::{Duration, Instant};
 
+use journal::{Call, Judge, Lent, Memory, Side};
 use judge::fit::{Criterion, Settings};
 use judge::statistics::{Confidence, DegreeBound, Tolerance};
 use judge::Sample;
 
-use crate::call::Call;
 use crate::gsl;
-use crate::memory::{Lent, Memory};
 use crate::reference;
-use crate::side::{Judge, Side};
 
 const COUNTS: [usize; 4] = [10, 100, 1_000, 4_096];
 const BOUNDS: [usize; 3] = [3, 8, 15];
@@ -62,6 +61,13 @@ fn lent(memory: &mut Memory) -> Lent<'_> {
         upper: &mut memory.upper,
         outlier: &mut memory.outlier,
     }
+}
+
+/// The value, of which the compiler can foresee nothing.
+fn black_box<T>(value: T) -> T {
+    let value = ManuallyDrop::new(value);
+    // SAFETY: the place is initialised, and what stands in it is never used or dropped again.
+    unsafe { ptr::read_volatile(&*value) }
 }
 
 /// The best time of a call, in milliseconds.

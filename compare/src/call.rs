@@ -1,24 +1,8 @@
 //! Lists of calls, as data: what is called, with which arguments, on memory of which lengths.
 
-use judge::fit::{Criterion, Settings};
+use journal::Call;
 use judge::refusals::{self, Conditions, Lengths};
-use judge::statistics::{Confidence, DegreeBound, Tolerance};
 use judge::Sample;
-
-/// A call with its arguments.
-#[derive(Debug, Clone, PartialEq)]
-pub enum Call {
-    Open,
-    Add(Sample),
-    Correct { index: usize, y: f64 },
-    Withdraw { index: usize },
-    AddFrame(Vec<u8>),
-    Fit { degree: usize },
-    Report(Settings),
-    Validate { folds: usize, bound: DegreeBound, criterion: Criterion },
-    Band { x: f64, degree: usize, confidence: Confidence, tolerance: Tolerance },
-    Reader(Vec<u8>),
-}
 
 /// A value written into the lent memory before a call, by someone other than the book.
 #[derive(Debug, Clone, Copy, PartialEq)]
@@ -45,61 +29,39 @@ pub struct List {
     pub steps: Vec<Step>,
 }
 
-/// What a call answers.
-#[derive(Debug, Clone, PartialEq)]
-pub enum Answer {
-    Refused(u8),
-    Book(usize),
-    Degree(usize),
-    Report {
-        degree: usize,
-        solved: usize,
-        outliers: usize,
-        pruned: usize,
-    },
-    Band {
-        value: f64,
-        lower: f64,
-        upper: f64,
-    },
-    /// Everything a reader hands out before it tells the end.
-    Samples(Vec<Sample>),
+/// How a call is counted.
+pub fn name(call: &Call) -> &'static str {
+    match call {
+        Call::Open => "open",
+        Call::Add(_) => "add",
+        Call::Correct { .. } => "correct",
+        Call::Withdraw { .. } => "withdraw",
+        Call::AddFrame(_) => "add_frame",
+        Call::Fit { .. } => "fit",
+        Call::Report(_) => "report",
+        Call::Validate { .. } => "validate",
+        Call::Band { .. } => "band",
+        Call::Reader(_) => "reader",
+    }
 }
 
-impl Call {
-    pub fn name(&self) -> &'static str {
-        match self {
-            Call::Open => "open",
-            Call::Add(_) => "add",
-            Call::Correct { .. } => "correct",
-            Call::Withdraw { .. } => "withdraw",
-            Call::AddFrame(_) => "add_frame",
-            Call::Fit { .. } => "fit",
-            Call::Report(_) => "report",
-            Call::Validate { .. } => "validate",
-            Call::Band { .. } => "band",
-            Call::Reader(_) => "reader",
+/// The conditions of refusals 1 to 9, in checking order.
+pub fn conditions(call: &Call, lengths: &Lengths, count: usize, samples: &[Sample]) -> Conditions {
+    match call {
+        Call::Open => refusals::open(lengths),
+        Call::Add(sample) => refusals::add(lengths, count, *sample),
+        Call::Correct { index, y } => refusals::correct(lengths, count, *index, *y),
+        Call::Withdraw { index } => refusals::withdraw(lengths, count, *index),
+        Call::AddFrame(frame) => refusals::add_frame(lengths, count, frame),
+        Call::Fit { degree } => refusals::fit(lengths, count, samples, *degree),
+        Call::Report(settings) => refusals::report(lengths, count, samples, *settings),
+        Call::Validate { folds, bound, .. } => {
+            refusals::validate(lengths, count, samples, *folds, *bound)
         }
-    }
-
-    /// The conditions of refusals 1 to 9, in checking order.
-    pub fn conditions(&self, lengths: &Lengths, count: usize, samples: &[Sample]) -> Conditions {
-        match self {
-            Call::Open => refusals::open(lengths),
-            Call::Add(sample) => refusals::add(lengths, count, *sample),
-            Call::Correct { index, y } => refusals::correct(lengths, count, *index, *y),
-            Call::Withdraw { index } => refusals::withdraw(lengths, count, *index),
-            Call::AddFrame(frame) => refusals::add_frame(lengths, count, frame),
-            Call::Fit { degree } => refusals::fit(lengths, count, samples, *degree),
-            Call::Report(settings) => refusals::report(lengths, count, samples, *settings),
-            Call::Validate { folds, bound, .. } => {
-                refusals::validate(lengths, count, samples, *folds, *bound)
-            }
-            Call::Band { x, degree, confidence, tolerance } => {
-                refusals::band(lengths, count, samples, (*x, *degree), *confidence, *tolerance)
-            }
-            Call::Reader(frame) => refusals::reader(frame),
+        Call::Band { x, degree, confidence, tolerance } => {
+            refusals::band(lengths, count, samples, (*x, *degree), *confidence, *tolerance)
         }
+        Call::Reader(frame) => refusals::reader(frame),
     }
 }
 

@@ -2,6 +2,7 @@
 
 use std::collections::{BTreeMap, BTreeSet};
 
+use journal::{Answer, Call, Memory};
 use judge::fit::{self, Criterion, Settings};
 use judge::numbers::bits;
 use judge::refusals::{Conditions, Lengths};
@@ -12,8 +13,7 @@ use judge::statistics::{
 use judge::sums::{a, folded_afresh, PLACES, TERMS};
 use judge::Sample;
 
-use crate::call::{Answer, Call};
-use crate::memory::Memory;
+use crate::call::name;
 use crate::run::passes_nine;
 
 /// One call, and what came of it.
@@ -191,7 +191,7 @@ impl Coverage {
 
     pub fn note_call(&mut self, seen: &Seen) {
         self.calls += 1;
-        let name = seen.call.name();
+        let name = name(seen.call);
         let outcome = match seen.answer {
             Answer::Refused(number) => format!("refused by {number}"),
             _ => "answered".to_string(),
@@ -221,16 +221,15 @@ impl Coverage {
 
     /// A band refused by 9 whose fit would have been refused by 10 or 12.
     fn note_outside(&mut self, seen: &Seen) {
-        let (Call::Band { degree, .. }, Answer::Refused(9)) = (seen.call, &seen.answer) else {
-            return;
-        };
-        let sums = &seen.memory.sums;
-        self.note_if(fit::solved(&seen.samples, sums, *degree).is_none(), "band: 9 before 10");
-        self.note_if(inverse(sums, degree + 1).is_none(), "band: 9 before 12");
+        if let (Call::Band { degree, .. }, Answer::Refused(9)) = (seen.call, &seen.answer) {
+            let sums = &seen.memory.sums;
+            self.note_if(fit::solved(&seen.samples, sums, *degree).is_none(), "band: 9 before 10");
+            self.note_if(inverse(sums, degree + 1).is_none(), "band: 9 before 12");
+        }
     }
 
     fn note_lengths(&mut self, seen: &Seen) {
-        let name = seen.call.name();
+        let name = name(seen.call);
         for (memory, calls) in LENGTHS {
             if !calls.contains(&name) {
                 continue;
@@ -267,7 +266,7 @@ impl Coverage {
         self.note_samples(&seen.samples);
         let answered = !matches!(seen.answer, Answer::Refused(_));
         if answered && !seen.own_sums {
-            self.note(format!("sums: not the ledger's, {} answered", seen.call.name()));
+            self.note(format!("sums: not the ledger's, {} answered", name(seen.call)));
         }
     }
 
@@ -286,8 +285,10 @@ impl Coverage {
     }
 
     fn note_band(&mut self, seen: &Seen, x: f64, tolerance: Tolerance) {
-        let Answer::Band { value, lower, upper } = seen.answer else { return };
-        let numbers = [value, lower, upper];
+        let numbers = match seen.answer {
+            Answer::Band { value, lower, upper } => [value, lower, upper],
+            _ => return,
+        };
         self.note(format!("band: tolerance {}", tolerance_name(tolerance)));
         self.note_if(numbers.iter().any(|v| v.is_nan()), "band: NaN");
         self.note_if(numbers.iter().any(|v| v.is_infinite()), "band: infinity");
@@ -309,7 +310,7 @@ impl Coverage {
         self.note(format!("validate: criterion {}", criterion_name(criterion)));
         self.note(format!("validate: bound {}", bound_name(bound)));
         self.note_if(folds == n, "validate: leave one out");
-        self.note_if(!n.is_multiple_of(folds), "validate: the last fold takes a rest");
+        self.note_if(n % folds != 0, "validate: the last fold takes a rest");
         if n * folds <= 200 {
             self.note_folds(&seen.samples, folds, max_degree(bound, n));
         }
@@ -344,7 +345,10 @@ impl Coverage {
         self.note_medians(samples, sums, bound);
         let gap = scores.windows(2).any(|pair| pair[0].is_none() && pair[1].is_some());
         self.note_if(gap, "report: an unsolved degree below a solved one");
-        let Answer::Report { degree, outliers, .. } = seen.answer else { return };
+        let (degree, outliers) = match seen.answer {
+            Answer::Report { degree, outliers, .. } => (degree, outliers),
+            _ => return,
+        };
         self.note(format!("chosen degree: {degree}"));
         self.note_if(scores[0].is_none(), "report: degree 0 unsolved, a higher one chosen");
         self.note_distance(scores[degree].unwrap_or(f64::NAN) - fit::least(&scores));
@@ -361,8 +365,7 @@ impl Coverage {
     }
 
     fn note_medians(&mut self, samples: &[Sample], sums: &[f64], bound: usize) {
-        for degree in 0..=bound {
-            let Some(coefficients) = fit::solved(samples, sums, degree) else { continue };
+        for coefficients in (0..=bound).filter_map(|degree| fit::solved(samples, sums, degree)) {
             let residuals = fit::residuals(samples, &coefficients);
             let sizes: Vec<f64> = residuals.iter().map(|r| r.abs()).collect();
             self.note_if(median(&sizes).is_infinite(), "report: infinite median of sizes");

@@ -1,5 +1,6 @@
 //! Makes lists of calls. Each kind of list aims at something that plain random lists never make.
 
+use journal::Call;
 use judge::fit::Settings;
 use judge::frame;
 use judge::ledger::Ledger;
@@ -9,7 +10,7 @@ use judge::sums::{PLACES, TERMS};
 use judge::Sample;
 
 use crate::arguments;
-use crate::call::{Call, List, Poke, Step};
+use crate::call::{List, Poke, Step};
 use crate::random::Random;
 use crate::samples::{self, Kind, Source};
 
@@ -283,8 +284,9 @@ fn overflowing_mean(random: &mut Random) -> Vec<Step> {
 
 /// Solved, and the inverse not, from a ledger.
 fn pivot_edge(random: &mut Random) -> Vec<Step> {
-    let Some((samples, degree)) = samples::at_some_pivot_edge(random) else {
-        return mixed(random);
+    let (samples, degree) = match samples::at_some_pivot_edge(random) {
+        Some(edge) => edge,
+        None => return mixed(random),
     };
     let mut maker = Maker::new(random, samples.len());
     maker.add_all(&samples);

@@ -16,25 +16,24 @@ mod call;
 mod coverage;
 mod generate;
 mod gsl;
-mod journal;
 mod memory;
-mod port;
 mod random;
 mod reference;
 mod run;
 mod samples;
 mod shrink;
-mod side;
 #[cfg(test)]
 mod tests;
+mod text;
 
 use std::process::ExitCode;
 use std::time::Instant;
 
+use journal::{Port, Side};
+
 use call::List;
 use coverage::Coverage;
 use run::{run, Difference};
-use side::Side;
 
 struct Options {
     seed: u64,
@@ -85,7 +84,7 @@ fn clock() -> u64 {
 
 /// The sides compared with the judge, besides the ledger and polyfit.
 fn further_sides() -> Vec<Box<dyn Side>> {
-    vec![Box::new(port::Port)]
+    vec![Box::new(Port)]
 }
 
 fn print_list(list: &List) {
@@ -138,7 +137,7 @@ fn run_list(list: &List, sides: &[&dyn Side]) -> ExitCode {
 /// Runs the calls of a text.
 fn run_journal(path: &str, sides: &[&dyn Side]) -> ExitCode {
     match std::fs::read(path) {
-        Ok(text) => run_list(&journal::list_of(&text), sides),
+        Ok(text) => run_list(&text::list_of(&text), sides),
         Err(error) => {
             eprintln!("{path}: {error}");
             ExitCode::FAILURE
@@ -155,13 +154,13 @@ fn main() -> ExitCode {
         }
     };
     if let Some(calls) = options.write {
-        print!("{}", journal::write(options.seed, calls));
+        print!("{}", text::write(options.seed, calls));
         return ExitCode::SUCCESS;
     }
     let sides = further_sides();
     let sides: Vec<&dyn Side> = sides.iter().map(AsRef::as_ref).collect();
     if options.bench {
-        bench::run(sides.first().copied().unwrap_or(&side::Judge));
+        bench::run(sides.first().copied().unwrap_or(&journal::Judge));
         return ExitCode::SUCCESS;
     }
     if let Some(path) = &options.journal {

@@ -1,6 +1,7 @@
 //! Runs a list of calls: the judge on its own memory, and beside it the plain ledger, polyfit, and
 //! every other side on memory of its own. Ends at the first difference.
 
+use journal::{Answer, Call, Judge, Memory, Side};
 use judge::book::answer_of;
 use judge::fit::Report;
 use judge::ledger::Ledger;
@@ -8,11 +9,10 @@ use judge::numbers::bits;
 use judge::sums::{folded_afresh, PLACES, TERMS};
 use judge::Sample;
 
-use crate::call::{Answer, Call, List, Step};
+use crate::call::{conditions, List, Step};
 use crate::coverage::{Coverage, Seen};
-use crate::memory::{first_difference, Memory};
+use crate::memory::{difference, filled, first_difference, poke, samples};
 use crate::reference;
-use crate::side::{Judge, Side};
 
 /// Where two sides differ.
 #[derive(Debug, Clone)]
@@ -38,7 +38,7 @@ struct Run<'a> {
 
 /// Runs the list; notes in the coverage what happened, by the judge.
 pub fn run(list: &List, others: &[&dyn Side], coverage: &mut Coverage) -> Result<(), Difference> {
-    let memory = Memory::new(list);
+    let memory = filled(list);
     let sides = others.iter().map(|side| (*side, memory.clone())).collect();
     let mut run = Run { sides, memory, count: 0, ledger_state: None };
     for (at, step) in list.steps.iter().enumerate() {
@@ -51,8 +51,8 @@ impl Run<'_> {
     fn step(&mut self, step: &Step, coverage: &mut Coverage) -> Result<(), String> {
         self.disturb(step);
         let count = step.count.unwrap_or(self.count);
-        let samples = self.memory.samples(&step.lengths, count);
-        let conditions = step.call.conditions(&step.lengths, count, &samples);
+        let samples = samples(&self.memory, &step.lengths, count);
+        let conditions = conditions(&step.call, &step.lengths, count, &samples);
         let own_sums = self.sums_are_folded(&samples);
         let before = self.memory.clone();
         let answer = Judge.make(&step.call, count, self.memory.lend(&step.lengths));
@@ -85,10 +85,10 @@ impl Run<'_> {
 
     /// What someone else does before the call.
     fn disturb(&mut self, step: &Step) {
-        for &poke in &step.pokes {
-            self.memory.poke(poke);
+        for &written in &step.pokes {
+            poke(&mut self.memory, written);
             for (_, memory) in &mut self.sides {
-                memory.poke(poke);
+                poke(memory, written);
             }
         }
         if step.count.is_some() || !step.pokes.is_empty() {
@@ -108,7 +108,7 @@ impl Run<'_> {
             if !same_answer(answer, &theirs) {
                 return Err(format!("judge answers {answer:?}, {} {theirs:?}", side.name()));
             }
-            if let Some(difference) = self.memory.difference(memory) {
+            if let Some(difference) = difference(&self.memory, memory) {
                 return Err(format!("judge and {}: {difference}", side.name()));
             }
         }
@@ -306,9 +306,9 @@ fn check_fit(
     if *answer != expected {
         return Err(format!("judge answers {answer:?}, polyfit {expected:?}"));
     }
-    let Some(coefficients) = coefficients else { return Ok(()) };
     let written = &memory.coefficients[..TERMS];
-    let difference = first_difference("coefficients", written, &terms(&coefficients));
+    let difference =
+        coefficients.and_then(|theirs| first_difference("coefficients", written, &terms(&theirs)));
     difference.map_or(Ok(()), |text| Err(format!("judge and polyfit: {text}")))
 }
 
@@ -346,7 +346,7 @@ fn check_writes(
         }
         Answer::Report { .. } => copy_report_places(count, &mut expected, after),
     }
-    match expected.difference(after) {
+    match difference(&expected, after) {
         Some(difference) => Err(format!("written outside the call's places: {difference}")),
         None => Ok(()),
     }

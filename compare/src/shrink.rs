@@ -1,11 +1,12 @@
 //! Makes a failing list smaller while it still fails.
 
+use journal::Call;
 use judge::fit::Criterion;
 use judge::frame;
 use judge::statistics::{Confidence, Tolerance};
 use judge::Sample;
 
-use crate::call::{Call, List, Step};
+use crate::call::{List, Step};
 
 /// The most runs that shrinking may take.
 const MOST_RUNS: usize = 4000;

@@ -1,18 +1,13 @@
 //! The comparison finds faults, and shrinks the lists that show them.
 
-use judge::fit::{Criterion, Settings};
-use judge::statistics::{Confidence, DegreeBound, Tolerance};
-use judge::Sample;
+use journal::{Answer, Call, Judge, Lent, Port, Side};
 
-use crate::call::{Answer, Call, List};
+use crate::call::List;
 use crate::coverage::Coverage;
 use crate::generate;
-use crate::journal;
-use crate::memory::Lent;
-use crate::port::Port;
 use crate::run::run;
 use crate::shrink::shrink;
-use crate::side::{Judge, Side};
+use crate::text;
 
 /// What a faulty side does after the judge's call: it may change the memory and the answer.
 type Fault = fn(&Call, usize, &mut Lent, &[f64], Answer) -> Answer;
@@ -43,50 +38,6 @@ impl Side for Faulty {
         let sums = lent.sums.to_vec();
         let answer = Judge.make(call, count, again(&mut lent));
         (self.0)(call, count, &mut lent, &sums, answer)
-    }
-    fn open(&self, lent: Lent) -> Answer {
-        Judge.open(lent)
-    }
-    fn add(&self, count: usize, lent: Lent, sample: Sample) -> Answer {
-        Judge.add(count, lent, sample)
-    }
-    fn correct(&self, count: usize, lent: Lent, index: usize, y: f64) -> Answer {
-        Judge.correct(count, lent, index, y)
-    }
-    fn withdraw(&self, count: usize, lent: Lent, index: usize) -> Answer {
-        Judge.withdraw(count, lent, index)
-    }
-    fn add_frame(&self, count: usize, lent: Lent, frame: &[u8]) -> Answer {
-        Judge.add_frame(count, lent, frame)
-    }
-    fn fit(&self, count: usize, lent: Lent, degree: usize) -> Answer {
-        Judge.fit(count, lent, degree)
-    }
-    fn report(&self, count: usize, lent: Lent, settings: Settings) -> Answer {
-        Judge.report(count, lent, settings)
-    }
-    fn validate(
-        &self,
-        count: usize,
-        lent: Lent,
-        folds: usize,
-        bound: DegreeBound,
-        criterion: Criterion,
-    ) -> Answer {
-        Judge.validate(count, lent, folds, bound, criterion)
-    }
-    fn band(
-        &self,
-        count: usize,
-        lent: Lent,
-        at: (f64, usize),
-        confidence: Confidence,
-        tolerance: Tolerance,
-    ) -> Answer {
-        Judge.band(count, lent, at, confidence, tolerance)
-    }
-    fn reader(&self, frame: &[u8]) -> Answer {
-        Judge.reader(frame)
     }
 }
 
@@ -179,7 +130,7 @@ fn lists_are_made_again() {
 }
 
 /// A list of tests/ at the top of the repository.
-fn text(name: &str) -> Vec<u8> {
+fn file(name: &str) -> Vec<u8> {
     let path = std::path::PathBuf::from(env!("CARGO_MANIFEST_DIR")).join("../tests").join(name);
     std::fs::read(&path).unwrap_or_else(|error| panic!("{}: {error}", path.display()))
 }
@@ -188,7 +139,7 @@ fn text(name: &str) -> Vec<u8> {
 /// asked for.
 fn missing_in(name: &str, asked: fn(&str) -> bool) -> Vec<String> {
     let mut coverage = Coverage::default();
-    let outcome = run(&journal::list_of(&text(name)), &[&Port], &mut coverage);
+    let outcome = run(&text::list_of(&file(name)), &[&Port], &mut coverage);
     assert!(outcome.is_ok(), "{name}: {outcome:?}");
     assert!(coverage.by_reference > 0);
     coverage.missing().into_iter().filter(|key| asked(key)).collect()
@@ -214,5 +165,5 @@ fn texts_are_judged() {
 
 #[test]
 fn fixed_list_is_as_made() {
-    assert!(journal::write(36, 3000).as_bytes() == text("fixed.calls"));
+    assert!(text::write(36, 3000).as_bytes() == file("fixed.calls"));
 }

@@ -6,7 +6,7 @@
 //! `numbers`, `statistics`, `sums`, `solve`, `fit` and `frame` are definitions over samples and
 //! sums; `refusals` says which number a call is refused by; `book` has the calls on lent memory;
 //! `ledger` is the plain list of samples that the book must agree with; `listing` is the program
-//! `stakebook`; `journal` and `request` are the program `journal` and a line of its input.
+//! `stakebook`.
 
 // Places are named by index, as the document names them.
 #![allow(clippy::needless_range_loop)]
@@ -14,12 +14,10 @@
 pub mod book;
 pub mod fit;
 pub mod frame;
-pub mod journal;
 pub mod ledger;
 pub mod listing;
 pub mod numbers;
 pub mod refusals;
-pub mod request;
 pub mod solve;
 pub mod statistics;
 pub mod sums;

@@ -1,13 +1,13 @@
-//! The lists of tests/ at the top of the repository: their answers are the judge's, and the list of
-//! edges meets the edges that its comments name.
+//! The lists of tests/ at the top of the repository: their answers are the judge's and the proved
+//! library's, and the list of edges meets the edges that its comments name.
 
 use std::path::PathBuf;
 use std::process::Command;
 
+use journal::request::read;
+use journal::{run, Call, Journal, Judge, Port, Request, Side};
 use judge::fit::{self, Criterion};
-use judge::journal::{lines, run, Journal};
 use judge::numbers::NAN_BITS;
-use judge::request::{read, Request};
 use judge::statistics::{huber_loss, median_absolute_deviation, HUBER_CONST};
 use judge::sums::folded_afresh;
 use judge::Sample;
@@ -19,16 +19,32 @@ fn file(name: &str) -> Vec<u8> {
     std::fs::read(&path).unwrap_or_else(|error| panic!("{}: {error}", path.display()))
 }
 
-#[test]
-fn answers_are_the_judges() {
+/// All that a side prints for a list.
+fn printed(side: &dyn Side, name: &str) -> String {
+    let mut text = Vec::new();
+    run(side, &file(&format!("{name}.calls"))[..], &mut text).unwrap();
+    String::from_utf8(text).unwrap()
+}
+
+fn check_answers(side: &dyn Side) {
     for name in ["edges", "season", "fixed"] {
         let answers = String::from_utf8(file(&format!("{name}.answers"))).unwrap();
-        let printed = run(&file(&format!("{name}.calls")));
+        let printed = printed(side, name);
         for (number, (kept, new)) in answers.lines().zip(printed.lines()).enumerate() {
             assert_eq!(kept, new, "{name}.answers, line {}", number + 1);
         }
         assert_eq!(answers.len(), printed.len(), "{name}.answers");
     }
+}
+
+#[test]
+fn answers_are_the_judges() {
+    check_answers(&Judge);
+}
+
+#[test]
+fn answers_are_the_librarys() {
+    check_answers(&Port);
 }
 
 #[test]
@@ -45,9 +61,9 @@ struct Edge(Vec<(String, String)>);
 /// The part of the list whose comment, after an empty line, begins so.
 fn edge(comment: &str) -> Edge {
     let input = file("edges.calls");
-    let mut journal = Journal::default();
+    let mut journal = Journal::new(&Judge);
     let (mut inside, mut after_empty, mut part) = (false, false, Vec::new());
-    for (number, line) in lines(&input).into_iter().enumerate() {
+    for (number, line) in input.split(|&byte| byte == b'\n').enumerate() {
         let text = String::from_utf8(line.to_vec()).unwrap();
         if after_empty && text.starts_with('#') {
             assert!(!inside || !part.is_empty());
@@ -87,7 +103,7 @@ impl Edge {
     /// The samples added one by one.
     fn samples(&self) -> Vec<Sample> {
         let added = |request| match request {
-            Request::Add(sample) => Some(sample),
+            Request::Call(Call::Add(sample)) => Some(sample),
             _ => None,
         };
         self.requests().into_iter().filter_map(added).collect()
@@ -187,7 +203,7 @@ fn leave_one_out() {
     let edge = edge("folds: leave one out");
     let folds = edge.samples().len();
     for request in edge.requests() {
-        if let Request::Validate { folds: asked, .. } = request {
+        if let Request::Call(Call::Validate { folds: asked, .. }) = request {
             assert_eq!(asked, folds);
         }
     }
@@ -458,7 +474,7 @@ fn books_and_columns() {
 
 #[test]
 fn season_has_every_message_and_refusal() {
-    let answers = run(&file("season.calls"));
+    let answers = printed(&Judge, "season");
     let messages = [
         "not a call",
         "not a name",

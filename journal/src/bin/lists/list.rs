@@ -1,7 +1,8 @@
 //! A list of calls in the making, as text.
 
+use journal::{Call, Name, Request};
 use judge::fit::{Criterion, Settings};
-use judge::request::{frame_of, Name, Request};
+use judge::frame::encode;
 use judge::statistics::{Confidence, DegreeBound, Tolerance};
 use judge::sums::{PLACES, TERMS};
 use judge::Sample;
@@ -53,13 +54,21 @@ impl List {
         self.line(&request.to_string());
     }
 
+    pub fn call(&mut self, call: Call) {
+        self.line(&call.to_string());
+    }
+
+    pub fn frame(&mut self, pairs: &[(f64, f64)]) {
+        self.call(Call::AddFrame(encode(&samples_of(pairs))));
+    }
+
     pub fn add(&mut self, x: f64, y: f64) {
-        self.ask(Request::Add(Sample { x, y }));
+        self.call(Call::Add(Sample { x, y }));
     }
 
     /// A book just opened with these samples.
     pub fn book(&mut self, pairs: &[(f64, f64)]) {
-        self.ask(Request::Open);
+        self.call(Call::Open);
         for &(x, y) in pairs {
             self.add(x, y);
         }
@@ -67,22 +76,22 @@ impl List {
 
     /// The same from a frame.
     pub fn framed_book(&mut self, pairs: &[(f64, f64)]) {
-        self.ask(Request::Open);
-        self.ask(frame_of(&samples_of(pairs)));
+        self.call(Call::Open);
+        self.frame(pairs);
     }
 
     pub fn fit(&mut self, degree: usize) {
-        self.ask(Request::Fit { degree });
+        self.call(Call::Fit { degree });
     }
 
     pub fn report(&mut self, settings: Settings) {
-        self.ask(Request::Report(settings));
+        self.call(Call::Report(settings));
     }
 
     /// By both criteria.
     pub fn validate(&mut self, folds: usize, degree: usize) {
         for criterion in [Criterion::Aic, Criterion::Bic] {
-            self.ask(Request::Validate { folds, bound: DegreeBound::Custom(degree), criterion });
+            self.call(Call::Validate { folds, bound: DegreeBound::Custom(degree), criterion });
             self.show(Name::Coefficients, degree + 1);
         }
     }
@@ -94,7 +103,7 @@ impl List {
 
     pub fn band_by(&mut self, x: f64, degree: usize, settings: Settings) {
         let (confidence, tolerance) = (settings.confidence, settings.tolerance);
-        self.ask(Request::Band { x, degree, confidence, tolerance });
+        self.call(Call::Band { x, degree, confidence, tolerance });
     }
 
     pub fn lent(&mut self, name: Name, length: usize) {

@@ -8,9 +8,11 @@ use judge::Sample;
 use crate::call::{Answer, Call};
 use crate::memory::Lent;
 
-/// The book's calls. Each gets the count and the lent memory, and answers; a side keeps nothing.
-pub trait Side {
-    fn name(&self) -> &'static str;
+/// The book's calls, one method each. Each gets the count and the lent memory, and answers; nothing is
+/// kept between calls.
+pub trait Calls {
+    const NAME: &'static str;
+
     fn open(&self, lent: Lent) -> Answer;
     fn add(&self, count: usize, lent: Lent, sample: Sample) -> Answer;
     fn correct(&self, count: usize, lent: Lent, index: usize, y: f64) -> Answer;
@@ -35,8 +37,19 @@ pub trait Side {
         tolerance: Tolerance,
     ) -> Answer;
     fn reader(&self, frame: &[u8]) -> Answer;
+}
 
-    /// Makes the call.
+/// Whoever makes calls: all that has them as methods.
+pub trait Side {
+    fn name(&self) -> &'static str;
+    fn make(&self, call: &Call, count: usize, lent: Lent) -> Answer;
+}
+
+impl<T: Calls> Side for T {
+    fn name(&self) -> &'static str {
+        T::NAME
+    }
+
     fn make(&self, call: &Call, count: usize, lent: Lent) -> Answer {
         match call {
             Call::Open => self.open(lent),
@@ -75,10 +88,8 @@ macro_rules! memory {
     };
 }
 
-impl Side for Judge {
-    fn name(&self) -> &'static str {
-        "judge"
-    }
+impl Calls for Judge {
+    const NAME: &'static str = "judge";
 
     fn open(&self, lent: Lent) -> Answer {
         answer(book::open(lent.sums), Answer::Book)

@@ -4,11 +4,13 @@
 
 use std::fmt;
 
-use crate::fit::{Criterion, Settings};
-use crate::frame;
-use crate::numbers::{bits, one_value};
-use crate::statistics::{Confidence, DegreeBound, Tolerance};
-use crate::Sample;
+use judge::fit::{Criterion, Settings};
+use judge::numbers::{bits, one_value};
+use judge::statistics::{Confidence, DegreeBound, Tolerance};
+use judge::Sample;
+
+use crate::call::Call;
+use crate::memory::{Name, NAMES};
 
 /// The places of each memory, lent or not.
 pub const MEMORY: usize = 4200;
@@ -22,51 +24,14 @@ const DIGITS: usize = 9;
 /// The digits of the longest frame: its length has two bytes and counts what follows.
 const FRAME_DIGITS: usize = 2 * (2 + 65_535);
 
-/// The memory of a journal, by name; the last two hold bytes.
-#[derive(Debug, Clone, Copy, PartialEq, Eq)]
-pub enum Name {
-    Xs,
-    Ys,
-    Sums,
-    Scratch,
-    Coefficients,
-    Errors,
-    Lower,
-    Upper,
-    Pruned,
-    Outliers,
-}
-
-/// All names, with their words.
-pub const NAMES: [(Name, &str); 10] = [
-    (Name::Xs, "xs"),
-    (Name::Ys, "ys"),
-    (Name::Sums, "sums"),
-    (Name::Scratch, "scratch"),
-    (Name::Coefficients, "coefficients"),
-    (Name::Errors, "errors"),
-    (Name::Lower, "lower"),
-    (Name::Upper, "upper"),
-    (Name::Pruned, "pruned"),
-    (Name::Outliers, "outliers"),
-];
-
-/// What a line asks for.
+/// What a line asks for: something of the memory, or a call.
 #[derive(Debug, Clone, PartialEq)]
 pub enum Request {
     Lent { name: Name, length: usize },
     Put { name: Name, index: usize, value: f64 },
     Count(usize),
     Show { name: Name, from: usize, to: usize },
-    Open,
-    Add(Sample),
-    Correct { index: usize, y: f64 },
-    Withdraw { index: usize },
-    Frame(Vec<u8>),
-    Fit { degree: usize },
-    Report(Settings),
-    Validate { folds: usize, bound: DegreeBound, criterion: Criterion },
-    Band { x: f64, degree: usize, confidence: Confidence, tolerance: Tolerance },
+    Call(Call),
 }
 
 /// Why a field does not fit.
@@ -123,24 +88,30 @@ fn request(fields: &mut Fields) -> Read<Request> {
         },
         b"count" => Request::Count(fields.number()?),
         b"show" => show(fields)?,
-        b"open" => Request::Open,
-        b"add" => Request::Add(Sample { x: fields.float()?, y: fields.float()? }),
-        b"correct" => Request::Correct { index: fields.number()?, y: fields.float()? },
-        b"withdraw" => Request::Withdraw { index: fields.number()? },
-        b"frame" => Request::Frame(fields.frame()?),
-        b"fit" => Request::Fit { degree: fields.number()? },
-        b"report" => Request::Report(Settings {
+        word => Request::Call(call(word, fields)?),
+    })
+}
+
+fn call(word: &[u8], fields: &mut Fields) -> Read<Call> {
+    Ok(match word {
+        b"open" => Call::Open,
+        b"add" => Call::Add(Sample { x: fields.float()?, y: fields.float()? }),
+        b"correct" => Call::Correct { index: fields.number()?, y: fields.float()? },
+        b"withdraw" => Call::Withdraw { index: fields.number()? },
+        b"frame" => Call::AddFrame(fields.frame()?),
+        b"fit" => Call::Fit { degree: fields.number()? },
+        b"report" => Call::Report(Settings {
             bound: fields.bound()?,
             criterion: fields.criterion()?,
             confidence: fields.confidence()?,
             tolerance: fields.tolerance()?,
         }),
-        b"validate" => Request::Validate {
+        b"validate" => Call::Validate {
             folds: fields.number()?,
             bound: fields.bound()?,
             criterion: fields.criterion()?,
         },
-        b"band" => Request::Band {
+        b"band" => Call::Band {
             x: fields.float()?,
             degree: fields.number()?,
             confidence: fields.confidence()?,
@@ -169,7 +140,10 @@ impl<'a> Fields<'a> {
 
     fn next(&mut self) -> Read<&'a [u8]> {
         self.field += 1;
-        let Some(rest) = self.rest else { return self.malformed(Message::Missing) };
+        let rest = match self.rest {
+            Some(rest) => rest,
+            None => return self.malformed(Message::Missing),
+        };
         match rest.iter().position(|&byte| byte == b' ') {
             Some(space) => {
                 self.rest = Some(&rest[space + 1..]);
@@ -226,15 +200,11 @@ impl<'a> Fields<'a> {
     /// Exactly 16 hexadecimal digits; every NaN is the one NaN.
     fn float(&mut self) -> Read<f64> {
         let word = self.next()?;
-        let mut pattern = 0u64;
-        for &byte in word {
-            let Some(digit) = hexadecimal(byte) else { return self.malformed(Message::NotAFloat) };
-            pattern = pattern << 4 | u64::from(digit);
-        }
-        if word.len() != 16 {
+        let digits = digits(word);
+        if word.len() != 16 || digits.len() < 16 {
             return self.malformed(Message::NotAFloat);
         }
-        Ok(one_value(pattern))
+        Ok(one_value(digits.iter().fold(0, |pattern, digit| pattern << 4 | u64::from(*digit))))
     }
 
     /// An even number of hexadecimal digits; no field at all is the empty frame.
@@ -243,7 +213,7 @@ impl<'a> Fields<'a> {
             return Ok(Vec::new());
         }
         let word = self.next()?;
-        let digits: Vec<u8> = word.iter().filter_map(|&byte| hexadecimal(byte)).collect();
+        let digits = digits(word);
         if word.is_empty() || digits.len() < word.len() || word.len() % 2 == 1 {
             return self.malformed(Message::NotHexadecimal);
         }
@@ -298,23 +268,15 @@ impl<'a> Fields<'a> {
     }
 }
 
-fn hexadecimal(byte: u8) -> Option<u8> {
-    match byte {
+/// The values of the hexadecimal digits in a word.
+fn digits(word: &[u8]) -> Vec<u8> {
+    let value = |&byte: &u8| match byte {
         b'0'..=b'9' => Some(byte - b'0'),
         b'A'..=b'F' => Some(byte - b'A' + 10),
         b'a'..=b'f' => Some(byte - b'a' + 10),
         _ => None,
-    }
-}
-
-impl Name {
-    pub fn word(self) -> &'static str {
-        NAMES[self as usize].1
-    }
-
-    pub fn holds_bytes(self) -> bool {
-        matches!(self, Name::Pruned | Name::Outliers)
-    }
+    };
+    word.iter().filter_map(value).collect()
 }
 
 /// A float as a field: its bits.
@@ -361,12 +323,13 @@ fn tolerance_fields(tolerance: Tolerance) -> String {
     format!("{word} {}", float_field(value))
 }
 
-fn frame_line(bytes: &[u8]) -> String {
-    let digits: String = bytes.iter().map(|byte| format!("{byte:02X}")).collect();
-    if digits.is_empty() {
-        "frame".to_string()
+/// The space and the field of a frame; an empty frame has none.
+fn frame_field(bytes: &[u8]) -> String {
+    let digits = bytes.iter().map(|byte| format!("{byte:02X}"));
+    if bytes.is_empty() {
+        String::new()
     } else {
-        format!("frame {digits}")
+        format!(" {}", digits.collect::<String>())
     }
 }
 
@@ -380,15 +343,22 @@ impl fmt::Display for Request {
             }
             Request::Count(count) => write!(f, "count {count}"),
             Request::Show { name, from, to } => write!(f, "show {} {from} {to}", name.word()),
-            Request::Open => write!(f, "open"),
-            Request::Add(Sample { x, y }) => {
-                write!(f, "add {} {}", float_field(*x), float_field(*y))
-            }
-            Request::Correct { index, y } => write!(f, "correct {index} {}", float_field(*y)),
-            Request::Withdraw { index } => write!(f, "withdraw {index}"),
-            Request::Frame(bytes) => write!(f, "{}", frame_line(bytes)),
-            Request::Fit { degree } => write!(f, "fit {degree}"),
-            Request::Report(settings) => write!(
+            Request::Call(call) => call.fmt(f),
+        }
+    }
+}
+
+/// The line that asks for this; a reader has one that is never read.
+impl fmt::Display for Call {
+    fn fmt(&self, f: &mut fmt::Formatter<'_>) -> fmt::Result {
+        match self {
+            Call::Open => write!(f, "open"),
+            Call::Add(Sample { x, y }) => write!(f, "add {} {}", float_field(*x), float_field(*y)),
+            Call::Correct { index, y } => write!(f, "correct {index} {}", float_field(*y)),
+            Call::Withdraw { index } => write!(f, "withdraw {index}"),
+            Call::AddFrame(bytes) => write!(f, "frame{}", frame_field(bytes)),
+            Call::Fit { degree } => write!(f, "fit {degree}"),
+            Call::Report(settings) => write!(
                 f,
                 "report {} {} {} {}",
                 bound_fields(settings.bound),
@@ -396,17 +366,18 @@ impl fmt::Display for Request {
                 confidence_fields(settings.confidence),
                 tolerance_fields(settings.tolerance)
             ),
-            Request::Validate { folds, bound, criterion } => {
+            Call::Validate { folds, bound, criterion } => {
                 let criterion = criterion_field(*criterion);
                 write!(f, "validate {folds} {} {criterion}", bound_fields(*bound))
             }
-            Request::Band { x, degree, confidence, tolerance } => write!(
+            Call::Band { x, degree, confidence, tolerance } => write!(
                 f,
                 "band {} {degree} {} {}",
                 float_field(*x),
                 confidence_fields(*confidence),
                 tolerance_fields(*tolerance)
             ),
+            Call::Reader(bytes) => write!(f, "reader{}", frame_field(bytes)),
         }
     }
 }
@@ -425,11 +396,6 @@ impl fmt::Display for Malformed {
         };
         write!(f, "field {}: {message}", self.field)
     }
-}
-
-/// The frame of some samples, as a request.
-pub fn frame_of(samples: &[Sample]) -> Request {
-    Request::Frame(frame::encode(samples))
 }
 
 #[cfg(test)]
@@ -518,8 +484,11 @@ mod tests {
     #[test]
     fn one_nan_is_read() {
         let line = "add fff0000000000001 FFF0000000000000";
-        let Ok(Some(Request::Add(sample))) = read(line.as_bytes()) else { panic!() };
-        assert_eq!((sample.x.to_bits(), sample.y), (crate::numbers::NAN_BITS, f64::NEG_INFINITY));
+        let sample = match read(line.as_bytes()) {
+            Ok(Some(Request::Call(Call::Add(sample)))) => sample,
+            other => panic!("{other:?}"),
+        };
+        assert_eq!((sample.x.to_bits(), sample.y), (judge::numbers::NAN_BITS, f64::NEG_INFINITY));
     }
 
     /// What is written is read as the same.

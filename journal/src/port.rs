@@ -7,7 +7,7 @@ use stakebook::sys;
 
 use crate::call::Answer;
 use crate::memory::Lent;
-use crate::side::{Judge, Side};
+use crate::side::{Calls, Judge};
 
 /// The functions of `include/stakebook.h`.
 pub struct Port;
@@ -157,10 +157,8 @@ fn band_into(
     answer
 }
 
-impl Side for Port {
-    fn name(&self) -> &'static str {
-        "port"
-    }
+impl Calls for Port {
+    const NAME: &'static str = "port";
 
     fn open(&self, lent: Lent) -> Answer {
         // SAFETY: the slice is the caller's, and initialised.

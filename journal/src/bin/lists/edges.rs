@@ -1,8 +1,8 @@
-//! The edges of document 01 that are run and not proved. `tests/journal.rs` checks that each is met.
+//! The edges of document 01 that are run and not proved. `tests/lists.rs` checks that each is met.
 
+use journal::{Call, Name, Request};
 use judge::fit::Settings;
 use judge::frame::encode;
-use judge::request::{Name, Request};
 use judge::statistics::{self, t_score, Confidence, DegreeBound, Tolerance, LEVELS};
 use judge::sums::TERMS;
 use judge::Sample;
@@ -318,7 +318,7 @@ fn outliers(list: &mut List) {
         ));
         list.book(&at_whole_x(&ys.map(|y| sign * y)));
         list.whole_report(wide(width), 8);
-        list.whole_report(wide(width.next_down()), 8);
+        list.whole_report(wide(f64::from_bits(width.to_bits() - 1)), 8);
     }
 }
 
@@ -368,7 +368,7 @@ fn refused_early(list: &mut List) {
     list.head("early: 9, 8, 7, 4 and 1 leave scratch and outputs as they were");
     list.book(&LINE);
     list.mark(3);
-    list.band(2.0f64.next_up(), 1);
+    list.band(2.0 + 2.0 * f64::EPSILON, 1);
     list.band(-1e-300, 1);
     list.band(1.0, 3);
     list.fit(3);
@@ -467,7 +467,7 @@ fn bands(list: &mut List) {
 fn book(list: &mut List) {
     list.head("book: a withdrawal keeps the vacated place and folds afresh");
     list.book(&[(0.1, 1.1), (0.2, 1.3), (0.3, 1.7)]);
-    list.ask(Request::Withdraw { index: 1 });
+    list.call(Call::Withdraw { index: 1 });
     list.show(Name::Xs, 4);
     list.show(Name::Ys, 4);
     list.show(Name::Sums, 273);
@@ -478,23 +478,23 @@ fn book(list: &mut List) {
 
     list.head("book: a correction folds g and leaves A, whatever stands there");
     list.put_sums(&[(0, 77.0), (255, -0.0), (256, 78.0), (272, 79.0)]);
-    list.ask(Request::Correct { index: 0, y: -0.0 });
+    list.call(Call::Correct { index: 0, y: -0.0 });
     list.show(Name::Sums, 273);
     list.show(Name::Ys, 4);
 
     list.head("book: an add adds to what stands there; a withdrawal folds all 272 afresh");
     list.add(0.5, 2.5);
     list.show(Name::Sums, 273);
-    list.ask(Request::Withdraw { index: 3 });
+    list.call(Call::Withdraw { index: 3 });
     list.show(Name::Sums, 273);
 }
 
 /// A frame whose bytes are then changed.
-fn frame_with(pairs: &[(f64, f64)], change: impl Fn(&mut Vec<u8>)) -> Request {
+fn frame_with(pairs: &[(f64, f64)], change: impl Fn(&mut Vec<u8>)) -> Call {
     let samples: Vec<Sample> = samples_of(pairs);
     let mut bytes = encode(&samples);
     change(&mut bytes);
-    Request::Frame(bytes)
+    Call::AddFrame(bytes)
 }
 
 fn columns(list: &mut List) {
@@ -503,11 +503,11 @@ fn columns(list: &mut List) {
     );
     list.lent(Name::Ys, 2);
     list.book(&LINE[..1]);
-    list.ask(frame_with(&[(1.0, 2.0), (3.0, NAN)], |_| {}));
-    list.ask(frame_with(&[(1.0, 2.0), (3.0, 4.0)], |_| {}));
-    list.ask(frame_with(&[(1.0, 2.0)], |bytes| bytes.push(0)));
-    list.ask(frame_with(&[], |_| {}));
-    list.ask(frame_with(&[(1.0, 2.0)], |_| {}));
+    list.call(frame_with(&[(1.0, 2.0), (3.0, NAN)], |_| {}));
+    list.call(frame_with(&[(1.0, 2.0), (3.0, 4.0)], |_| {}));
+    list.call(frame_with(&[(1.0, 2.0)], |bytes| bytes.push(0)));
+    list.call(frame_with(&[], |_| {}));
+    list.call(frame_with(&[(1.0, 2.0)], |_| {}));
     list.show(Name::Xs, 4);
     list.lend_all();
 
@@ -516,17 +516,17 @@ fn columns(list: &mut List) {
     list.lent(Name::Ys, 4200);
     list.ask(Request::Count(4096));
     list.add(1.0, 1.0);
-    list.ask(Request::Withdraw { index: 4095 });
+    list.call(Call::Withdraw { index: 4095 });
     list.add(1.0, 1.0);
     list.ask(Request::Count(4097));
     list.add(1.0, 1.0);
-    list.ask(Request::Withdraw { index: 0 });
+    list.call(Call::Withdraw { index: 0 });
     list.lend_all();
 }
 
 fn long_lines(list: &mut List) {
     list.head("lines: the longest frame, two digits more, a line of 131,101 bytes, and a last line without an end");
-    list.ask(Request::Open);
+    list.call(Call::Open);
     list.line(&format!("frame {}", "0".repeat(131_074)));
     list.line(&format!("frame {}", "0".repeat(131_076)));
     list.line(&format!("frame {}", "0".repeat(131_101 - 6)));

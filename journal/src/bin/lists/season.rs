@@ -1,8 +1,9 @@
 //! A season of a field group, then every malformed line and every refusal that a list can reach.
 
+use journal::request::float_field;
+use journal::{Call, Name, Request};
 use judge::fit::{Criterion, Settings};
 use judge::frame::encode;
-use judge::request::{float_field, frame_of, Name, Request};
 use judge::statistics::{Confidence, DegreeBound, Tolerance};
 use judge::sums::{PLACES, TERMS};
 
@@ -42,15 +43,15 @@ fn spring(list: &mut List) {
     list.whole_report(AIC_1, 6);
 
     list.head("five samples more from the logger, as a frame");
-    list.ask(frame_of(&samples_of(&LOGGER)));
+    list.frame(&LOGGER);
     list.whole_report(up_to(3), 11);
 
     list.head("a density was mistyped: 287 is 278");
-    list.ask(Request::Correct { index: 3, y: 278.0 });
+    list.call(Call::Correct { index: 3, y: 278.0 });
     list.whole_report(up_to(3), 11);
 
     list.head("the fifth sample was taken in a wind slab: it goes");
-    list.ask(Request::Withdraw { index: 4 });
+    list.call(Call::Withdraw { index: 4 });
     list.show(Name::Xs, 12);
     list.show(Name::Ys, 12);
     list.show(Name::Sums, PLACES);
@@ -100,7 +101,7 @@ fn summer(list: &mut List) {
     for bound in bounds {
         list.report(Settings { bound, ..AIC_1 });
         let criterion = Criterion::Aic;
-        list.ask(Request::Validate { folds: 5, bound, criterion });
+        list.call(Call::Validate { folds: 5, bound, criterion });
     }
     list.show_outputs(45);
 }
@@ -229,15 +230,15 @@ fn short_memory(list: &mut List) {
 }
 
 fn changes(list: &mut List) {
-    list.ask(Request::Open);
+    list.call(Call::Open);
     changes_of_a_book(list);
 }
 
 fn changes_of_a_book(list: &mut List) {
     list.add(7.0, 8.0);
-    list.ask(Request::Correct { index: 0, y: 9.0 });
-    list.ask(Request::Withdraw { index: 0 });
-    list.ask(frame_of(&[]));
+    list.call(Call::Correct { index: 0, y: 9.0 });
+    list.call(Call::Withdraw { index: 0 });
+    list.frame(&[]);
 }
 
 /// A full book of three: 1 before 4 before 5, and before 6.
@@ -252,11 +253,11 @@ fn refused_changes(list: &mut List) {
         list.add(7.0, 8.0);
         list.add(NAN, 8.0);
         list.add(7.0, f64::INFINITY);
-        list.ask(Request::Correct { index: 0, y: f64::NEG_INFINITY });
-        list.ask(Request::Correct { index: 3, y: 9.0 });
-        list.ask(Request::Correct { index: 3, y: NAN });
-        list.ask(Request::Withdraw { index: 3 });
-        list.ask(Request::Withdraw { index: 999_999_999 });
+        list.call(Call::Correct { index: 0, y: f64::NEG_INFINITY });
+        list.call(Call::Correct { index: 3, y: 9.0 });
+        list.call(Call::Correct { index: 3, y: NAN });
+        list.call(Call::Withdraw { index: 3 });
+        list.call(Call::Withdraw { index: 999_999_999 });
     }
     list.lent(Name::Sums, PLACES);
     list.show(Name::Xs, 4);
@@ -289,16 +290,16 @@ fn refused_frames(list: &mut List) {
     for sums in [PLACES, PLACES - 1] {
         list.lent(Name::Sums, sums);
         for frame in &frames {
-            list.ask(Request::Frame(frame.clone()));
+            list.call(Call::AddFrame(frame.clone()));
         }
     }
     list.lent(Name::Sums, PLACES);
 
     list.head("of two samples one finds room: nothing is added; then one is");
-    list.ask(Request::Withdraw { index: 2 });
-    list.ask(frame_of(&samples_of(&[(7.0, 8.0), (9.0, 10.0)])));
+    list.call(Call::Withdraw { index: 2 });
+    list.frame(&[(7.0, 8.0), (9.0, 10.0)]);
     list.show(Name::Xs, 4);
-    list.ask(Request::Frame(right));
+    list.call(Call::AddFrame(right));
     list.show(Name::Xs, 4);
     list.lend_all();
 }
@@ -308,7 +309,7 @@ fn refused_readings(list: &mut List) {
     let score = Settings { confidence: Confidence::Custom(NAN), ..AIC_1 };
     let tolerance = Settings { tolerance: Tolerance::Variance(f64::INFINITY), ..AIC_1 };
     list.head("refused by 7: no samples; by 4 before it, and by 1 before that");
-    list.ask(Request::Open);
+    list.call(Call::Open);
     for sums in [PLACES, PLACES - 1] {
         list.lent(Name::Sums, sums);
         list.fit(0);
@@ -359,7 +360,7 @@ fn refused_readings(list: &mut List) {
     list.put(Name::Ys, 1, 3.0);
     list.put(Name::Ys, 3, NAN);
     list.report(AIC_1);
-    list.ask(Request::Withdraw { index: 0 });
+    list.call(Call::Withdraw { index: 0 });
     list.fit(1);
 }
 
@@ -417,7 +418,7 @@ fn refused_fits(list: &mut List) {
     list.band(1.0, 1);
     list.band(3.0, 1);
     list.line("# a withdrawal folds the sums afresh");
-    list.ask(Request::Withdraw { index: 0 });
+    list.call(Call::Withdraw { index: 0 });
     list.report(AIC_1);
 }
 

@@ -1,0 +1,192 @@
+//! Lists of calls in the text form of docs/JOURNAL.md: generated lists written, and any text read.
+
+use journal::memory::NAMES;
+use journal::request::{read, MEMORY};
+use journal::{Answer, Call, Journal, Judge, Name, Request};
+use judge::statistics::DegreeBound;
+use judge::sums::{PLACES, TERMS};
+
+use crate::call::{List, Poke, Step};
+use crate::generate;
+use crate::random::Random;
+
+/// The greatest whole number of the text.
+const GREATEST: usize = 999_999_999;
+
+/// A text in the making, and a journal that runs it by the judge.
+struct Writer {
+    text: String,
+    journal: Journal<'static>,
+    random: Random,
+}
+
+/// Lists from the seed, until so many calls are written; the last list is written whole.
+pub fn write(seed: u64, calls: u64) -> String {
+    let (journal, random) = (Journal::new(&Judge), Random::new(seed));
+    let mut writer = Writer { text: String::new(), journal, random };
+    writer.line(&format!("# Made by `compare --seed {seed} --write {calls}`."));
+    let (mut written, mut number) = (0, 0);
+    while written < calls {
+        number += 1;
+        writer.line(&format!("# list {number}"));
+        let steps = generate::list(seed, number).steps;
+        written += steps.iter().filter(|step| writer.step(step)).count() as u64;
+        writer.end_of_list();
+    }
+    writer.text
+}
+
+/// The call with no number above the greatest of the text.
+fn written(call: &Call) -> Call {
+    let mut call = call.clone();
+    match &mut call {
+        Call::Correct { index: number, .. }
+        | Call::Withdraw { index: number }
+        | Call::Fit { degree: number }
+        | Call::Band { degree: number, .. } => *number = GREATEST.min(*number),
+        Call::Report(settings) => settings.bound = written_bound(settings.bound),
+        Call::Validate { folds, bound, .. } => {
+            *folds = GREATEST.min(*folds);
+            *bound = written_bound(*bound);
+        }
+        Call::Open | Call::Add(_) | Call::AddFrame(_) | Call::Reader(_) => {}
+    }
+    call
+}
+
+fn written_bound(bound: DegreeBound) -> DegreeBound {
+    match bound {
+        DegreeBound::Custom(degree) => DegreeBound::Custom(GREATEST.min(degree)),
+        other => other,
+    }
+}
+
+impl Writer {
+    fn line(&mut self, line: &str) {
+        self.text += line;
+        self.text.push('\n');
+    }
+
+    fn ask(&mut self, request: Request) {
+        self.line(&request.to_string());
+        self.journal.ask(&request);
+    }
+
+    /// Writes a step, its disturbances before it; false for a reader, which the text does not have.
+    fn step(&mut self, step: &Step) -> bool {
+        if let Call::Reader(_) = step.call {
+            return false;
+        }
+        for &poke in &step.pokes {
+            let (name, index, value) = match poke {
+                Poke::X { at, value } => (Name::Xs, at, value),
+                Poke::Y { at, value } => (Name::Ys, at, value),
+                Poke::Sums { at, value } => (Name::Sums, at, value),
+            };
+            self.ask(Request::Put { name, index, value });
+        }
+        let (mut lent, mut lengths) = (self.journal.lent(), step.lengths);
+        for (name, _) in NAMES {
+            let length = *name.length(&mut lengths);
+            if *name.length(&mut lent) != length {
+                self.ask(Request::Lent { name, length });
+            }
+        }
+        let before = self.journal.count();
+        if let Some(count) = step.count {
+            self.ask(Request::Count(GREATEST.min(count)));
+        }
+        let call = written(&step.call);
+        self.line(&call.to_string());
+        let answer = self.journal.call(&call);
+        if step.count.is_some() && !matches!(answer, Answer::Book(_)) {
+            self.ask(Request::Count(before));
+        }
+        self.show_some(&answer);
+        true
+    }
+
+    /// Now and then, what the call wrote, with a place more.
+    fn show_some(&mut self, answer: &Answer) {
+        let rows = self.rows();
+        match answer {
+            Answer::Degree(_) if self.random.one_in(3) => self.show(Name::Coefficients, TERMS + 1),
+            Answer::Report { .. } if self.random.one_in(3) => {
+                for name in [Name::Coefficients, Name::Errors, Name::Pruned] {
+                    self.show(name, TERMS + 1);
+                }
+                for name in [Name::Lower, Name::Upper, Name::Outliers, Name::Scratch] {
+                    self.show(name, rows);
+                }
+            }
+            Answer::Refused(_) if self.random.one_in(6) => {
+                self.show(Name::Scratch, rows);
+                self.show(Name::Errors, TERMS + 1);
+            }
+            _ => {}
+        }
+    }
+
+    /// As many places as samples, and one more.
+    fn rows(&self) -> usize {
+        self.journal.count().min(MEMORY - 1) + 1
+    }
+
+    fn show(&mut self, name: Name, to: usize) {
+        self.ask(Request::Show { name, from: 0, to });
+    }
+
+    fn end_of_list(&mut self) {
+        if self.random.one_in(4) {
+            let rows = self.rows();
+            self.show(Name::Xs, rows);
+            self.show(Name::Ys, rows);
+            self.show(Name::Sums, PLACES + 1);
+        }
+    }
+}
+
+/// The calls of a text as one list, on memory that is +0 at first. What the text puts into scratch
+/// or an output is left out: no call reads it.
+pub fn list_of(text: &[u8]) -> List {
+    let mut journal = Journal::new(&Judge);
+    let mut forced = None;
+    let mut pokes = zeros();
+    let mut steps = Vec::new();
+    for line in text.split(|&byte| byte == b'\n') {
+        let request = match read(line) {
+            Ok(Some(request)) => request,
+            _ => continue,
+        };
+        match request {
+            Request::Put { name, index, value } => pokes.extend(poke_of(name, index, value)),
+            Request::Count(count) => forced = Some(count),
+            _ => {}
+        }
+        if let Request::Call(call) = request {
+            let (pokes, lengths) = (std::mem::take(&mut pokes), journal.lent());
+            let answer = journal.call(&call);
+            steps.push(Step { pokes, count: forced, lengths, call });
+            if let Answer::Book(_) = answer {
+                forced = None;
+            }
+        } else {
+            journal.ask(&request);
+        }
+    }
+    List { contents: 0, steps }
+}
+
+fn zeros() -> Vec<Poke> {
+    let zeros = |at| [Name::Xs, Name::Ys, Name::Sums].map(|name| poke_of(name, at, 0.0));
+    (0..MEMORY).flat_map(zeros).flatten().collect()
+}
+
+fn poke_of(name: Name, at: usize, value: f64) -> Option<Poke> {
+    match name {
+        Name::Xs => Some(Poke::X { at, value }),
+        Name::Ys => Some(Poke::Y { at, value }),
+        Name::Sums => Some(Poke::Sums { at, value }),
+        _ => None,
+    }
+}

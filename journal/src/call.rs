@@ -1,0 +1,87 @@
+//! Calls and answers, as data.
+
+use std::fmt;
+
+use judge::fit::{Criterion, Settings};
+use judge::statistics::{Confidence, DegreeBound, Tolerance};
+use judge::Sample;
+
+use crate::request::float_field;
+
+/// A call with its arguments.
+#[derive(Debug, Clone, PartialEq)]
+pub enum Call {
+    Open,
+    Add(Sample),
+    Correct {
+        index: usize,
+        y: f64,
+    },
+    Withdraw {
+        index: usize,
+    },
+    AddFrame(Vec<u8>),
+    Fit {
+        degree: usize,
+    },
+    Report(Settings),
+    Validate {
+        folds: usize,
+        bound: DegreeBound,
+        criterion: Criterion,
+    },
+    Band {
+        x: f64,
+        degree: usize,
+        confidence: Confidence,
+        tolerance: Tolerance,
+    },
+    /// No line of the text asks for it.
+    Reader(Vec<u8>),
+}
+
+/// What a call answers.
+#[derive(Debug, Clone, PartialEq)]
+pub enum Answer {
+    Refused(u8),
+    Book(usize),
+    Degree(usize),
+    Report {
+        degree: usize,
+        solved: usize,
+        outliers: usize,
+        pruned: usize,
+    },
+    Band {
+        value: f64,
+        lower: f64,
+        upper: f64,
+    },
+    /// Everything a reader hands out before it tells the end.
+    Samples(Vec<Sample>),
+}
+
+/// The line that is printed.
+impl fmt::Display for Answer {
+    fn fmt(&self, f: &mut fmt::Formatter<'_>) -> fmt::Result {
+        match self {
+            Answer::Refused(number) => write!(f, "refused {number}"),
+            Answer::Book(count) => write!(f, "book {count}"),
+            Answer::Degree(degree) => write!(f, "fit {degree}"),
+            Answer::Report { degree, solved, outliers, pruned } => {
+                write!(f, "report {degree} {solved} {outliers} {pruned}")
+            }
+            Answer::Band { value, lower, upper } => {
+                let [value, lower, upper] = [*value, *lower, *upper].map(float_field);
+                write!(f, "band {value} {lower} {upper}")
+            }
+            Answer::Samples(samples) => {
+                write!(f, "samples")?;
+                for sample in samples {
+                    write!(f, " {} {}", float_field(sample.x), float_field(sample.y))?;
+                }
+                Ok(())
+            }
+        }
+    }
+}

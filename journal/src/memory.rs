@@ -1,0 +1,174 @@
+//! The memory that a book is lent, by name.
+
+use judge::refusals::{Lengths, MOST_SAMPLES};
+use judge::sums::{PLACES, TERMS};
+
+/// The names of the memory; the last two hold bytes.
+#[derive(Debug, Clone, Copy, PartialEq, Eq)]
+pub enum Name {
+    Xs,
+    Ys,
+    Sums,
+    Scratch,
+    Coefficients,
+    Errors,
+    Lower,
+    Upper,
+    Pruned,
+    Outliers,
+}
+
+/// All names, with their words.
+pub const NAMES: [(Name, &str); 10] = [
+    (Name::Xs, "xs"),
+    (Name::Ys, "ys"),
+    (Name::Sums, "sums"),
+    (Name::Scratch, "scratch"),
+    (Name::Coefficients, "coefficients"),
+    (Name::Errors, "errors"),
+    (Name::Lower, "lower"),
+    (Name::Upper, "upper"),
+    (Name::Pruned, "pruned"),
+    (Name::Outliers, "outliers"),
+];
+
+/// What a text lends before its first line.
+pub const LENT: Lengths = Lengths {
+    x: MOST_SAMPLES,
+    y: MOST_SAMPLES,
+    sums: PLACES,
+    scratch: MOST_SAMPLES,
+    coefficients: TERMS,
+    errors: TERMS,
+    pruned: TERMS,
+    lower: MOST_SAMPLES,
+    upper: MOST_SAMPLES,
+    outlier: MOST_SAMPLES,
+};
+
+/// Everything that can be lent, whole.
+#[derive(Clone)]
+pub struct Memory {
+    pub x: Vec<f64>,
+    pub y: Vec<f64>,
+    pub sums: Vec<f64>,
+    pub scratch: Vec<f64>,
+    pub coefficients: Vec<f64>,
+    pub errors: Vec<f64>,
+    pub pruned: Vec<u8>,
+    pub lower: Vec<f64>,
+    pub upper: Vec<f64>,
+    pub outlier: Vec<u8>,
+}
+
+/// What one call is lent.
+pub struct Lent<'a> {
+    pub x: &'a mut [f64],
+    pub y: &'a mut [f64],
+    pub sums: &'a mut [f64],
+    pub scratch: &'a mut [f64],
+    pub coefficients: &'a mut [f64],
+    pub errors: &'a mut [f64],
+    pub pruned: &'a mut [u8],
+    pub lower: &'a mut [f64],
+    pub upper: &'a mut [f64],
+    pub outlier: &'a mut [u8],
+}
+
+/// The places of one memory.
+pub enum Places<'a> {
+    Floats(&'a [f64]),
+    Bytes(&'a [u8]),
+}
+
+impl Name {
+    pub fn word(self) -> &'static str {
+        NAMES[self as usize].1
+    }
+
+    pub fn holds_bytes(self) -> bool {
+        matches!(self, Name::Pruned | Name::Outliers)
+    }
+
+    /// Its length among those of all.
+    pub fn length(self, lengths: &mut Lengths) -> &mut usize {
+        match self {
+            Name::Xs => &mut lengths.x,
+            Name::Ys => &mut lengths.y,
+            Name::Sums => &mut lengths.sums,
+            Name::Scratch => &mut lengths.scratch,
+            Name::Coefficients => &mut lengths.coefficients,
+            Name::Errors => &mut lengths.errors,
+            Name::Lower => &mut lengths.lower,
+            Name::Upper => &mut lengths.upper,
+            Name::Pruned => &mut lengths.pruned,
+            Name::Outliers => &mut lengths.outlier,
+        }
+    }
+}
+
+impl Memory {
+    /// So many places of each, all +0 or 0.
+    pub fn zeros(places: usize) -> Self {
+        let floats = || vec![0.0; places];
+        let bytes = || vec![0; places];
+        Self {
+            x: floats(),
+            y: floats(),
+            sums: floats(),
+            scratch: floats(),
+            coefficients: floats(),
+            errors: floats(),
+            pruned: bytes(),
+            lower: floats(),
+            upper: floats(),
+            outlier: bytes(),
+        }
+    }
+
+    /// The first places of everything, as the lengths say.
+    pub fn lend(&mut self, lengths: &Lengths) -> Lent<'_> {
+        Lent {
+            x: &mut self.x[..lengths.x],
+            y: &mut self.y[..lengths.y],
+            sums: &mut self.sums[..lengths.sums],
+            scratch: &mut self.scratch[..lengths.scratch],
+            coefficients: &mut self.coefficients[..lengths.coefficients],
+            errors: &mut self.errors[..lengths.errors],
+            pruned: &mut self.pruned[..lengths.pruned],
+            lower: &mut self.lower[..lengths.lower],
+            upper: &mut self.upper[..lengths.upper],
+            outlier: &mut self.outlier[..lengths.outlier],
+        }
+    }
+
+    pub fn places(&self, name: Name) -> Places<'_> {
+        match name {
+            Name::Xs => Places::Floats(&self.x),
+            Name::Ys => Places::Floats(&self.y),
+            Name::Sums => Places::Floats(&self.sums),
+            Name::Scratch => Places::Floats(&self.scratch),
+            Name::Coefficients => Places::Floats(&self.coefficients),
+            Name::Errors => Places::Floats(&self.errors),
+            Name::Lower => Places::Floats(&self.lower),
+            Name::Upper => Places::Floats(&self.upper),
+            Name::Pruned => Places::Bytes(&self.pruned),
+            Name::Outliers => Places::Bytes(&self.outlier),
+        }
+    }
+
+    /// The places of a memory of floats, to be written.
+    pub fn floats(&mut self, name: Name) -> Option<&mut [f64]> {
+        Some(match name {
+            Name::Xs => &mut self.x,
+            Name::Ys => &mut self.y,
+            Name::Sums => &mut self.sums,
+            Name::Scratch => &mut self.scratch,
+            Name::Coefficients => &mut self.coefficients,
+            Name::Errors => &mut self.errors,
+            Name::Lower => &mut self.lower,
+            Name::Upper => &mut self.upper,
+            Name::Pruned | Name::Outliers => return None,
+        })
+    }
+}
