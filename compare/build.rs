@@ -5,12 +5,10 @@ use std::process::Command;
 fn main() {
     println!("cargo:rerun-if-changed=build.rs");
     println!("cargo:rustc-check-cfg=cfg(gsl)");
-    let Ok(found) = Command::new("gsl-config").arg("--libs").output() else {
-        return;
+    let found = match Command::new("gsl-config").arg("--libs").output() {
+        Ok(found) if found.status.success() => found,
+        _ => return,
     };
-    if !found.status.success() {
-        return;
-    }
     println!("cargo:rustc-cfg=gsl");
     let words = String::from_utf8_lossy(&found.stdout);
     for word in words.split_whitespace() {

@@ -104,7 +104,7 @@ pub fn least(scores: &[Option<f64>]) -> f64 {
 /// The lowest degree that has a score, with score − least at most 2. A +infinity least chooses none.
 pub fn chosen(scores: &[Option<f64>]) -> Option<usize> {
     let least = least(scores);
-    (0..scores.len()).find(|&degree| scores[degree].is_some_and(|score| score - least <= 2.0))
+    (0..scores.len()).find(|&degree| scores[degree].map_or(false, |score| score - least <= 2.0))
 }
 
 /// The scores of the degrees 0 to the bound; none where the degree is unsolved.

@@ -7,10 +7,10 @@ const SIGN: u64 = 1 << 63;
 const INFINITY_BITS: u64 = 0x7FF0_0000_0000_0000;
 
 /// 2⁻⁴⁸: a pivot must be greater than this times its starting value.
-pub const PIVOT_FACTOR: f64 = f64::from_bits(0x3CF0_0000_0000_0000);
+pub const PIVOT_FACTOR: f64 = 1.0 / (1u64 << 48) as f64;
 
 /// 2⁻⁵²: added to the diagonal for the inverse; the least mean loss of a score; the pruning threshold.
-pub const EPSILON: f64 = f64::from_bits(0x3CB0_0000_0000_0000);
+pub const EPSILON: f64 = 1.0 / (1u64 << 52) as f64;
 
 /// Neither a NaN nor an infinity: the eleven exponent bits are not all ones.
 pub fn is_finite(v: f64) -> bool {
@@ -77,15 +77,19 @@ pub fn square_root(v: f64) -> f64 {
     v.sqrt()
 }
 
-const L1: f64 = f64::from_bits(0x3FE5_5555_5555_5593);
-const L2: f64 = f64::from_bits(0x3FD9_9999_9997_FA04);
-const L3: f64 = f64::from_bits(0x3FD2_4924_9422_9359);
-const L4: f64 = f64::from_bits(0x3FCC_71C5_1D8E_78AF);
-const L5: f64 = f64::from_bits(0x3FC7_4664_96CB_03DE);
-const L6: f64 = f64::from_bits(0x3FC3_9A09_D078_C69F);
-const L7: f64 = f64::from_bits(0x3FC2_F112_DF3E_5244);
-const LN2_HI: f64 = f64::from_bits(0x3FE6_2E42_FEE0_0000);
-const LN2_LO: f64 = f64::from_bits(0x3DEA_39EF_3579_3C76);
+/// L1 to L7, by their bits.
+const L: [u64; 7] = [
+    0x3FE5_5555_5555_5593,
+    0x3FD9_9999_9997_FA04,
+    0x3FD2_4924_9422_9359,
+    0x3FCC_71C5_1D8E_78AF,
+    0x3FC7_4664_96CB_03DE,
+    0x3FC3_9A09_D078_C69F,
+    0x3FC2_F112_DF3E_5244,
+];
+
+/// The high and the low part of ln 2, by their bits.
+const LN2: [u64; 2] = [0x3FE6_2E42_FEE0_0000, 0x3DEA_39EF_3579_3C76];
 
 /// The high 32 bits from which m is halved.
 const SPLIT_HIGH_WORD: u64 = 0x3FF6_A09E;
@@ -105,16 +109,18 @@ pub fn ln(v: f64) -> f64 {
     if v == 1.0 {
         return 0.0;
     }
+    let [l1, l2, l3, l4, l5, l6, l7] = L.map(f64::from_bits);
+    let [ln2_hi, ln2_lo] = LN2.map(f64::from_bits);
     let (m, k) = split(v);
     let f = m - 1.0;
     let h = (0.5 * f) * f;
     let s = f / (2.0 + f);
     let z = s * s;
     let w = z * z;
-    let t1 = w * (L2 + w * (L4 + w * L6));
-    let t2 = z * (L1 + w * (L3 + w * (L5 + w * L7)));
+    let t1 = w * (l2 + w * (l4 + w * l6));
+    let t2 = z * (l1 + w * (l3 + w * (l5 + w * l7)));
     let r = t2 + t1;
-    ((s * (h + r) + k * LN2_LO) - h) + f + k * LN2_HI
+    ((s * (h + r) + k * ln2_lo) - h) + f + k * ln2_hi
 }
 
 /// v = 2ᵏ × m for a positive finite v, the high 32 bits of m from 3FE6A09E up to below 3FF6A09E.
@@ -133,7 +139,7 @@ pub fn split(v: f64) -> (f64, f64) {
 }
 
 /// 2⁵⁴, by which a subnormal is scaled.
-const TWO_54: f64 = f64::from_bits(0x4350_0000_0000_0000);
+const TWO_54: f64 = (1u64 << 54) as f64;
 
 #[cfg(test)]
 mod tests {

@@ -121,7 +121,7 @@ pub fn with_t(df: usize, t: f64) -> Vec<Sample> {
     let error = (turned / df as f64 / n as f64).sqrt();
     let turn = |i: usize| match i {
         _ if i + 1 == n && n % 2 == 1 => 0.0,
-        _ if i.is_multiple_of(2) => 1.0,
+        _ if i % 2 == 0 => 1.0,
         _ => -1.0,
     };
     (0..n).map(|i| Sample { x: i as f64, y: t * error + turn(i) }).collect()
@@ -130,7 +130,7 @@ pub fn with_t(df: usize, t: f64) -> Vec<Sample> {
 /// The largest whole r with r to the given power at most n.
 pub fn whole_root(n: usize, power: u32) -> usize {
     let mut r = 0usize;
-    while (r + 1).checked_pow(power).is_some_and(|p| p <= n) {
+    while (r + 1).checked_pow(power).map_or(false, |p| p <= n) {
         r += 1;
     }
     r

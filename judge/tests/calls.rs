@@ -389,7 +389,7 @@ fn band_is_refused_in_order() {
     }
     assert_eq!(book.band(9.0, 3), Err(8));
     assert_eq!(book.band(9.0, 2), Err(9));
-    assert_eq!(book.band(2.0f64.next_up(), 1), Err(9));
+    assert_eq!(book.band(2.0 + 2.0 * f64::EPSILON, 1), Err(9));
     assert_eq!(book.scratch, vec![MARK; 4]);
     // Zeros of both signs lie within each other.
     let band = book.band(-0.0, 1).unwrap();
