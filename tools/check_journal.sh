@@ -1,7 +1,21 @@
-#!/bin/sh
-# Runs target/bin/journal on the lists of tests/ and compares its answers with theirs, byte for byte. After rt check or rt ci.
-cd "$(dirname "$0")/.." || exit 2
+#!/usr/bin/env bash
+# Runs the lists of tests/ by the proved library and by the judge, and compares what is printed with the answers there, byte for byte. It needs
+# the static library, which tools/check_capi.sh builds.
+set -euo pipefail
+cd "$(dirname "$0")/.."
+printed=$(mktemp)
+trap 'rm -f "$printed"' EXIT
+
+# a list, and the program's flags
+check() {
+    local list=$1
+    shift
+    cargo run --release --quiet -p journal -- "$@" <"tests/$list.calls" >"$printed" || { echo "journal $*: $list ended with $?"; exit 1; }
+    cmp "$printed" "tests/$list.answers"
+}
+
 for list in edges season fixed; do
-    target/bin/journal <"tests/$list.calls" | cmp - "tests/$list.answers" || exit 1
-    echo "journal: $list agrees"
+    check "$list"
+    check "$list" --judge
+    echo "journal: $list agrees, by the library and by the judge"
 done
