@@ -99,10 +99,12 @@ def passes(v, row, pairs):
             a, b = piece(v, i, g)
             i, under, over = i + 2 * g, under + a, over + b
         nodes.append((i, under, over))
-    tailBound = 2 * UNIT * (M * M - i * i) ** v // (2 * i * M) ** v + 1
+    if not 0 < i < M:
+        return False
+    tailBound = UNIT * (M * M - i * i) // (2 * i * M) + 1
     for col, e in enumerate(row):
         h, k, low, high = half_place(v - 1, col), ONE_IN[col], nodes[3 * col + 1], nodes[3 * col + 2]
-        if not (i < M and after(v, 2 * e - h, low[0]) and over + tailBound < k * (under - low[1])
+        if not (after(v, 2 * e - h, low[0]) and over + tailBound < k * (under - low[1])
                 and before(v, 2 * e + h, high[0]) and k * (over - high[2] + tailBound) < under):
             return False
     return True

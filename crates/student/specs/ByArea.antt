@@ -11,12 +11,10 @@
 --    (`over`). That it is applied to f as a function of y², whose tangents are the parabolas of step 4, is left to the reader.
 -- 6. Means. From y = a to y = b the mean of y² is (a² + a b + b²)/3 (Archimedes). So the mean of the first parabola is
 --    f(p) (1 + (ν+1)/2 (yₚ² − (a² + a b + b²)/3)/(1 + yₚ²)), and that of the second is (f(i) (a + 2 b) + f(j) (2 a + b))/(3 (a + b)). Not proved.
--- 7. Tail. Beyond a point y the boxes from y to 2 y, to 4 y, .. of the heights y^−(ν+1), (2 y)^−(ν+1), .. lie over the curve. Together they are at most 2 y^−ν,
---    as ν is at least 1. Not proved.
+-- 7. Tail. As ν is at least 1, the curve lies under 1/y² at every y above 0, and beyond y there lies 1/y under that. Not proved as an area; proved: the parabolas of
+--    step 4 lie under 1/y² too (`Tangent`).
 -- 8. Sums. Areas are in units of 10^−20. What lies under the curve is rounded down, and what lies over it is rounded up; a mean below 0 counts as 0. An area is at
---    least the sum of what lies under the curve, and at most the sum of what lies over it.
--- Proved besides: that each of the 180 entries passes (`AreaCheck`). Not proved: that no bound from below exceeds a bound from above, as `Laws` does for
--- the series.
+--    least the sum of what lies under the curve, and at most the sum of what lies over it and of the tail.
 use mathlib.Core.Path.{_≡_}
 use mathlib.Core.List.{List, [], _∷_}
 use Prim.Native.Nat.{ℕ, zero, suc, _+_, _-_, _*_, _/_, _^_, _≤_, _<_}
@@ -76,9 +74,9 @@ unfoldable pub lastNode : Node → List Node → Node
 lastNode m [] = m
 lastNode m (x ∷ xs) = lastNode x xs
 
--- at least what lies beyond the point z
-unfoldable pub tailBound : ℕ → ℕ → ℕ → ℕ
-tailBound ν M z = 200000000000000000000 * (M ^ 2 - z ^ 2) ^ ν / (2 * z * M) ^ ν + 1
+-- at least what lies beyond the point z, where z is not 0 and ν is not 0
+unfoldable pub tailBound : ℕ → ℕ → ℕ
+tailBound M z = 100000000000000000000 * (M ^ 2 - z ^ 2) / (2 * z * M) + 1
 
 -- the point i is at or after N/2000, and at or before it
 unfoldable pub After : ℕ → ℕ → ℕ → ℕ → Type 0
@@ -87,26 +85,33 @@ After ν N M i = (N * (M ^ 2 - i ^ 2)) ^ 2 ≤ 4000000 * ν * (2 * i * M) ^ 2
 unfoldable pub Before : ℕ → ℕ → ℕ → ℕ → Type 0
 Before ν N M i = 4000000 * ν * (2 * i * M) ^ 2 ≤ (N * (M ^ 2 - i ^ 2)) ^ 2
 
+-- The last point z is below M, and so are all points, as they rise. For a bound from above it is not 0 either, nor is ν: else `tailBound` bounds nothing.
+unfoldable pub Inside : ℕ → ℕ → Type 0
+Inside M z = z < M
+
+unfoldable pub Tailed : ℕ → ℕ → ℕ → Type 0
+Tailed ν M z = (0 < ν) × (0 < z) × (z < M)
+
 -- Squares of bounds, from nodes l: beyond the node h what lies over the curve to the last node, and all that lies further; or what lies under it to the last node.
-unfoldable pub overBeyond : ℕ → ℕ → List Node → Node → Fraction
-overBeyond ν M l h = (((lastNode start l) .2 - h .2 + tailBound ν M ((lastNode start l) .0)) ^ 2, 1)
+unfoldable pub overBeyond : ℕ → List Node → Node → Fraction
+overBeyond M l h = (((lastNode start l) .2 - h .2 + tailBound M ((lastNode start l) .0)) ^ 2, 1)
 
 unfoldable pub underBeyond : List Node → Node → Fraction
 underBeyond l h = (((lastNode start l) .1 - h .1) ^ 2, 1)
 
--- Some partition that stays below M shows the bound. Beyond N/2000 there lies no more than beyond a node at or before it,
+-- Some partition shows the bound. Beyond N/2000 there lies no more than beyond a node at or before it,
 unfoldable pub BeyondAtMost : ℕ → ℕ → Fraction → Type 0
 BeyondAtMost ν N p =
     (M : ℕ) × (partition : List (ℕ × ℕ)) × (n : ℕ)
-    × ((lastNode start (nodes ν M partition)) .0 < M)
+    × Tailed ν M ((lastNode start (nodes ν M partition)) .0)
     × Before ν N M ((node (nodes ν M partition) n) .0)
-    × (p ≡ overBeyond ν M (nodes ν M partition) (node (nodes ν M partition) n))
+    × (p ≡ overBeyond M (nodes ν M partition) (node (nodes ν M partition) n))
 
 -- and no less than beyond a node at or after it.
 unfoldable pub BeyondAtLeast : ℕ → ℕ → Fraction → Type 0
 BeyondAtLeast ν N p =
     (M : ℕ) × (partition : List (ℕ × ℕ)) × (n : ℕ)
-    × ((lastNode start (nodes ν M partition)) .0 < M)
+    × Inside M ((lastNode start (nodes ν M partition)) .0)
     × After ν N M ((node (nodes ν M partition) n) .0)
     × (p ≡ underBeyond (nodes ν M partition) (node (nodes ν M partition) n))
 
@@ -114,13 +119,13 @@ BeyondAtLeast ν N p =
 unfoldable pub WholeAtMost : ℕ → Fraction → Type 0
 WholeAtMost ν p =
     (M : ℕ) × (partition : List (ℕ × ℕ))
-    × ((lastNode start (nodes ν M partition)) .0 < M)
-    × (p ≡ overBeyond ν M (nodes ν M partition) start)
+    × Tailed ν M ((lastNode start (nodes ν M partition)) .0)
+    × (p ≡ overBeyond M (nodes ν M partition) start)
 
 unfoldable pub WholeAtLeast : ℕ → Fraction → Type 0
 WholeAtLeast ν p =
     (M : ℕ) × (partition : List (ℕ × ℕ))
-    × ((lastNode start (nodes ν M partition)) .0 < M)
+    × Inside M ((lastNode start (nodes ν M partition)) .0)
     × (p ≡ underBeyond (nodes ν M partition) start)
 
 abbrev pub byArea : Measure
