@@ -9,7 +9,11 @@ pub mod SeriesCheck
 pub mod Laws
 pub mod ByArea
 pub mod Parabolas
+pub mod Lines
+pub mod Tangent
+pub mod Strips
 pub mod AreaPartitions
 pub mod AreaCheck
+pub mod AreaLaws
 pub mod Normal
 pub mod NormalCheck
