@@ -15,5 +15,6 @@ pub mod Strips
 pub mod AreaPartitions
 pub mod AreaCheck
 pub mod AreaLaws
+pub mod Only
 pub mod Normal
 pub mod NormalCheck

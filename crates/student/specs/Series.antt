@@ -1,5 +1,5 @@
 -- The series 1 + f(0)/g(0) + (f(0)/g(0)) (f(1)/g(1)) + .. by its partial sums, over whole numbers. All its terms are positive, so its value, where there is
--- one, is above every partial sum, and at most each number that no partial sum exceeds. Assumes nothing.
+-- one, is above every partial sum, and at most each number that no partial sum exceeds.
 use mathlib.Core.Path.{_≡_, refl, ap, ap₂}
 use mathlib.Core.Bool.{Bool, _&&_}
 use Prim.Native.Nat.{ℕ, zero, suc, _+_, _*_, _≤_, _<_}
@@ -57,7 +57,7 @@ pub sums-three : (f g : ℕ → ℕ) (n : ℕ) → sums f g n ≡ three f g n
 sums-three f g n = λ i. (sums-numerator f g n i, sums-next f g n i, sums-denominator f g n i)
 
 -- a product of positive factors is positive
-product-pos : (g : ℕ → ℕ) → ((j : ℕ) → 0 < g j) → (n : ℕ) → 0 < product g n
+pub product-pos : (g : ℕ → ℕ) → ((j : ℕ) → 0 < g j) → (n : ℕ) → 0 < product g n
 unfolding product
 product-pos g h zero = omega arith
 product-pos g h (suc n) = mul-pos (product-pos g h n) (h n)
