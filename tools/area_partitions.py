@@ -35,8 +35,8 @@ def half_place(row, col):
     return 10 if row == 0 and col >= 2 else 1
 
 
-# ByArea.antt: `pieceAt`, what lies under the curve and over it from point i to point i + 2 g
-def piece(v, i, g):
+# ByArea.antt: `pieceAt`, what lies under the curve and over it from point i to point i + 2 g, where i + 2 g is below M
+def piece(v, i, g, M=M):
     p, j = i + g, i + 2 * g
     Pi, Pp, Pj = M * M - i * i, M * M - p * p, M * M - j * j
     Qi, Qp, Qj = M * M + i * i, M * M + p * p, M * M + j * j
@@ -44,15 +44,15 @@ def piece(v, i, g):
     w, d, a, b = 2 * M * (M * M + i * j) * (j - i), Pi * Pj, i * Pj, j * Pi
     E = 6 * Qp ** 2 * d ** 2
     F = max((6 * Qp ** 2 + (v + 1) * 3 * (2 * p * M) ** 2) * d ** 2 - (v + 1) * Pp ** 2 * (2 * M) ** 2 * (a * a + a * b + b * b), 0)
-    return hp * F * w // (E * d), ((hi + 1) * (a + 2 * b) + (hj + 1) * (2 * a + b)) * w // (3 * (a + b) * d) + 1
+    return hp * F * w // (E * d), ((hi + 1) * (a + 2 * b) + (hj + 1) * (2 * a + b)) * w // max(3 * (a + b) * d, 1) + 1
 
 
 # is the point i at or after N/2000, and at or before it
-def after(v, N, i):
+def after(v, N, i, M=M):
     return (N * (M * M - i * i)) ** 2 <= 4000000 * v * (2 * i * M) ** 2
 
 
-def before(v, N, i):
+def before(v, N, i, M=M):
     return 4000000 * v * (2 * i * M) ** 2 <= (N * (M * M - i * i)) ** 2
 
 
@@ -91,17 +91,29 @@ def partition(v, row, pieces):
     return pairs
 
 
-# ByArea.antt and AreaCheck.antt: do all six entries pass
-def passes(v, row, pairs):
+# ByArea.antt: `nodes`, after each pair the point and what lies under the curve and over it from 0 to there; all points are below M
+def nodes_of(v, pairs, M=M):
     nodes, i, under, over = [], 0, 0, 0
     for g, n in pairs:
         for _ in range(n):
-            a, b = piece(v, i, g)
+            a, b = piece(v, i, g, M)
             i, under, over = i + 2 * g, under + a, over + b
         nodes.append((i, under, over))
+    return nodes
+
+
+# `tailBound`; z is not 0
+def tail_bound(z, M=M):
+    return UNIT * (M * M - z * z) // (2 * z * M) + 1
+
+
+# ByArea.antt and AreaCheck.antt: do all six entries pass
+def passes(v, row, pairs):
+    nodes = nodes_of(v, pairs)
+    i, under, over = nodes[-1]
     if not 0 < i < M:
         return False
-    tailBound = UNIT * (M * M - i * i) // (2 * i * M) + 1
+    tailBound = tail_bound(i)
     for col, e in enumerate(row):
         h, k, low, high = half_place(v - 1, col), ONE_IN[col], nodes[3 * col + 1], nodes[3 * col + 2]
         if not (after(v, 2 * e - h, low[0]) and over + tailBound < k * (under - low[1])
@@ -128,4 +140,5 @@ def main():
     return 0
 
 
-sys.exit(main())
+if __name__ == '__main__':
+    sys.exit(main())

@@ -1,12 +1,25 @@
 #!/usr/bin/env python3
-"""Puts wrong digits in the t table through the falling and rising rule and through the theorem's test. Run in the repository's root.
+"""Puts wrong digits in the t table through the falling and rising rule, through the test of the theorem by series, and through an adversary who
+chooses the partitions of the theorem by area. Run in the repository's root.
 
-The entries are read out of crates/statistics/specs/Table.antt, in thousandths; the rule is `columns-fall` and `rows-rise` there. `rounded`
-and what it calls are transcribed, name by name, from crates/student/specs/SeriesCheck.antt, BySeries.antt, Series.antt, Ratio.antt and
-Quantile.antt, in whole numbers of any size. Tried are each entry as it stands, each swap of two adjacent different digits of its
-thousandths, and its last printed place one up and one down. (Three decimals are printed; in the first row two from the third entry on.)"""
+The entries are read out of crates/statistics/specs/Table.antt, in thousandths; the rule is `columns-fall` and `rows-rise` there. Tried are each
+entry as it stands, each swap of two adjacent different digits of its thousandths, and its last printed place one up and one down. (Three
+decimals are printed; in the first row two from the third entry on.)
+
+By series: `rounded` and what it calls are transcribed, name by name, from crates/student/specs/SeriesCheck.antt, BySeries.antt, Series.antt,
+Ratio.antt and Quantile.antt, in whole numbers of any size. The numbers of terms are those of SeriesCheck.antt, so that a number which does
+not pass might still pass with others: that none from 1 on does is proved, in Only.antt.
+
+By area: for each of the four bounds of `Rounded byArea` the best is taken that any partition of a pool shows, each from a partition of its
+own: the row's from AreaPartitions.antt, and all of at most two pairs for small M, degenerate ones included (empty, one node, steps of 0, no
+pieces). The same is done without the condition that the last point is not 0, which shows what that condition is for. That no partition at all
+lets a wrong number pass is proved, in Only.antt."""
 import re
 import sys
+from itertools import product
+
+sys.dont_write_bytecode = True
+from area_partitions import M, PARTITIONS, after, before, nodes_of, tail_bound
 
 TABLE = 'crates/statistics/specs/Table.antt'
 
@@ -82,6 +95,46 @@ def half_place(row, col):
     return 10 if row == 0 and col >= 2 else 1
 
 
+# ---- ByArea.antt, with the best partition of a pool for each bound
+
+def row_partitions():
+    rows = [line for line in open(PARTITIONS, encoding='utf-8') if line.startswith('    (')]
+    return [[(int(g), int(n)) for g, n in re.findall(r'\((\d+), (\d+)\)', line)] for line in rows]
+
+
+# M, the nodes with the start before them, and the last node; partitions that reach M bound nothing
+def pool(v, row_partition):
+    pairs = list(product(range(4), range(3)))
+    small = [(m, list(p)) for m in range(1, 9) for size in range(3) for p in product(pairs, repeat=size) if sum(2 * g * n for g, n in p) < m]
+    made = []
+    for m, p in small + [(M, row_partition)]:
+        nodes = [(0, 0, 0)] + nodes_of(v, p, m)
+        made.append((m, nodes, nodes[-1]))
+    return made
+
+
+# What lies over the curve beyond the node h, and the tail. Where the last point is 0, 1 is what the logic makes of the tail, as n / 0 is 0 there.
+def over_beyond(m, last, h):
+    return last[2] - h[2] + (tail_bound(last[0], m) if last[0] else 1)
+
+
+class Adversary:
+    def __init__(self, v, partitions, tailed):
+        self.v, self.all = v, partitions
+        self.upper = [p for p in partitions if p[2][0] > 0 or not tailed]
+        self.most = min(over_beyond(m, last, nodes[0]) for m, nodes, last in self.upper)
+        self.least = max(last[1] for _, _, last in self.all)
+
+    def beyond_most(self, N):
+        return min(over_beyond(m, last, h) for m, nodes, last in self.upper for h in nodes if before(self.v, N, h[0], m))
+
+    def beyond_least(self, N):
+        return max((last[1] - h[1] for m, nodes, last in self.all for h in nodes if after(self.v, N, h[0], m)), default=0)
+
+    def rounded(self, k, e, h):
+        return k * self.beyond_least(max(2 * e - h, 0)) > self.most and k * self.beyond_most(2 * e + h) < self.least
+
+
 # ---- the wrong digits
 
 def entries():
@@ -91,36 +144,44 @@ def entries():
 
 
 def main():
-    table = entries()
+    table, partitions = entries(), row_partitions()
     kinds = ('entries', 'swaps', 'last places')
-    tried, ruled, passed = (dict.fromkeys(kinds, 0) for _ in range(3))
-
-    def put(kind, row, col, e):
-        tried[kind] += 1
-        i = row * 6 + col
-        ruled[kind] += rule(table[:i] + [e] + table[i + 1:])
-        if rounded(row + 1, ONE_IN[col], e, half_place(row, col)):
-            passed[kind] += 1
-            if kind != 'entries':
-                print(f'df {row + 1}, column {col + 1}: {table[i]} passes as {e}')
-        elif kind == 'entries':
-            print(f'df {row + 1}, column {col + 1}: {e} does not pass')
-
+    names = ('the falling and rising rule', 'the test by series', 'the best choice of partitions by area',
+             'that choice without the condition on the last point')
+    tried, *counts = (dict.fromkeys(kinds, 0) for _ in range(5))
+    below_one = 0
     for row in range(30):
+        made = pool(row + 1, partitions[row])
+        asked, unasked = Adversary(row + 1, made, True), Adversary(row + 1, made, False)
+
+        def put(kind, col, e):
+            i, k, h = row * 6 + col, ONE_IN[col], half_place(row, col)
+            passed = (rule(table[:i] + [e] + table[i + 1:]), rounded(row + 1, k, e, h), asked.rounded(k, e, h), unasked.rounded(k, e, h))
+            tried[kind] += 1
+            for count, one in zip(counts, passed):
+                count[kind] += one
+            if passed[1:3] != ((True, True) if kind == 'entries' else (False, False)):
+                print(f'df {row + 1}, column {col + 1}: {e} for {table[i]}, by series {passed[1]}, by area {passed[2]}')
+
         for col in range(6):
             e = table[row * 6 + col]
             place = half_place(row, col)                    # the last printed place, in thousandths
             digits = str(e)
-            put('entries', row, col, e)
+            put('entries', col, e)
             for i in range(len(digits) - 1):
                 if digits[i] != digits[i + 1]:
-                    put('swaps', row, col, int(digits[:i] + digits[i + 1] + digits[i] + digits[i + 2:]))
-            put('last places', row, col, e + place)
-            put('last places', row, col, e - place)
-    for name, count in (('the falling and rising rule', ruled), ('the theorem', passed)):
+                    wrong = int(digits[:i] + digits[i + 1] + digits[i] + digits[i + 2:])
+                    below_one += wrong < 1000
+                    put('swaps', col, wrong)
+            put('last places', col, e + place)
+            put('last places', col, e - place)
+    for name, count in zip(names, counts):
         print(f'table: {name} lets pass {count["entries"]} of {tried["entries"]} entries, {count["swaps"]} of {tried["swaps"]} swaps '
               f'of two adjacent digits, {count["last places"]} of {tried["last places"]} last places changed by one')
-    return 0 if len(table) == 180 and passed == {'entries': 180, 'swaps': 0, 'last places': 0} else 1
+    print(f'table: {below_one} of the swaps are below 1')
+    right = {'entries': 180, 'swaps': 0, 'last places': 0}
+    return 0 if len(table) == 180 and counts[1] == right and counts[2] == right else 1
 
 
-sys.exit(main())
+if __name__ == '__main__':
+    sys.exit(main())

@@ -1,6 +1,6 @@
 -- The areas under Student's density, by parabolas under and over the curve: whole numbers only, no series and no π. Definitions only.
 --
--- What a reader must believe, step by step, and what is proved of it (in `Parabolas`, where a name is given).
+-- What a reader must believe, step by step, and what is proved of it (in `Parabolas`, where only a name is given).
 -- 1. The density of T is, up to a constant factor, (1 + x²/ν)^(−(ν+1)/2). With y = x/√ν it is f(y) = (1 + y²)^(−(ν+1)/2); all areas change by the one factor √ν.
 -- 2. Points. Point i, for i from 0 to M − 1, is y = 2 i M / P with P = M² − i². With Q = M² + i² there is no root: 1 + y² = (Q/P)², and so f(y) = (P/Q)^(ν+1).
 --    Proved: P² + (2 i M)² = Q² (`point`).
@@ -15,6 +15,17 @@
 --    step 4 lie under 1/y² too (`Tangent`).
 -- 8. Sums. Areas are in units of 10^−20. What lies under the curve is rounded down, and what lies over it is rounded up; a mean below 0 counts as 0. An area is at
 --    least the sum of what lies under the curve, and at most the sum of what lies over it and of the tail.
+-- Proved besides: no bound from below exceeds a bound from above, whatever partitions they are shown with (`AreaLaws`); each of the 180 entries passes (`AreaCheck`),
+-- and no other number with as many places does (`Only`).
+--
+-- Looked for: what else could show a bound that is none. In this logic n / 0 is 0, a difference below 0 is 0, and what stands past the end of a list is its default.
+-- - The last point is 0, as in the empty partition: `tailBound` divides by 0. Ruled out by `Tailed`.
+-- - A point at M or past it: P is 0, and the piece that ends there is divided by 0. Ruled out by z < M, as points only rise; and so is M = 0.
+-- - ν = 0: the curve does not lie under 1/y². Ruled out by `Tailed`. No bound from below divides by ν.
+-- - A step g = 0, or a pair of no pieces: a piece of no width has 0 under it and 1 over it. 3 (a + b) is 0 only there, at the point 0.
+-- - Heights: Q is not 0 where M is not. The mean of the parabola below 0 counts as 0, which bounds an area from below.
+-- - A node past the end of the list is the start, which lies before every N/2000, and after it only where N is 0: then the area is the whole.
+-- - Differences of sums: sums only rise, so that no node has more than the last.
 use mathlib.Core.Path.{_≡_}
 use mathlib.Core.List.{List, [], _∷_}
 use Prim.Native.Nat.{ℕ, zero, suc, _+_, _-_, _*_, _/_, _^_, _≤_, _<_}

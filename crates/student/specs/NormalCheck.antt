@@ -1,5 +1,4 @@
 -- The six z scores that the crate `statistics` reads are the normal quantiles, cut to thousandths (`every-z-cut`, at the end): one test that antt computes.
--- Assumes nothing.
 use mathlib.Core.Path.{refl, subst₃}
 use mathlib.Core.Bool.{Bool, _&&_}
 use Prim.Native.Nat.{ℕ, _+_, _-_, _*_, _^_, _≤_, _<_}

@@ -1,5 +1,5 @@
 -- Laws of the points, pieces and parabolas of `ByArea`: the identities of a point and of a piece's width; the parabola that touches the curve at one point lies
--- under it at every other; and what lies above its tangents lies below its chords. Assumes nothing.
+-- under it at every other; and what lies above its tangents lies below its chords.
 use mathlib.Core.Path.{_≡_, sym, ap, subst}
 use Prim.Native.Nat.{ℕ, zero, suc, _+_, _*_, _^_, _≤_}
 use native.Mathlib.Nat.{mul-le-mul-right, le-of-lt, le-dest, lt-of-not-le, pow-zero, pow-suc}

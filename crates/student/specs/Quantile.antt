@@ -1,17 +1,19 @@
--- What it is for an entry of the t table to be the quantile that it stands for. Assumes nothing.
+-- What it is for an entry of the t table to be the quantile that it stands for.
 --
 -- T has Student's distribution with ν degrees of freedom. The two-sided quantile for a confidence p is the t at which |T| is at most t with probability p,
 -- and so above t with probability 1 − p. For the six confidences of the table 1 − p is 1/5, 1/10, 1/20, 1/50, 1/100 and 1/1000, always one in a whole k.
 -- The density of T is symmetric. So the probability that |T| is above t is the area under the density beyond t divided by the whole area from 0 on, and a
 -- constant factor of the density cancels: it is left out, with its π and Γ. What is left is (1 + x²/ν)^(−(ν+1)/2).
 -- This probability falls as t grows. So an entry is the quantile, rounded at its last printed place, when the probability is above 1/k half a place below the
--- entry and below 1/k half a place above it. Halves of a thousandth are 1/2000: all points t are N/2000 with a whole N.
+-- entry and below 1/k half a place above it. Halves of a thousandth are 1/2000: all points t are N/2000 with a whole N. Where 2 e is less than h, 2 e − h is 0: |T| is
+-- never below 0. Past the columns 1/k is 1/0, and nothing is above it.
 --
 -- Two measures of the areas are given, by series (`BySeries`) and by parabolas under and over the curve (`ByArea`). What ties them: the list, the columns, the
 -- places, and all definitions of this file are the same for both, and so is the meaning of "below 1/k" (`Ratio`); the theorems of the 180 entries,
 -- `every-entry-by-series` and `every-entry-by-area`, are one statement at two measures. What does not: no law says that a bound of an area by the one measure
 -- agrees with a bound by the other. That would need the area itself, as a limit, which neither measure speaks of. Each measure is to be believed on its own, and
--- a reader who believes either has the table.
+-- a reader who believes either has the table. Neither lets another number pass: no bound from below exceeds one from above (`Laws`, `AreaLaws`), so that the entries
+-- are the only ones (`Only`).
 use mathlib.Core.Path.{_≡_}
 use Prim.Native.Nat.{ℕ, zero, suc, _+_, _-_, _*_, _≤_, _<_}
 use native.Mathlib.Omega.{arith}

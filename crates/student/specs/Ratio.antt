@@ -1,4 +1,4 @@
--- The ratio of two areas is below m/n, or above it. This is the one meaning of "the probability is below 1/k" in this crate. Assumes nothing.
+-- The ratio of two areas is below m/n, or above it. This is the one meaning of "the probability is below 1/k" in this crate.
 --
 -- A probability is the area under a part of a density divided by the area under the whole of it. This logic has no areas and no limits; it has whole numbers.
 -- So an area is given by what bounds it: a statement which fractions are at most the area, and which are at least the area. (A fraction (a, b) is a/b.) The
@@ -14,8 +14,8 @@ use lib.Dec.{T, ltb, ltb→lt}
 abbrev pub Fraction : Type 0
 Fraction = ℕ × ℕ
 
--- The squares p and w are in a ratio below (m/n)². A bound from above with the denominator 0 shows nothing, as nothing is below 0; bounds from below have
--- positive denominators in each use of these definitions.
+-- The squares p and w are in a ratio below (m/n)². A bound from above with the denominator 0 shows nothing, as nothing is below 0. Where a bound from below
+-- has the denominator 0 in this crate its numerator is 0 too, and it shows nothing either. With n = 0 nothing is above m/n, with m = 0 nothing below.
 unfoldable pub RatioBelow : (Fraction → Type 0) → (Fraction → Type 0) → ℕ → ℕ → Type 0
 RatioBelow PartAtMost WholeAtLeast m n =
     (p : Fraction) × (w : Fraction) × PartAtMost p × WholeAtLeast w × (n ^ 2 * (p .0 * w .1) < m ^ 2 * (w .0 * p .1))

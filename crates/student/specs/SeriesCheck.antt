@@ -1,5 +1,5 @@
 -- Each of the 180 entries is the quantile, rounded at its printed places, by series (`every-entry-by-series`, at the end): one test that antt computes over whole
--- numbers, and the law that a test which passes shows what `Quantile` asks. Assumes nothing.
+-- numbers, and the law that a test which passes shows what `Quantile` asks.
 use mathlib.Core.Path.{refl, subst₃}
 use mathlib.Core.Bool.{Bool, _&&_}
 use Prim.Native.Nat.{ℕ, _+_, _-_, _*_, _/_, _^_, _<_}
