@@ -1,16 +1,16 @@
 -- The bounds by area do not contradict themselves: no bound from below exceeds a bound from above, whatever partitions they are shown with, also where the one is
 -- of the area beyond a point and the other of the area beyond an earlier one. So no probability is both below and above 1/k, and of the numbers with the same
 -- number of places at most one is the rounded quantile.
-use mathlib.Core.Path.{_≡_, refl, sym, ap, subst, subst₂, _∙_}
-use mathlib.Core.List.{List, []}
-use Prim.Native.Nat.{ℕ, zero, suc, _+_, _-_, _*_, _^_, _≤_, _<_}
-use native.Mathlib.Nat.{mul-le-mul, mul-le-mul-left, mul-le-mul-right, le-of-mul-le-mul-left, le-trans, lt-of-not-le, mul-pos, pow-le-pow-left, pow-zero, pow-suc, one-mul}
+use mathlib.Core.Path.{sym, subst₂}
+use mathlib.Core.List.{[]}
+use Prim.Native.Nat.{ℕ, _+_, _-_, _*_, _^_, _≤_, _<_}
+use native.Mathlib.Nat.{mul-le-mul, mul-le-mul-right, le-of-mul-le-mul-left, le-trans, lt-of-not-le, pow-le-pow-left}
 use native.Mathlib.Decide.{decLe}
 use native.Mathlib.Omega.{arith}
-use Rattle.student.specs.Ratio.{Fraction, Consistent, exclusive}
+use Rattle.student.specs.Ratio.{Fraction, Consistent, square, exclusive}
 use Rattle.student.specs.Quantile.{TailBelow, TailAbove, Rounded}
-use Rattle.student.specs.ByArea.{start, nodes, nodesFrom, node, lastNode, tailBound, After, Before, Inside, Tailed, overBeyond, underBeyond, BeyondAtMost, BeyondAtLeast, WholeAtMost, WholeAtLeast, byArea}
-use Rattle.student.specs.Strips.{run, from-node, from-start, strips}
+use Rattle.student.specs.ByArea.{start, nodes, nodesFrom, node, lastNode, After, Before, Inside, Tailed, overBeyond, underBeyond, BeyondAtMost, BeyondAtLeast, WholeAtMost, WholeAtLeast, byArea}
+use Rattle.student.specs.Strips.{from-node, from-start, strips}
 
 -- The empty partition bounds nothing from above, as its last point is 0; nor does one that ends at the point M, which lies at infinity.
 pub empty-bounds-nothing : (ν M : ℕ) → Tailed ν M ((lastNode start (nodes ν M [])) .0) → ⊥
@@ -37,9 +37,6 @@ root-le x y h =
       | yes k ↦ k
       | no k ↦ let l = lt-of-not-le k in absurd (omega (arith, h, mul-le-mul l l))
     ]
-
-square : (x : ℕ) → x ^ 2 ≡ x * x
-square x = pow-suc x 1 ∙ ap (λ z. z * x) (pow-suc x 0 ∙ ap (λ z. z * x) (pow-zero x) ∙ one-mul x)
 
 -- s/P is at or before A, and A, which is no later than B, at or before t/Q
 crossing : (c s t P Q A B : ℕ) → 0 < c → A ≤ B → c * (s * s) ≤ A * P * (A * P) → B * Q * (B * Q) ≤ c * (t * t) → s * Q ≤ t * P

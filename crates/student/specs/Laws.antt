@@ -2,18 +2,15 @@
 -- where the one is of the area beyond a point and the other of the area beyond an earlier one. So no probability is both below and above 1/k, of the numbers from 1 on
 -- with the same number of places at most one is the rounded quantile of Student's distribution, and of two neighbouring numbers of thousandths at most one is the
 -- rounded quantile, and at most one the cut quantile of the normal distribution.
-use mathlib.Core.Path.{_≡_, ap, sym, subst, subst₂, _∙_}
+use mathlib.Core.Path.{_≡_, sym, subst, subst₂}
 use Prim.Native.Nat.{ℕ, zero, suc, _+_, _-_, _*_, _^_, _≤_, _<_}
-use native.Mathlib.Nat.{mul-le-mul, mul-le-mul-left, mul-le-mul-right, le-of-mul-le-mul-left, le-refl, le-trans, le-dest, mul-pos, pow-suc, pow-zero, one-mul}
+use native.Mathlib.Nat.{mul-le-mul, mul-le-mul-left, mul-le-mul-right, le-of-mul-le-mul-left, le-refl, le-trans, le-dest, mul-pos, pow-suc, pow-zero}
 use native.Mathlib.Omega.{arith}
-use Rattle.student.specs.Ratio.{Fraction, Consistent, exclusive}
+use Rattle.student.specs.Ratio.{Fraction, Consistent, square, exclusive}
 use Rattle.student.specs.Quantile.{TailBelow, TailAbove, Rounded}
 use Rattle.student.specs.Series.{product, numerator, AtMost, factors, product-pos}
 use Rattle.student.specs.BySeries.{beyondSquare, wholeSquare, BeyondAtMost, BeyondAtLeast, WholeAtMost, WholeAtLeast, bySeries}
 use Rattle.student.specs.Normal.{insideSquare, InsideAtMost, InsideAtLeast, HalfPiAtMost, HalfPiAtLeast, Cut}
-
-square : (x : ℕ) → x ^ 2 ≡ x * x
-square x = pow-suc x 1 ∙ ap (λ z. z * x) (pow-suc x 0 ∙ ap (λ z. z * x) (pow-zero x) ∙ one-mul x)
 
 -- a/b is at most c/d: so are the squares, with the same factors
 squares : (α β a b c d : ℕ) → a * d ≤ c * b → α * a ^ 2 * (β * d ^ 2) ≤ α * c ^ 2 * (β * b ^ 2)
@@ -104,7 +101,7 @@ later-consistent ν N M hν h l a b (n, e) (u, v, k, g) =
     let y = factors (ν + 2) (M ^ 2 + 4000000 * ν) in
     subst₂ (λ (p q : Fraction). p .0 * q .1 ≤ q .0 * p .1) (sym e) (sym g)
     (later-squares (N ^ 2) (M ^ 2) _ _ _ _ _ u v
-    (through _ _ _ _ u v (product-pos x (factors-pos ν N hν) n) (sum-less f x y (factors-less ν N M l) n) (k n))
+    (through _ _ _ _ u v (product-pos x n (λ j l. factors-pos ν N hν j)) (sum-less f x y (factors-less ν N M l) n) (k n))
     (later ν N M h l))
 
 -- e and e′ thousandths, from 1 on and a printed place or more apart, are not both the rounded quantile

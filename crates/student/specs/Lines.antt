@@ -6,7 +6,7 @@ use mathlib.Core.Path.{_≡_, sym, ap, subst}
 use mathlib.Core.List.{List, [], _∷_}
 use mathlib.Core.Logic.{inl, inr}
 use Prim.Native.Nat.{ℕ, _+_, _*_, _≤_, _<_}
-use native.Mathlib.Nat.{mul-le-mul, mul-le-mul-left, mul-le-mul-right, le-of-mul-le-mul-left, le-dest, le-refl, le-trans, le-of-lt, lt-of-not-le, eq-or-lt-of-le, lt-of-lt-of-le, mul-pos}
+use native.Mathlib.Nat.{mul-le-mul-left, le-of-mul-le-mul-left, le-dest, le-refl, le-trans, le-of-lt, lt-of-not-le, eq-or-lt-of-le, lt-of-lt-of-le, mul-pos}
 use native.Mathlib.Decide.{decLe}
 use native.Mathlib.Omega.{arith}
 

@@ -1,6 +1,5 @@
 -- The entries of the t table are the only ones: in each row and column no other number with as many places is the rounded quantile, by area (`only-entry-by-area`), and
 -- by series none from 1 on (`only-entry-by-series`). So with 8 degrees of freedom at 0.95 it is not 2.360, the entry with two digits swapped.
-use mathlib.Core.Bool.{Bool, _&&_}
 use Prim.Native.Nat.{ℕ, _+_, _≤_, _<_}
 use native.Mathlib.Nat.{lt-of-not-le}
 use native.Mathlib.Omega.{arith}

@@ -5,9 +5,10 @@
 -- ratio is below m/n when a bound from above of the part and a bound from below of the whole are in a ratio below m/n already.
 -- All bounds are bounds of the square of the area: the series give areas that have one square root in common, and their squares are fractions.
 -- Both areas are in one unit, any one, as it cancels.
+use mathlib.Core.Path.{_≡_, ap, _∙_}
 use Prim.Native.Nat.{ℕ, _*_, _^_, _≤_, _<_}
 use mathlib.Core.Bool.{Bool}
-use native.Mathlib.Nat.{mul-le-mul, mul-le-mul-left, lt-of-lt-of-le, lt-irrefl}
+use native.Mathlib.Nat.{mul-le-mul, mul-le-mul-left, lt-of-lt-of-le, lt-irrefl, pow-suc, pow-zero, one-mul}
 use native.Mathlib.Omega.{arith}
 use lib.Dec.{T, ltb, ltb→lt}
 
@@ -29,6 +30,9 @@ unfoldable pub Consistent : (Fraction → Type 0) → (Fraction → Type 0) → 
 Consistent AtLeast AtMost = (a b : Fraction) → AtLeast a → AtMost b → a .0 * b .1 ≤ b .0 * a .1
 
 -- ---- laws
+
+pub square : (x : ℕ) → x ^ 2 ≡ x * x
+square x = pow-suc x 1 ∙ ap (λ z. z * x) (pow-suc x 0 ∙ ap (λ z. z * x) (pow-zero x) ∙ one-mul x)
 
 -- a product is the greater the greater its factors
 lt-mul : (a b c d : ℕ) → a < b → c < d → a * c < b * d

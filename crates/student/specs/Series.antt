@@ -57,10 +57,10 @@ pub sums-three : (f g : ℕ → ℕ) (n : ℕ) → sums f g n ≡ three f g n
 sums-three f g n = λ i. (sums-numerator f g n i, sums-next f g n i, sums-denominator f g n i)
 
 -- a product of positive factors is positive
-pub product-pos : (g : ℕ → ℕ) → ((j : ℕ) → 0 < g j) → (n : ℕ) → 0 < product g n
+pub product-pos : (g : ℕ → ℕ) (n : ℕ) → ((j : ℕ) → j < n → 0 < g j) → 0 < product g n
 unfolding product
-product-pos g h zero = omega arith
-product-pos g h (suc n) = mul-pos (product-pos g h n) (h n)
+product-pos g zero h = omega arith
+product-pos g (suc n) h = mul-pos (product-pos g n (λ j l. h j (omega (arith, l)))) (h n (omega arith))
 
 -- j terms more make the sum no smaller
 numerator-grows : (f g : ℕ → ℕ) (m j : ℕ) → numerator f g m * product g (m + j) ≤ numerator f g (m + j) * product g m
@@ -93,7 +93,7 @@ pub at-most : (f g : ℕ → ℕ) (C n : ℕ) → ((j : ℕ) → 0 < g j) → ((
 unfolding AtMost
 at-most f g C n hg h m =
     chain (numerator f g m) (product g m) (numerator f g (n + m)) (product g (n + m)) (numerator f g n + C * product f n) (product g n) _ _
-    (product-pos g hg (n + m)) (product-pos g hg n)
+    (product-pos g (n + m) (λ j l. hg j)) (product-pos g n (λ j l. hg j))
     (rw (add-comm n m) (numerator-grows f g m n))
     (omega (arith, rest f g C n m h))
     (le-refl _)

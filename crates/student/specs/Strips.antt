@@ -2,13 +2,14 @@
 -- more than what the other has over it and its tail (`strips`).
 use mathlib.Core.Path.{_≡_, refl, sym, ap, ap₂, subst, _∙_}
 use mathlib.Core.List.{List, [], _∷_, _++_}
-use mathlib.Core.Logic.{_⊎_, inl, inr}
+use mathlib.Core.Logic.{inl, inr}
 use Prim.Native.Nat.{ℕ, zero, suc, _+_, _-_, _*_, _/_, _^_, _≤_, _<_}
-use native.Mathlib.Nat.{mul-le-mul, mul-le-mul-left, mul-le-mul-right, le-of-mul-le-mul-left, le-dest, le-refl, le-trans, le-of-lt, lt-of-not-le, lt-of-lt-of-le, lt-of-le-of-lt, mul-pos, pow-zero, pow-suc, one-mul, div-mul-le-self, lt-mul-div-succ, zero-div, mul-div-cancel-left, sub-eq-zero-of-le, add-left-cancel, eq-zero-or-pos, mul-add, add-assoc, le-intro, one-le-pow, mul-comm, mul-assoc, eq-or-lt-of-le, le-of-suc-le-suc}
+use native.Mathlib.Nat.{mul-le-mul, mul-le-mul-left, le-dest, le-refl, le-trans, le-of-lt, lt-of-not-le, lt-of-le-of-lt, mul-pos, div-mul-le-self, lt-mul-div-succ, zero-div, mul-div-cancel-left, sub-eq-zero-of-le, add-left-cancel, eq-zero-or-pos, mul-add, add-assoc, le-intro, one-le-pow, mul-comm, mul-assoc, eq-or-lt-of-le, le-of-suc-le-suc}
 use native.Mathlib.Decide.{decLe}
 use native.Mathlib.Omega.{arith}
 use lib.ListN.{getD}
-use Rattle.student.specs.Series.{product}
+use Rattle.student.specs.Ratio.{square}
+use Rattle.student.specs.Series.{product, product-pos}
 use Rattle.student.specs.ByArea.{height, piece, pieceOf, pieceAt, Node, start, addPieces, nodesFrom, nodes, node, lastNode, tailBound}
 use Rattle.student.specs.Parabolas.{point, width}
 use Rattle.student.specs.Lines.{Under, Over, underSum, overSum, Line, Lower, Upper, cube, no-more}
@@ -79,9 +80,6 @@ gap M i = M ^ 2 - i ^ 2
 
 abbrev hull : ℕ → ℕ → ℕ
 hull M i = M ^ 2 + i ^ 2
-
-square : (x : ℕ) → x ^ 2 ≡ x * x
-square x = pow-suc x 1 ∙ ap (λ z. z * x) (pow-suc x 0 ∙ ap (λ z. z * x) (pow-zero x) ∙ one-mul x)
 
 gap-sum : (M i : ℕ) → i ≤ M → gap M i + i * i ≡ M * M
 gap-sum M i h = rw (square M, square i) (omega (arith, mul-le-mul h h))
@@ -376,11 +374,6 @@ divides f (suc n) i h =
       | inl e ↦ (product f n, rw e (mul-comm (f n) (product f n)))
       | inr l ↦ let c = divides f n i l in (c .0 * f n, sym (mul-assoc _ _ _) ∙ ap (λ (z : ℕ). z * f n) (c .1))
     ]
-
-product-pos : (f : ℕ → ℕ) (n : ℕ) → ((i : ℕ) → i < n → 0 < f i) → 0 < product f n
-unfolding product
-product-pos f zero h = omega arith
-product-pos f (suc n) h = mul-pos (product-pos f n (λ i k. h i (omega (arith, k)))) (h n (omega arith))
 
 exact : (P c D : ℕ) → 0 < P → P * c ≡ D → P * (D / P) ≡ D
 exact P c D h e = subst (λ (z : ℕ). P * (z / P) ≡ z) e (ap (λ (z : ℕ). P * z) (mul-div-cancel-left c h))

@@ -1,8 +1,8 @@
 -- The parabola that touches Student's curve at a point, as a line in y² (`Lines`): it lies below every height that is at least the curve's (`line`), and below 1/y²,
 -- whatever the point is that the height belongs to. All in whole numbers: the y of a point is x/D, and heights are in units of 1/(U H).
-use mathlib.Core.Path.{_≡_, sym, ap, ap₂, subst, _∙_}
+use mathlib.Core.Path.{_≡_, sym, ap, subst, _∙_}
 use Prim.Native.Nat.{ℕ, zero, suc, _+_, _*_, _^_, _≤_, _<_}
-use native.Mathlib.Nat.{mul-le-mul, mul-le-mul-left, mul-le-mul-right, le-of-mul-le-mul-left, le-of-mul-le-mul-right, le-dest, le-refl, le-trans, le-of-lt, lt-of-not-le, lt-of-lt-of-le, mul-pos, pow-zero, pow-suc, pow-le-pow-left, one-le-pow, one-mul, mul-one}
+use native.Mathlib.Nat.{mul-le-mul, mul-le-mul-left, le-of-mul-le-mul-left, le-of-mul-le-mul-right, le-dest, le-trans, le-of-lt, lt-of-not-le, lt-of-lt-of-le, mul-pos, pow-zero, pow-suc, pow-le-pow-left, one-le-pow}
 use native.Mathlib.Decide.{decLe}
 use native.Mathlib.Omega.{arith}
 use Rattle.student.specs.Parabolas.{under}
