@@ -16,7 +16,7 @@
 -- Looked for: what else could show a bound that is none.
 -- - Bounds of the series with the denominator 0: no partial sum exceeds u/0, but then the area's bound has the denominator 0 too, and shows nothing (`Ratio`).
 -- - No terms at all: the sum is 0/1, which bounds from below.
--- - N = 0, where the area is 0 times a series without a bound: from above only u/0 passes, and from below 0.
+-- - N = 0, which no entry asks for: the area is 0 times a series that has no bound (which is not proved), so that from above only u/0 passes, and from below 0.
 -- - ν = 0: the numerators of both areas are 0, and nothing is below or above.
 -- There is no division and no difference here.
 use mathlib.Core.Path.{_≡_}
