@@ -1,5 +1,5 @@
 -- Document 01's T1 to T12 together, stated with the names that the public contracts cite. Assumes nothing.
-use mathlib.Core.Path.{_≡_, refl, ap, _∙_}
+use mathlib.Core.Path.{_≡_, refl, sym, ap, _∙_}
 use mathlib.Core.Bool.{Bool, true, false}
 use mathlib.Core.List.{List, [], _∷_}
 use Prim.Native.Nat.{ℕ, zero, suc, _<_}
@@ -25,7 +25,7 @@ use Rattle.solve.specs.Solve.{solve}
 use Rattle.solve.specs.declared.Solved.{Solved}
 use Rattle.score.specs.Score.{likelihoodOf, aicOf}
 use Rattle.score.specs.declared.Criterion.the-variants.{Aic}
-use Rattle.choice.specs.Choice.{degree, yields, leastOf, near, chosenOf, chosen-same}
+use Rattle.choice.specs.Choice.{degree, yields, leastOf, near, chosenOf, least-same, chosen-same}
 use Rattle.choice.specs.declared.Scored.{Scored}
 use Rattle.basis.specs.Counts.{countOf}
 use Rattle.basis.specs.declared.Basis.the-variants.{Curve}
@@ -63,6 +63,8 @@ pub record Cases : Type 0 where
   pub t11 : choiceOf Aic (sumsOf (rowsOf line)) (rowsOf line) (countsOf Curve (maxDegree (Custom (degree 1)) 3)) .chosen ≡ Some (degree 0)
   -- whose score is exactly 2 above
   pub t11-above : sub binary64 (scoredBy Aic (sumsOf (rowsOf line)) (rowsOf line) (rowsOf line) 1 .score) (scoredBy Aic (sumsOf (rowsOf line)) (rowsOf line) (rowsOf line) 2 .score) ≡ twoF
+  -- degree 1's, which is the least
+  pub t11-least : leastOf (tried Aic (sumsOf (rowsOf line)) (rowsOf line) (countsOf Curve (maxDegree (Custom (degree 1)) 3))) 2 ≡ scoredBy Aic (sumsOf (rowsOf line)) (rowsOf line) (rowsOf line) 2 .score
   -- (2,1),(2,5), T11's settings: degree 1 unsolved, choice 0
   pub t12-unsolved : isSolved (sumsOf (rowsOf twice)) (rowsOf twice) 2 ≡ false
   pub t12 : choiceOf Aic (sumsOf (rowsOf twice)) (rowsOf twice) (countsOf Curve (maxDegree (Custom (degree 1)) 2)) .chosen ≡ Some (degree 0)
@@ -86,6 +88,10 @@ line-chosen = refl
 line-above : sub binary64 (aicOf 3 1 zeroF) (aicOf 3 2 zeroF) ≡ twoF
 unfolding aicOf likelihoodOf maximumF isNan lnF lnPositive lnBits mBits kBiased lnSum ofInt ofBits toBits round size span climb odd units sum add sub mul div neg lt le eq trailingZeros
 line-above = refl
+
+line-least : leastOf (known (record { solved = true; score = aicOf 3 1 zeroF }) (record { solved = true; score = aicOf 3 2 zeroF })) 2 ≡ aicOf 3 2 zeroF
+unfolding leastOf yields from turns aicOf likelihoodOf maximumF isNan lnF lnPositive lnBits mBits kBiased lnSum ofInt ofBits toBits round size span climb odd units sum add sub mul div neg lt le eq trailingZeros
+line-least = refl
 
 twice-chosen : chosenOf (known (record { solved = true; score = aicOf 2 1 zeroF }) (record { solved = false; score = zeroF })) 2 ≡ Some (degree 0)
 unfolding chosenOf leastOf yields near seek seeks from turns aicOf likelihoodOf maximumF isNan lnF lnPositive lnBits mBits kBiased lnSum ofInt ofBits toBits round size span climb odd units sum add sub mul div neg lt le eq trailingZeros
@@ -114,6 +120,7 @@ cases =
       t10-solved = solved-is (rowsOf line) 2 true _ line-score-1;
       t11 = chosen-same _ _ 2 (below-two _ line-score-0 line-score-1) ∙ line-chosen;
       t11-above = rw (line-score-0, line-score-1) line-above;
+      t11-least = least-same _ _ 2 (below-two _ line-score-0 line-score-1) ∙ line-least ∙ sym (ap (λ (s : Scored). s .score) line-score-1);
       t12-unsolved = solved-is (rowsOf twice) 2 false _ twice-score-1;
       t12 = chosen-same _ _ 2 (below-two _ twice-score-0 twice-score-1) ∙ twice-chosen;
     }

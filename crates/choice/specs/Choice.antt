@@ -1,5 +1,5 @@
 -- Document 01's choice among the degrees 0, 1, .. below b, where S d says of degree d whether it is solved, and its score. Assumes nothing.
-use mathlib.Core.Path.{_≡_, ap, _∙_}
+use mathlib.Core.Path.{_≡_, refl, ap, _∙_}
 use mathlib.Core.Bool.{Bool, false, cond, _&&_}
 use mathlib.Core.Option.{Option, none, some}
 use mathlib.Core.List.{List}
@@ -11,7 +11,7 @@ use Rattle.choice.specs.declared.Scored.{Scored}
 use Rattle.basis.specs.declared.Degree.{Degree}
 use Rattle.basis.specs.declared.OptionDegree.{OptionDegree}
 use Rattle.basis.specs.declared.OptionDegree.the-variants.{Some, None}
-use Rattle.value.specs.Numbers.{twoF, infinityF}
+use Rattle.value.specs.Numbers.{zeroF, twoF, infinityF}
 
 -- the degree d
 abbrev pub degree : ℕ → Degree
@@ -37,9 +37,23 @@ degreeOf (some d) = Some (degree d)
 unfoldable pub chosenOf : (ℕ → Scored) → ℕ → OptionDegree
 chosenOf S b = degreeOf (seek (λ d. near (leastOf S b) (S d)) 0 b)
 
+-- the score of the chosen degree; +0 stands where none is chosen
+unfoldable pub chosenScore : (ℕ → Float) → OptionDegree → Float
+chosenScore score None = zeroF
+chosenScore score (Some d) = score (d .0)
+
+-- a degree, if one is chosen, is below b
+abbrev pub Below : ℕ → OptionDegree → Type 0
+Below b None = Unit {0}
+Below b (Some d) = d .0 < b
+
 -- the number of solved degrees
 unfoldable pub solvedCount : (ℕ → Scored) → ℕ → ℕ
 solvedCount S b = from (λ d m. cond (S d .solved) (m + 1) m) 0 b 0
+
+-- how many of the first b flags are true
+unfoldable pub flagCount : List Bool → ℕ → ℕ
+flagCount flags b = from (λ d m. cond (getD flags d false) (m + 1) m) 0 b 0
 
 -- of two arrays
 abbrev pub scoredAt : List Bool → List Float → ℕ → Scored
@@ -59,3 +73,8 @@ module _ (S R : ℕ → Scored) (b : ℕ) (same : (d : ℕ) → d < b → S d �
   pub count-same : solvedCount S b ≡ solvedCount R b
   unfolding solvedCount
   count-same = from-same _ _ b 0 (λ d m h. ap (λ (s : Scored). cond (s .solved) (m + 1) m) (same d h))
+
+-- the solved degrees of two arrays are the flags of the first
+pub count-flags : (u : List Bool) (v : List Float) (b : ℕ) → flagCount u b ≡ solvedCount (scoredAt u v) b
+unfolding flagCount solvedCount
+count-flags u v b = refl

@@ -3,7 +3,7 @@ use mathlib.Core.Path.{_≡_, refl, sym, ap, _∙_}
 use mathlib.Core.Bool.{Bool, true, false, cond, not, _&&_, _||_}
 use mathlib.Core.Logic.{_⊎_, inl, inr}
 use mathlib.Core.Option.{Option, none, some}
-use Prim.Native.Nat.{ℕ, zero, suc, _-_, _*_, _<_}
+use Prim.Native.Nat.{ℕ, zero, suc, _-_, _*_, _≤_, _<_}
 use native.Mathlib.Nat.{mul-pos}
 use native.Mathlib.Omega.{arith}
 use borrow.Author.Tests.{ltb-true, ltb-false, le-ltb}
@@ -21,7 +21,7 @@ use Rattle.basis.specs.declared.OptionDegree.{OptionDegree}
 use Rattle.basis.specs.declared.OptionDegree.the-variants.{Some, None}
 use Rattle.value.specs.Numbers.{twoF, infinityF}
 use Rattle.value.specs.Order.{lt-itself, lt-trans}
-use Rattle.choice.specs.Choice.{degree, yields, leastOf, near, degreeOf, chosenOf}
+use Rattle.choice.specs.Choice.{degree, yields, leastOf, near, degreeOf, chosenOf, chosenScore, Below}
 
 -- ---- the least
 
@@ -253,3 +253,24 @@ none-such-only S b h = go (chosenOf S b) refl
     go : (p : OptionDegree) → chosenOf S b ≡ p → chosenOf S b ≡ None
     go None q = q
     go (Some d) q = absurd (h (d .0) (chosen S b (d .0) q))
+
+-- ---- the chosen degree's place and score
+
+pub chosen-below : (S : ℕ → Scored) (b m : ℕ) (o : OptionDegree) → b ≤ m → o ≡ chosenOf S b → Below m o
+chosen-below S b m None h e = tt
+chosen-below S b m (Some d) h e = omega (arith, chosen S b (d .0) (sym e) .within)
+
+-- where two ways to score agree below b, they agree of the chosen degree
+pub chosen-score-same : (S R : ℕ → Scored) (b : ℕ) → ((d : ℕ) → d < b → S d ≡ R d) → (o : OptionDegree) → o ≡ chosenOf S b
+    → chosenScore (λ d. S d .score) o ≡ chosenScore (λ d. R d .score) o
+unfolding chosenScore
+chosen-score-same S R b same None e = refl
+chosen-score-same S R b same (Some d) e = ap (λ (s : Scored). s .score) (same (d .0) (chosen S b (d .0) (sym e) .within))
+
+-- where it is d
+pub below-some : (b : ℕ) (o : OptionDegree) (d : Degree) → o ≡ Some d → Below b o → d .0 < b
+below-some b o d e h = rw e at h
+
+pub score-some : (score : ℕ → Float) (o : OptionDegree) (d : Degree) → o ≡ Some d → score (d .0) ≡ chosenScore score o
+unfolding chosenScore
+score-some score o d e = rw e

@@ -1,9 +1,11 @@
-// The choice among the degrees below b, of which each is solved or not and has a score.
+// The choice among the degrees below b, of which each is solved or not and has a score. The arrays have 16 places, so b is at most 16.
 use basis::Degree;
 use basis::OptionDegree;
 ghost use mathlib.Core.Path.{_≡_};
 ghost use Prim.Native.Nat.{_≤_};
-ghost use Rattle.choice.specs.Choice.{scoredAt, yields, near, leastOf, chosenOf, solvedCount};
+ghost use lib.Ieee.{nan};
+ghost use lib.ListN.{getD};
+ghost use Rattle.choice.specs.Choice.{scoredAt, yields, near, leastOf, chosenOf, chosenScore, Below, flagCount};
 
 // A degree's score, where it is solved.
 pub struct Scored {
@@ -60,10 +62,22 @@ pub fn lowest(solved: &[bool; 16], score: &[f64; 16], b: usize) -> OptionDegree
     OptionDegree::None
 }
 
+// The score of the chosen degree, +0 where none is chosen.
+pub fn score_of(score: &[f64; 16], chosen: OptionDegree) -> f64
+    requires { ⌜ Below 16 chosen ⌝ }
+    ensures { λ r. ⌜ r ≡ chosenScore (λ d. getD (now (score .entry)) d nan) chosen ⌝ }
+{
+    let OptionDegree::Some(degree) = chosen else {
+        return 0.0;
+    };
+    let d = degree.0;
+    score[d]
+}
+
 // How many degrees are solved.
-pub fn solved_of(solved: &[bool; 16], score: &[f64; 16], b: usize) -> usize
+pub fn solved_of(solved: &[bool; 16], b: usize) -> usize
     requires { ⌜ b ≤ 16 ⌝ }
-    ensures { λ r. ⌜ r ≡ solvedCount (scoredAt (now (solved .entry)) (now (score .entry))) b ⌝ }
+    ensures { λ r. ⌜ r ≡ flagCount (now (solved .entry)) b ⌝ }
 {
     let mut m = 0;
     for d in 0..b {

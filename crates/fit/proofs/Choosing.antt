@@ -4,8 +4,8 @@ use mathlib.Core.Bool.{Bool, false}
 use mathlib.Core.List.{List}
 use Prim.Native.Nat.{ℕ, _+_, _≤_, _<_}
 use native.Mathlib.Omega.{arith}
-use lib.ListN.{replicate}
-use lib.Ieee.{Float}
+use lib.ListN.{getD, replicate}
+use lib.Ieee.{Float, nan}
 use Rattle.loops.specs.Fold.{fold}
 use Rattle.loops.specs.Places.{each, table, table-at, length-table, map-table}
 use Rattle.value.specs.Numbers.{zeroF}
@@ -14,7 +14,8 @@ use Rattle.basis.specs.Counts.{countOf}
 use Rattle.basis.specs.declared.Basis.{Basis}
 use Rattle.monomial.specs.Rows.{Row}
 use Rattle.score.specs.declared.Criterion.{Criterion}
-use Rattle.choice.specs.Choice.{chosenOf, solvedCount, scoredAt, chosen-same, count-same}
+use Rattle.choice.specs.Choice.{chosenOf, chosenScore, flagCount, scoredAt, chosen-same, count-same, count-flags}
+use Rattle.choice.specs.Laws.{chosen-score-same}
 use Rattle.choice.specs.declared.Scored.{Scored}
 use Rattle.fit.specs.Chosen.{countsOf, tried, testsOf, choiceOf, scores-at}
 use Rattle.fit.specs.Solved.{scoredBy, pivotTests}
@@ -35,11 +36,12 @@ module _ (basis : Basis) (criterion : Criterion) (sums : List Float) (rows : Lis
 
   pub choice-is : (bound : ℕ) (u : List Bool) (v : List Float) → bound + 1 ≤ 16
       → u ≡ each (λ e _. known e .solved) (bound + 1) (replicate 16 false) → v ≡ each (λ e _. known e .score) (bound + 1) (replicate 16 zeroF)
-      → (p : OptionDegree) (m t : ℕ) → p ≡ chosenOf (scoredAt u v) (bound + 1) → m ≡ solvedCount (scoredAt u v) (bound + 1)
-      → t ≡ fold _+_ 0 (table (λ e. pivotTests sums (countOf basis e)) (bound + 1)) → record { chosen = p; solved = m; tests = t } ≡ choiceOf criterion sums rows (countsOf basis bound)
+      → (p : OptionDegree) (w : Float) (m t : ℕ) → p ≡ chosenOf (scoredAt u v) (bound + 1) → w ≡ chosenScore (λ d. getD v d nan) p → m ≡ flagCount u (bound + 1)
+      → t ≡ fold _+_ 0 (table (λ e. pivotTests sums (countOf basis e)) (bound + 1))
+      → record { chosen = p; score = w; solved = m; tests = t } ≡ choiceOf criterion sums rows (countsOf basis bound)
   unfolding choiceOf testsOf
-  choice-is bound u v l eu ev p m t ep em et =
-      rw (length-table (countOf basis) (bound + 1), ep, em, et, chosen-same (scoredAt u v) S (bound + 1) same, count-same (scoredAt u v) S (bound + 1) same, ← (map-table (pivotTests sums) (countOf basis) (bound + 1)))
+  choice-is bound u v l eu ev p w m t ep ew em et =
+      rw (length-table (countOf basis) (bound + 1), ew, chosen-score-same (scoredAt u v) S (bound + 1) same p ep, ep, em, et, count-flags u v (bound + 1), chosen-same (scoredAt u v) S (bound + 1) same, count-same (scoredAt u v) S (bound + 1) same, ← (map-table (pivotTests sums) (countOf basis) (bound + 1)))
     where
       S : ℕ → Scored
       S = tried criterion sums rows (countsOf basis bound)

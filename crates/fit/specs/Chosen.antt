@@ -13,7 +13,7 @@ use Rattle.basis.specs.Counts.{countOf}
 use Rattle.basis.specs.declared.Basis.{Basis}
 use Rattle.monomial.specs.Rows.{Row}
 use Rattle.score.specs.declared.Criterion.{Criterion}
-use Rattle.choice.specs.Choice.{chosenOf, solvedCount, scoredAt}
+use Rattle.choice.specs.Choice.{chosenOf, chosenScore, solvedCount, scoredAt}
 use Rattle.choice.specs.declared.Scored.{Scored}
 use Rattle.fit.specs.declared.Choice.{Choice}
 use Rattle.fit.specs.Solved.{scoredBy, pivotTests}
@@ -30,11 +30,12 @@ tried criterion sums rows counts d = scoredBy criterion sums rows rows (getD cou
 unfoldable pub testsOf : List Float → List ℕ → ℕ
 testsOf sums counts = fold _+_ 0 (map (pivotTests sums) counts)
 
--- the chosen degree or none, the number of solved degrees, and the number of pivot tests
+-- the chosen degree or none, its score, the number of solved degrees, and the number of pivot tests
 unfoldable pub choiceOf : Criterion → List Float → List Row → List ℕ → Choice
 choiceOf criterion sums rows counts =
     record {
       chosen = chosenOf (tried criterion sums rows counts) (length counts);
+      score = chosenScore (λ d. tried criterion sums rows counts d .score) (chosenOf (tried criterion sums rows counts) (length counts));
       solved = solvedCount (tried criterion sums rows counts) (length counts);
       tests = testsOf sums counts;
     }

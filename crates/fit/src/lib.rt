@@ -144,9 +144,10 @@ pub fn trial(
     }
 }
 
-// The chosen degree or none, the number of solved degrees, and the number of pivot tests.
+// The chosen degree or none, its score (+0 where none is chosen), the number of solved degrees, and the number of pivot tests.
 pub struct Choice {
     pub chosen: OptionDegree,
+    pub score: f64,
     pub solved: usize,
     pub tests: usize,
 }
@@ -178,9 +179,12 @@ pub fn choose(
         score[d] = t.score;
         tests = tests + t.tests;
     }
+    let chosen = choice::lowest(&solved, &score, b);
+    let number = choice::solved_of(&solved, b);
     Choice {
-        chosen: choice::lowest(&solved, &score, b),
-        solved: choice::solved_of(&solved, &score, b),
+        chosen,
+        score: choice::score_of(&score, chosen),
+        solved: number,
         tests,
     }
 }

@@ -1,7 +1,7 @@
 -- `choice::solved_of` meets its contract. Assumes nothing.
 use mathlib.Core.Path.{_≡_, refl, sym, _∙_}
 use Prim.Native.Nat.{_+_, _-_, _≤_}
-use Rattle.choice.specs.Choice.{solvedCount}
+use Rattle.choice.specs.Choice.{flagCount}
 use mathlib.Core.Bool.{cond, false}
 use mathlib.Core.Logic.{⊎-elim}
 use lib.ListN.{getD}
@@ -12,11 +12,11 @@ use Rattle.choice.proofs.solved_of.Statement.{statement}
 use Rattle.choice.proofs.solved_of.Tie as tie
 
 abbrev Inv-loop : tie.InvT-loop
-Inv-loop solved score b m₀ d₀ m d =
+Inv-loop solved b m₀ d₀ m d =
     (m ≤ d) × (from (λ j v. cond (getD solved j false) (v + 1) v) d b m ≡ from (λ j v. cond (getD solved j false) (v + 1) v) d₀ b m₀)
 
 abbrev μ-loop : tie.MeasureT-loop
-μ-loop solved score b m₀ d₀ m d =
+μ-loop solved b m₀ d₀ m d =
     b - d
 
 loop-holds : tie.Need-loop-holds Inv-loop μ-loop
@@ -29,7 +29,7 @@ loop-again c =
     ⊎-elim (λ w. rw (w .1) (omega arith, rw (w .0 .taken) at g)) (λ w. rw (w .1) (omega arith, rw (w .0 .left) at g)) (c .if1 .came)
 
 returns : tie.Need-returns Inv-loop μ-loop
-unfolding solvedCount
+unfolding flagCount
 returns c =
     sym (done _ _ _ _ (c .loop-test .left)) ∙ c .before .loop .inv .1
 

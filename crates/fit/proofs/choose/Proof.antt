@@ -10,6 +10,7 @@ use Rattle.loops.specs.Places.{each, each-again, table}
 use Rattle.loops.specs.Within.{Within, within-itself, within-then}
 use Rattle.basis.specs.Counts.{countOf, count-mono}
 use Rattle.monomial.specs.Rows.{rowsAt}
+use Rattle.choice.specs.Laws.{chosen-below}
 use Rattle.choice.specs.declared.Scored.{Scored}
 use Rattle.fit.specs.Solved.{scoredBy, pivotTests}
 use Rattle.fit.proofs.Choosing.{tests-at-most, known, choice-is}
@@ -69,13 +70,18 @@ loop-again c =
       rw (at-loop .inv .5, t) (sym (fold-table _+_ 0 (λ j. pivotTests (a .sums .now) (countOf (a .basis) j)) (at-loop .d))),
     )
 
+score-of-requires : tie.Need-score-of-requires Inv-loop μ-loop
+score-of-requires c κs =
+    let at-lowest = c .before .before .before .lowest in
+    chosen-below _ _ 16 _ (search needs) (at-lowest .ensures)
+
 returns : tie.Need-returns Inv-loop μ-loop
 returns c =
-    let at-loop = c .before .before .before .before .before .before .before .loop in
-    let at-args = c .before .before .before .before .before .before .before .before .before .before .before .before .before .before .args in
-    let at-lowest = c .before .before .before .lowest in
+    let at-loop = c .before .before .before .before .before .before .before .before .loop in
+    let at-args = c .before .before .before .before .before .before .before .before .before .before .before .before .before .before .before .args in
+    let at-lowest = c .before .before .before .before .lowest in
     let z : at-loop .d ≡ at-args .bound .0 + 1 = omega arith in (
-      choice-is (at-args .basis) (at-args .criterion) (at-args .sums .now) (rowsAt (at-args .basis) (at-args .n) (at-args .xs .now) (at-args .zs .now) (at-args .ys .now)) (at-args .bound .0) (at-loop .solved) (at-loop .score) (search needs) (rw z at (at-loop .inv .3)) (rw z at (at-loop .inv .4)) _ _ _ (at-lowest .ensures) (c .solved-of .ensures) (rw z at (at-loop .inv .5)),
+      choice-is (at-args .basis) (at-args .criterion) (at-args .sums .now) (rowsAt (at-args .basis) (at-args .n) (at-args .xs .now) (at-args .zs .now) (at-args .ys .now)) (at-args .bound .0) (at-loop .solved) (at-loop .score) (search needs) (rw z at (at-loop .inv .3)) (rw z at (at-loop .inv .4)) _ _ _ _ (at-lowest .ensures) (c .score-of .ensures) (c .before .before .solved-of .ensures) (rw z at (at-loop .inv .5)),
       at-loop .inv .2,
     )
 
@@ -98,5 +104,6 @@ choose-spec =
     loop-again
     (λ c κs. search needs)
     (λ c κs. search needs)
+    score-of-requires
     (λ c. search needs)
     returns)
