@@ -2,3 +2,4 @@
 pub mod Low
 pub mod Parts
 pub mod Surface
+pub mod Lines

@@ -4,3 +4,5 @@ pub mod Terms
 pub mod Rows
 pub mod Adding
 pub mod Sums
+pub mod Corner
+pub mod CornerLaws

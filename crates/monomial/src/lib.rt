@@ -11,8 +11,9 @@ ghost use Rattle.value.specs.Numbers.{zeroF};
 ghost use Rattle.value.specs.Power.{powerF};
 ghost use Rattle.monomial.specs.Samples.{samplesOf};
 ghost use Rattle.monomial.specs.Terms.{surfaceTerms, termsAt};
-ghost use Rattle.monomial.specs.Rows.{rowOf, rowsOf, fitted as fittedF};
-ghost use Rattle.monomial.specs.Sums.{productOf, addRow, sumsOf};
+ghost use Rattle.monomial.specs.Rows.{rowOf, rowsOf, rowsAt, fitted as fittedF};
+ghost use Rattle.monomial.specs.Sums.{productOf, addRow, addRows, sumsOf};
+ghost use Rattle.monomial.specs.Corner.{CornerSet};
 
 // Coefficient × term value, ascending, for the k coefficients.
 pub fn fitted(k: CoefficientCount, c: &[f64; 16], terms: &[f64; 16]) -> f64
@@ -164,6 +165,47 @@ pub fn add_sample(sums: &mut [f64], x: f64, y: f64)
 {
     let terms = value::powers(x);
     add_row(&mut *sums, &terms, y);
+}
+
+// Adds the products of a row in the corner of k rows and columns of A and in the first k places of g.
+fn add_row_corner(sums: &mut [f64], k: CoefficientCount, terms: &[f64; 16], y: f64)
+    requires { ⌜ (272 ≤ length (now sums)) × (k .0 ≤ 16) ⌝ }
+    ensures { λ _. ⌜ CornerSet (k .0) (addRow (now (sums .entry)) (record { terms = now (terms .entry); y = y })) (now (sums .entry)) (now (sums .exit)) ⌝ }
+{
+    let n = k.0;
+    if n == 16 {
+        add_row(&mut *sums, terms, y);
+        return;
+    }
+    for i in 0..n {
+        let t = terms[i];
+        for j in 0..n {
+            let at = 16 * i + j;
+            sums[at] = sums[at] + t * terms[j];
+        }
+        let g = 256 + i;
+        sums[g] = sums[g] + t * y;
+    }
+}
+
+// Adds the rows of the places from start on and before end in that corner, which is all that k coefficients are solved from.
+pub fn add_corner(
+    basis: Basis,
+    xs: &[f64],
+    zs: &[f64],
+    ys: &[f64],
+    start: usize,
+    end: usize,
+    k: CoefficientCount,
+    sums: &mut [f64],
+)
+    requires { ⌜ (start ≤ end) × (end ≤ length (now xs)) × (end ≤ length (now zs)) × (end ≤ length (now ys)) × (k .0 ≤ 16) × (272 ≤ length (now sums)) ⌝ }
+    ensures { λ _. ⌜ CornerSet (k .0) (addRows (now (sums .entry)) (drop start (rowsAt basis end (now (xs .entry)) (now (zs .entry)) (now (ys .entry))))) (now (sums .entry)) (now (sums .exit)) ⌝ }
+{
+    for t in start..end {
+        let terms = terms_at(basis, xs[t], zs[t]);
+        add_row_corner(&mut *sums, k, &terms, ys[t]);
+    }
 }
 
 // The 272 places become the sums over the first n places of the columns, folded afresh.
