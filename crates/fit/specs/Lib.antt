@@ -3,3 +3,4 @@ pub mod Residuals
 pub mod Solved
 pub mod Promises
 pub mod Chosen
+pub mod Corner

@@ -2,7 +2,9 @@
 use mathlib.Core.List.{List, [], _∷_, map}
 use Prim.Native.Nat.{ℕ, zero, suc, _<_}
 use native.Mathlib.Nat.{not-suc-le-zero, le-of-suc-le-suc}
+use native.Mathlib.Omega.{arith}
 use lib.ListN.{length, getD, take, drop}
+use Rattle.loops.specs.Places.{table}
 
 abbrev pub All : {A : Type 0} → (A → Type 0) → List A → Type 0
 All P [] = Unit {0}
@@ -29,3 +31,9 @@ all-part P zero (suc m) (x ∷ xs) h = (h .0, all-part P zero m xs (h .1))
 all-part P (suc a) zero l h = tt
 all-part P (suc a) (suc m) [] h = tt
 all-part P (suc a) (suc m) (x ∷ xs) h = all-part P a (suc m) xs (h .1)
+
+-- of every place of a table
+pub all-table : {A : Type 0} (P : A → Type 0) (f : ℕ → A) (n : ℕ) → ((k : ℕ) → k < n → P (f k)) → All P (table f n)
+unfolding table
+all-table P f zero h = tt
+all-table P f (suc n) h = (h 0 (omega arith), all-table P (λ k. f (suc k)) n (λ k q. h (suc k) (omega arith)))

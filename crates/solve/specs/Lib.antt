@@ -1,3 +1,4 @@
 -- Document 01's solution and inverse of the corner of A.
 pub mod Solve
+pub mod Corner
 pub mod Laws
