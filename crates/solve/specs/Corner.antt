@@ -6,11 +6,11 @@ use Prim.Native.Nat.{ℕ, _+_, _-_, _*_, _≤_, _<_}
 use native.Mathlib.Omega.{arith}
 use borrow.Author.Tests.{eqb-true, eqb-false}
 use lib.Dec.{eqb}
-use lib.ListN.{length, getD, set, replicate, length-set}
+use lib.ListN.{length, getD, set, replicate, length-set, length-replicate}
 use lib.Seq.{getD-set-same, getD-set-other, getD-take, length-take-le}
 use lib.Ieee.{Float, nan, binary64, add, sub, mul, div}
 use Rattle.loops.specs.Loop.{Together, from-related, while-related}
-use Rattle.loops.specs.Places.{each-same}
+use Rattle.loops.specs.Places.{each, each-same, each-at, length-each}
 use Rattle.value.specs.Numbers.{zeroF, epsilon}
 use Rattle.monomial.specs.Corner.{SameCorner}
 use Rattle.solve.specs.Solve.{System, cell, pivotHolds, lessCell, clearRow, clearBelow, eliminate, lessTerm, backRow, back, matrixOf, rightOf, solved, solve, liftCell, lift, unit, unitColumn, columnHolds, inverseColumn, inverseColumns, inverse}
@@ -140,3 +140,28 @@ module _ (k : ℕ) (h : k ≤ 16) (s t : List Float) (hs : 256 ≤ length s) (ht
       while-related (λ (u v : List Float). u ≡ v) (columnHolds k (lift k (matrixOf s))) (columnHolds k (lift k (matrixOf t))) (inverseColumn k (lift k (matrixOf s))) (inverseColumn k (lift k (matrixOf t)))
       0 k (replicate 256 zeroF) (replicate 256 zeroF) (λ j u v i l o. column-same k h (lift k (matrixOf s)) (lift k (matrixOf t)) j u v q o) refl in
       rw (e .stop, e .related)
+
+-- ---- the solution from the first k rows of A alone, with the sums for starting values
+
+-- +0 stands in the other rows
+unfoldable pub firstRows : List Float → ℕ → List Float
+firstRows sums k = each (λ p _. getD sums p nan) (16 * k) (replicate 256 zeroF)
+
+module _ (sums : List Float) (k : ℕ) (h : k ≤ 16) (l : 256 ≤ length sums) where
+  starts-same : SameCells k (matrixOf sums) sums
+  starts-same = record { long = omega (arith, length-take-le 256 sums l); long′ = l; cells = λ i j hi hj. getD-take 256 sums (16 * i + j) nan (omega arith) }
+
+  rows-same : SameCells k (matrixOf sums) (firstRows sums k)
+  unfolding firstRows
+  rows-same =
+      record {
+        long = omega (arith, length-take-le 256 sums l);
+        long′ = omega (arith, length-each (λ p _. getD sums p nan) (16 * k) (replicate 256 zeroF), length-replicate 256 zeroF);
+        cells = λ i j hi hj. getD-take 256 sums (16 * i + j) nan (omega arith)
+            ∙ sym (each-at (λ p _. getD sums p nan) (16 * k) (replicate 256 zeroF) (16 * i + j) nan (omega arith) (omega (arith, length-replicate 256 zeroF)));
+      }
+
+  pub solve-first-rows : solve sums k ≡ solved k (eliminate sums k (record { m = firstRows sums k; b = rightOf sums k }))
+  unfolding solve
+  solve-first-rows =
+      solved-same k h (matrixOf sums) sums (record { m = matrixOf sums; b = rightOf sums k }) (record { m = firstRows sums k; b = rightOf sums k }) starts-same (record { corner = rows-same; right = refl })

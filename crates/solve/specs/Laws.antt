@@ -2,17 +2,17 @@
 use mathlib.Core.Path.{_≡_, refl, ap, _∙_}
 use mathlib.Core.Bool.{Bool, true, false, cond}
 use mathlib.Core.List.{List}
-use Prim.Native.Nat.{ℕ, _+_, _-_, _≤_, _<_}
+use Prim.Native.Nat.{ℕ, _+_, _-_, _*_, _≤_, _<_}
 use native.Mathlib.Omega.{arith}
 use borrow.Author.Tests.{le-leb, lt-leb}
 use lib.Dec.{ltb, leb}
-use lib.ListN.{getD, replicate}
+use lib.ListN.{length, getD, replicate, length-set}
 use lib.Ieee.{Float, nan}
 use Rattle.loops.specs.Loop.{Stopped, from-related, from-keeps, while-related, while-keeps, while-all, while-fails}
 use Rattle.loops.specs.Places.{each-rest, length-each}
 use Rattle.loops.specs.Within.{Within, within-itself, within-then, within-set}
 use Rattle.value.specs.Numbers.{zeroF}
-use Rattle.solve.specs.Solve.{System, pivotHolds, clearRow, clearBelow, eliminate, backRow, back, matrixOf, rightOf, solved, solve, lift, unit, unitColumn, columnHolds, inverseColumn, inverseColumns, inverse}
+use Rattle.solve.specs.Solve.{System, pivotHolds, clearRow, clearBelow, eliminate, backRow, back, matrixOf, rightOf, solved, solve, liftCell, lift, unit, unitColumn, columnHolds, inverseColumn, inverseColumns, inverse}
 
 -- ---- the inverse is whole exactly when no pivot fails
 
@@ -54,6 +54,11 @@ module _ (sums : List Float) (k : ℕ) (b : List Float) where
   inverse-none e =
       ap (λ (u : Stopped (List Float)). u .at)
       (while-fails (columnHolds k (lift k (matrixOf sums))) (inverseColumn k (lift k (matrixOf sums))) 0 k (replicate 256 zeroF) (omega (arith, e)) (column-test 0 (replicate 256 zeroF) ∙ lt-leb k liftedHeld e))
+
+-- the corner with 2⁻⁵² added is as long
+pub length-lift : (k : ℕ) (m : List Float) → length (lift k m) ≡ length m
+unfolding lift
+length-lift k m = from-keeps (λ t. length t ≡ length m) liftCell 0 k m (λ i t a b e. length-set t (16 * i + i) _ ∙ e) refl
 
 -- ---- the solution has 16 places, +0 from k on
 

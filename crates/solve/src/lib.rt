@@ -5,6 +5,7 @@ ghost use mathlib.Core.Path.{_≡_};
 ghost use Prim.Native.Nat.{_≤_, _<_};
 ghost use lib.ListN.{length};
 ghost use Rattle.solve.specs.Solve.{eliminate as eliminateF, back, matrixOf, rightOf, solve as solveF, lift as liftF, putColumn, inverse as inverseF};
+ghost use Rattle.solve.specs.Corner.{firstRows};
 
 // 2 to the power −48.
 const PIVOT_RATIO: f64 = f64::from_bits(0x3CF0_0000_0000_0000);
@@ -14,13 +15,8 @@ const EPSILON: f64 = f64::from_bits(0x3CB0_0000_0000_0000);
 
 // Eliminates on the k by k corner of m, with b beside it, and is abandoned at the first pivot that is not greater than 2⁻⁴⁸ × its
 // starting value. Answers how many pivots held.
-pub fn eliminate(
-    start: &[f64; 256],
-    k: CoefficientCount,
-    m: &mut [f64; 256],
-    b: &mut [f64; 16],
-) -> usize
-    requires { ⌜ k .0 ≤ 16 ⌝ }
+pub fn eliminate(start: &[f64], k: CoefficientCount, m: &mut [f64; 256], b: &mut [f64; 16]) -> usize
+    requires { ⌜ (256 ≤ length (now start)) × (k .0 ≤ 16) ⌝ }
     ensures { λ held. ⌜ record { at = held; state = record { m = now (m .exit); b = now (b .exit) } } ≡ eliminateF (now (start .entry)) (k .0) (record { m = now (m .entry); b = now (b .entry) }) ⌝ }
 {
     let n = k.0;
@@ -72,6 +68,19 @@ fn matrix_of(sums: &[f64]) -> [f64; 256]
     a
 }
 
+// The first k rows of A, then +0, which no step for k coefficients reads.
+fn first_rows(sums: &[f64], k: CoefficientCount) -> [f64; 256]
+    requires { ⌜ (256 ≤ length (now sums)) × (k .0 ≤ 16) ⌝ }
+    ensures { λ r. ⌜ r ≡ firstRows (now (sums .entry)) (k .0) ⌝ }
+{
+    let n = 16 * k.0;
+    let mut a = [0.0; 256];
+    for i in 0..n {
+        a[i] = sums[i];
+    }
+    a
+}
+
 // The first k places of g, then +0.
 fn right_of(sums: &[f64], k: CoefficientCount) -> [f64; 16]
     requires { ⌜ (272 ≤ length (now sums)) × (k .0 ≤ 16) ⌝ }
@@ -96,10 +105,9 @@ pub fn solve(sums: &[f64], k: CoefficientCount) -> Solved
     requires { ⌜ (272 ≤ length (now sums)) × (k .0 ≤ 16) ⌝ }
     ensures { λ r. ⌜ r ≡ solveF (now (sums .entry)) (k .0) ⌝ }
 {
-    let a = matrix_of(sums);
-    let mut m = a;
+    let mut m = first_rows(sums, k);
     let mut b = right_of(sums, k);
-    let held = eliminate(&a, k, &mut m, &mut b);
+    let held = eliminate(sums, k, &mut m, &mut b);
     if held < k.0 {
         return Solved { held, c: [0.0; 16] };
     }

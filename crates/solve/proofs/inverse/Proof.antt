@@ -1,11 +1,12 @@
 -- `solve::inverse` meets its contract. The loop's invariant: the definition from here on is the definition at the start. Assumes nothing.
-use mathlib.Core.Path.{_≡_, refl, sym, ap, _∙_}
+use mathlib.Core.Path.{_≡_, sym, ap, _∙_}
 use Prim.Native.Nat.{_-_}
 use borrow.Author.Needs.{needs}
 use borrow.Author.Tests.{le-leb, lt-leb}
+use native.Mathlib.Omega.{arith}
 use Rattle.loops.specs.Loop.{while, while-again, while-fails, while-done}
 use Rattle.solve.specs.Solve.{columnHolds, inverseColumn, inverseColumns, lift}
-use Rattle.solve.proofs.Steps.{inverse-is, column-is, holds-is}
+use Rattle.solve.proofs.Steps.{inverse-is, length-lifted, column-is, holds-is}
 use Rattle.solve.proofs.inverse.Statement.{statement}
 use Rattle.solve.proofs.inverse.Tie as tie
 
@@ -15,6 +16,20 @@ Inv-columns sums k n l start v₀ j₀ v j =
 
 abbrev μ-columns : tie.MeasureT-columns
 μ-columns sums k n l start v₀ j₀ v j = n - j
+
+slice-aggregate-eliminate : tie.Need-slice-aggregate-eliminate Inv-columns μ-columns
+slice-aggregate-eliminate c =
+    let at-args = c .before .before .before .before .before .before .before .args in
+    let at-matrix-of = c .before .before .before .before .before .matrix-of in
+    let at-lift = c .before .before .before .lift in
+    sym (length-lifted (at-args .sums .now) (at-args .k .0) _ _ (search needs) (at-matrix-of .ensures) (at-lift .ensures))
+
+eliminate-requires : tie.Need-eliminate-requires Inv-columns μ-columns
+eliminate-requires c κs =
+    let at-args = c .before .before .before .before .before .before .before .before .before .args in
+    let at-matrix-of = c .before .before .before .before .before .before .before .matrix-of in
+    let at-lift = c .before .before .before .before .before .lift in
+    (omega (arith, length-lifted (at-args .sums .now) (at-args .k .0) _ _ (search needs) (at-matrix-of .ensures) (at-lift .ensures)), search needs)
 
 columns-again : tie.Need-columns-again Inv-columns μ-columns
 columns-again c =
@@ -54,10 +69,11 @@ inverse-spec =
     μ-columns
     (λ c κs. search needs)
     (λ c κs. search needs)
-    (λ c. refl)
     (λ c. search needs)
     (λ c. search needs)
-    (λ c κs. search needs)
+    (λ c. search needs)
+    slice-aggregate-eliminate
+    eliminate-requires
     (λ c κs. search needs)
     (λ c κs. search needs)
     (λ c. search needs)
