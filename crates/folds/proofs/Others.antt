@@ -1,45 +1,52 @@
--- The sums over the samples before start and from end on, one sample after the other. Assumes nothing.
-use mathlib.Core.Path.{_≡_, sym, ap, ap₂, _∙_}
-use mathlib.Core.List.{List, [], _∷_, _++_, map, append-nil, append-assoc}
-use Prim.Native.Nat.{ℕ, _+_, _≤_}
+-- The sums over the samples before a fold grow from fold to fold, and those from its end on are added to a copy of them: both in the corner of k rows
+-- and columns.
+use mathlib.Core.Path.{_≡_, sym, ap, _∙_}
+use mathlib.Core.List.{List, _++_}
+use Prim.Native.Nat.{ℕ, _+_, _≤_, _<_}
 use native.Mathlib.Omega.{arith}
-use lib.ListN.{length, take, drop, drop-of-length-le}
-use lib.Seq.{take-append-le, drop-append-le}
+use lib.ListN.{length, replicate, drop, take-append-drop}
 use lib.Ieee.{Float}
-use Rattle.loops.specs.Places.{table, take-table, map-part}
-use Rattle.monomial.specs.Samples.{sampleAt, samplesOf, samples-again}
-use Rattle.monomial.specs.Rows.{Row, rowOf, rowsOf}
-use Rattle.monomial.specs.Sums.{sumsOf, addRow, sums-again, rows-again, length-rows}
-use Rattle.folds.specs.Folds.{othersOf}
+use Rattle.loops.specs.Fold.{fold}
+use Rattle.loops.specs.Places.{table}
+use Rattle.value.specs.Numbers.{zeroF}
+use Rattle.basis.specs.declared.Basis.the-variants.{Curve}
+use Rattle.monomial.specs.Rows.{Row, rowsAt, rows-at-take}
+use Rattle.monomial.specs.Sums.{addRows, sumsOf, length-sums, sums-append}
+use Rattle.monomial.specs.Corner.{SameCorner}
+use Rattle.monomial.specs.CornerLaws.{corner-itself, corner-then, rows-corner}
+use Rattle.folds.specs.Folds.{startOf, endOf, othersOf, first-start, next-start, start-end, end-below}
 
--- one row more at the end
-others-snoc : (start end : ℕ) (rows : List Row) (r : Row) → start ≤ end → end ≤ length rows → othersOf start end (rows ++ (r ∷ [])) ≡ othersOf start end rows ++ (r ∷ [])
-unfolding othersOf
-others-snoc start end rows r h g =
-    ap₂ (λ (l m : List Row). l ++ m) (take-append-le start rows (r ∷ []) (omega arith)) (drop-append-le end rows (r ∷ []) g)
-    ∙ sym (append-assoc (take start rows) (drop end rows) (r ∷ []))
+module _ (k : ℕ) (fits : k ≤ 16) (xs ys s t : List Float) (long : 272 ≤ length s) where
+  -- rows behind others
+  added : (rs qs : List Row) → SameCorner k s (sumsOf rs) → SameCorner k t (addRows s qs) → SameCorner k t (sumsOf (rs ++ qs))
+  added rs qs w m = rw (sums-append rs qs) (corner-then m (rows-corner k fits s (sumsOf rs) qs long (omega (arith, length-sums rs)) w))
 
-module _ (xs ys : List Float) (start end : ℕ) (h : start ≤ end) where
-  -- none from end on
-  before-start : othersOf start end (rowsOf (samplesOf end xs ys)) ≡ rowsOf (samplesOf start xs ys)
-  unfolding othersOf samplesOf
-  before-start =
-      ap₂ (λ (l m : List Row). l ++ m)
-      (sym (map-part rowOf 0 start (table (sampleAt xs ys) end)) ∙ ap (map rowOf) (take-table (sampleAt xs ys) start end h))
-      (drop-of-length-le (rowsOf (samplesOf end xs ys)) {i = end} (omega (arith, length-rows end xs ys)))
-      ∙ append-nil (rowsOf (samplesOf start xs ys))
+  module _ (n folds f start end : ℕ) (inside : f < folds) (begins : start ≡ startOf n folds f) (w : SameCorner k s (sumsOf (rowsAt Curve (startOf n folds f) xs xs ys))) where
+    from-start : SameCorner k s (sumsOf (rowsAt Curve start xs xs ys))
+    from-start = rw begins w
 
-  pub sums-begun : (s u : List Float) → length s ≡ 272 → u ≡ sumsOf (rowsOf (samplesOf start xs ys)) ++ drop 272 s
-      → u ≡ sumsOf (othersOf start end (rowsOf (samplesOf end xs ys)))
-  sums-begun s u l e =
-      e ∙ ap (λ r. sumsOf (rowsOf (samplesOf start xs ys)) ++ r) (drop-of-length-le s {i = 272} (omega arith)) ∙ append-nil (sumsOf (rowsOf (samplesOf start xs ys)))
-      ∙ ap sumsOf (sym before-start)
+    -- those from end on, behind those before start
+    pub others-same : SameCorner k t (addRows s (drop end (rowsAt Curve n xs xs ys))) → SameCorner k t (sumsOf (othersOf start end (rowsAt Curve n xs xs ys)))
+    unfolding othersOf
+    others-same m =
+        rw (rows-at-take Curve xs xs ys start n (omega (arith, begins, start-end n folds f inside, end-below n folds f inside)))
+        (added (rowsAt Curve start xs xs ys) (drop end (rowsAt Curve n xs xs ys)) from-start m)
 
-  -- one sample more
-  pub sums-on : (t : ℕ) → end ≤ t
-      → addRow (sumsOf (othersOf start end (rowsOf (samplesOf t xs ys)))) (rowOf (sampleAt xs ys t)) ≡ sumsOf (othersOf start end (rowsOf (samplesOf (t + 1) xs ys)))
-  sums-on t g =
-      sym
-      (ap (λ l. sumsOf (othersOf start end l)) (ap rowsOf (samples-again t xs ys) ∙ rows-again (samplesOf t xs ys) (sampleAt xs ys t))
-      ∙ ap sumsOf (others-snoc start end (rowsOf (samplesOf t xs ys)) (rowOf (sampleAt xs ys t)) h (omega (arith, length-rows t xs ys)))
-      ∙ sums-again (othersOf start end (rowsOf (samplesOf t xs ys))) (rowOf (sampleAt xs ys t)))
+    -- the fold's own
+    pub passed-same : end ≡ endOf n folds f → SameCorner k t (addRows s (drop start (rowsAt Curve end xs xs ys))) → SameCorner k t (sumsOf (rowsAt Curve (endOf n folds f) xs xs ys))
+    passed-same ends m = rw (← ends, ← join) (added (rowsAt Curve start xs xs ys) (drop start (rowsAt Curve end xs xs ys)) from-start m)
+      where
+        join : rowsAt Curve start xs xs ys ++ drop start (rowsAt Curve end xs xs ys) ≡ rowsAt Curve end xs xs ys
+        join =
+            ap (λ l. l ++ drop start (rowsAt Curve end xs xs ys)) (sym (rows-at-take Curve xs xs ys start end (omega (arith, begins, ends, start-end n folds f inside))))
+            ∙ take-append-drop start (rowsAt Curve end xs xs ys)
+
+-- none before the first fold
+pub begun : (k n folds : ℕ) (xs ys : List Float) → SameCorner k (replicate 272 zeroF) (sumsOf (rowsAt Curve (startOf n folds 0) xs xs ys))
+unfolding sumsOf rowsAt table fold
+begun k n folds xs ys = rw (first-start n folds) (corner-itself k (replicate 272 zeroF))
+
+-- where a fold ends the next begins
+pub next-begun : (k n folds f : ℕ) (xs ys s : List Float) → SameCorner k s (sumsOf (rowsAt Curve (endOf n folds f) xs xs ys)) → f + 1 < folds
+    → SameCorner k s (sumsOf (rowsAt Curve (startOf n folds (f + 1)) xs xs ys))
+next-begun k n folds f xs ys s w h = rw (next-start n folds f h) w

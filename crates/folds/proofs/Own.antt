@@ -11,11 +11,13 @@ use Rattle.loops.specs.Places.{part-take, map-part}
 use Rattle.value.specs.Absolute.{absF}
 use Rattle.statistics.specs.Medians.{Size}
 use Rattle.monomial.specs.Rows.{Row}
-use Rattle.monomial.specs.Sums.{sumsOf}
+use Rattle.monomial.specs.Sums.{sumsOf, length-sums}
+use Rattle.monomial.specs.Corner.{SameCorner}
 use Rattle.score.specs.declared.Criterion.{Criterion}
 use Rattle.choice.specs.declared.Scored.{Scored}
 use Rattle.fit.specs.Residuals.{residual, residuals}
 use Rattle.fit.specs.Solved.{scoredBy}
+use Rattle.fit.specs.Corner.{scored-corner}
 use Rattle.folds.specs.Folds.{startOf, endOf, ownOf, othersOf, foldScored}
 
 pub length-own : (start end : ℕ) (rows : List Row) → end ≤ length rows → length (ownOf start end rows) ≡ end - start
@@ -39,9 +41,11 @@ module _ (start end n : ℕ) (s : List Float) (h : start ≤ end) (g : end ≤ n
       part-is (map absF (residuals k c rows)) e
       ∙ sym (ap (map absF) (map-part (residual k c) start (end - start) rows) ∙ map-part absF start (end - start) (map (residual k c) rows))
 
--- what a fold says of k coefficients
-pub fold-scored : (criterion : Criterion) (rows : List Row) (n folds k f start end : ℕ) (sums : List Float) (r : Scored) → length rows ≡ n
-    → start ≡ startOf n folds f → end ≡ endOf n folds f → sums ≡ sumsOf (othersOf start end rows) → r ≡ scoredBy criterion sums rows (ownOf start end rows) k
-    → r ≡ foldScored criterion rows folds k f
+-- what a fold says of k coefficients, from sums that are those over the others in the corner of m rows and columns
+pub fold-scored : (criterion : Criterion) (rows : List Row) (n folds k m f start end : ℕ) (sums : List Float) (r : Scored) → length rows ≡ n
+    → start ≡ startOf n folds f → end ≡ endOf n folds f → m ≤ 16 → k ≤ m → 256 ≤ length sums → SameCorner m sums (sumsOf (othersOf start end rows))
+    → r ≡ scoredBy criterion sums rows (ownOf start end rows) k → r ≡ foldScored criterion rows folds k f
 unfolding foldScored
-fold-scored criterion rows n folds k f start end sums r l a b u h = rw (l, ← a, ← b, ← u) h
+fold-scored criterion rows n folds k m f start end sums r l a b u v g w h =
+    rw (l, ← a, ← b)
+    (h ∙ scored-corner m u sums (sumsOf (othersOf start end rows)) g (omega (arith, length-sums (othersOf start end rows))) w criterion rows (ownOf start end rows) k v)

@@ -1,5 +1,6 @@
 // k-fold cross-validation: polyfit's `new_kfold_cross_validated`.
 use basis::Basis;
+use basis::CoefficientCount;
 use basis::Degree;
 use basis::OptionDegree;
 use choice::Scored;
@@ -7,15 +8,16 @@ use score::Criterion;
 ghost use mathlib.Core.Path.{_≡_};
 ghost use Prim.Native.Nat.{_+_, _≤_, _<_};
 ghost use lib.Ieee.{nan};
-ghost use lib.ListN.{length, getD};
+ghost use lib.ListN.{length, getD, drop};
 ghost use Rattle.loops.specs.Within.{Within};
 ghost use Rattle.basis.specs.Counts.{countOf};
 ghost use Rattle.basis.specs.declared.Basis.the-variants.{Curve};
 ghost use Rattle.monomial.specs.Rows.{rowsAt};
-ghost use Rattle.monomial.specs.Sums.{sumsOf};
+ghost use Rattle.monomial.specs.Sums.{addRows, sumsOf};
+ghost use Rattle.monomial.specs.Corner.{SameCorner};
 ghost use Rattle.choice.specs.Choice.{chosenOf};
 ghost use Rattle.fit.specs.Solved.{scoredBy};
-ghost use Rattle.folds.specs.Folds.{startOf, endOf, ownOf, othersOf, degreeScored, meanOf, validatedChoice};
+ghost use Rattle.folds.specs.Folds.{startOf, endOf, ownOf, degreeScored, meanOf, validatedChoice};
 ghost use Rattle.folds.specs.Tallies.{plus as plusF, more as moreF, Tallied};
 
 // Where fold f begins.
@@ -38,15 +40,43 @@ fn end_of(n: usize, folds: usize, f: usize) -> usize
     next * (n / folds)
 }
 
-// The 272 places become the sums over the samples before start and from end on.
-fn fold_others(xs: &[f64], ys: &[f64], n: usize, start: usize, end: usize, sums: &mut [f64])
-    requires { ⌜ (n ≤ length (now xs)) × (n ≤ length (now ys)) × (start ≤ end) × (end ≤ n) × (length (now sums) ≡ 272) ⌝ }
-    ensures { λ _. ⌜ now (sums .exit) ≡ sumsOf (othersOf start end (rowsAt Curve n (now (xs .entry)) (now (xs .entry)) (now (ys .entry)))) ⌝ }
+// The sums over the samples before a fold, with those from its end on added. Only the corner of k rows and columns is made, which is all that the degrees
+// below k read.
+fn fold_others(
+    xs: &[f64],
+    ys: &[f64],
+    n: usize,
+    end: usize,
+    k: CoefficientCount,
+    before: [f64; 272],
+) -> [f64; 272]
+    requires { ⌜ (n ≤ length (now xs)) × (n ≤ length (now ys)) × (end ≤ n) × (k .0 ≤ 16) ⌝ }
+    ensures long { λ r. ⌜ length r ≡ 272 ⌝ }
+    ensures same { λ r. ⌜ SameCorner (k .0) r (addRows before (drop end (rowsAt Curve n (now (xs .entry)) (now (xs .entry)) (now (ys .entry))))) ⌝ }
 {
-    monomial::fold_sums(xs, ys, start, &mut *sums);
-    for t in end..n {
-        monomial::add_sample(&mut *sums, xs[t], ys[t]);
-    }
+    let mut sums = before;
+    monomial::add_corner(Basis::Curve, xs, xs, ys, end, n, k, &mut sums);
+    sums
+}
+
+// The sums over the samples before fold f become those before the next.
+fn pass_fold(
+    xs: &[f64],
+    ys: &[f64],
+    n: usize,
+    folds: usize,
+    f: usize,
+    k: CoefficientCount,
+    before: &mut [f64],
+)
+    requires { ⌜ (n ≤ length (now xs)) × (n ≤ length (now ys)) × (f < folds) × (k .0 ≤ 16) × (length (now before) ≡ 272) ⌝ }
+    requires { ⌜ SameCorner (k .0) (now before) (sumsOf (rowsAt Curve (startOf n folds f) (now xs) (now xs) (now ys))) ⌝ }
+    ensures long { λ _. ⌜ length (now (before .exit)) ≡ 272 ⌝ }
+    ensures same { λ _. ⌜ SameCorner (k .0) (now (before .exit)) (sumsOf (rowsAt Curve (endOf n folds f) (now (xs .entry)) (now (xs .entry)) (now (ys .entry)))) ⌝ }
+{
+    let start = start_of(n, folds, f);
+    let end = end_of(n, folds, f);
+    monomial::add_corner(Basis::Curve, xs, xs, ys, start, end, k, before);
 }
 
 // A degree solved from the sums, and scored on the samples from start to end.
@@ -102,7 +132,7 @@ fn more(s: Scored, m: usize) -> usize
     next
 }
 
-// One fold more. Its sums are folded once and serve every degree.
+// One fold more, from the sums over the samples before it. Its own sums are folded once and serve every degree.
 fn add_fold(
     xs: &[f64],
     ys: &[f64],
@@ -111,19 +141,20 @@ fn add_fold(
     f: usize,
     b: usize,
     criterion: Criterion,
+    before: [f64; 272],
     scratch: &mut [f64],
     totals: &mut [f64],
     counts: &mut [usize],
 )
     requires { ⌜ (n ≤ length (now xs)) × (n ≤ length (now ys)) × (n ≤ length (now scratch)) × (f < folds) × (b ≤ 16) ⌝ }
+    requires { ⌜ SameCorner b before (sumsOf (rowsAt Curve (startOf n folds f) (now xs) (now xs) (now ys))) ⌝ }
     requires { ⌜ Tallied (degreeScored criterion (rowsAt Curve n (now xs) (now xs) (now ys)) folds) f b (now totals) (now counts) ⌝ }
     ensures tallied { λ _. ⌜ Tallied (degreeScored criterion (rowsAt Curve n (now (xs .entry)) (now (xs .entry)) (now (ys .entry))) folds) (f + 1) b (now (totals .exit)) (now (counts .exit)) ⌝ }
     ensures within { λ _. ⌜ Within n (now (scratch .entry)) (now (scratch .exit)) ⌝ }
 {
     let start = start_of(n, folds, f);
     let end = end_of(n, folds, f);
-    let mut sums = [0.0; 272];
-    fold_others(xs, ys, n, start, end, &mut sums);
+    let sums = fold_others(xs, ys, n, end, CoefficientCount(b), before);
     for d in 0..b {
         let s = score_fold(
             xs,
@@ -187,6 +218,7 @@ pub fn choose_by_folds(
     ensures within { λ _. ⌜ Within n (now (scratch .entry)) (now (scratch .exit)) ⌝ }
 {
     let b = bound.0 + 1;
+    let mut before = [0.0; 272];
     let mut totals = [0.0; 16];
     let mut counts: [usize; 16] = [0; 16];
     for f in 0..folds {
@@ -198,10 +230,12 @@ pub fn choose_by_folds(
             f,
             b,
             criterion,
+            before,
             &mut *scratch,
             &mut totals,
             &mut counts,
         );
+        pass_fold(xs, ys, n, folds, f, CoefficientCount(b), &mut before);
     }
     choose_by_means(&totals, &counts, b)
 }

@@ -2,9 +2,9 @@
 use mathlib.Core.Path.{_≡_, ap, _∙_}
 use mathlib.Core.List.{List, [], _∷_, _++_, map}
 use Prim.Native.Nat.{ℕ, _+_, _≤_}
-use lib.ListN.{length, getD, drop}
+use lib.ListN.{length, getD, take, drop}
 use lib.Ieee.{Float, nan, binary64, mul}
-use Rattle.loops.specs.Places.{each, table, table-again, length-table, map-table, each-write}
+use Rattle.loops.specs.Places.{each, table, table-again, take-table, length-table, map-table, each-write}
 use Rattle.value.specs.Power.{powerF}
 use Rattle.value.specs.Total.{totalF}
 use Rattle.basis.specs.declared.Basis.{Basis}
@@ -47,6 +47,11 @@ module _ (basis : Basis) (xs zs ys : List Float) where
   pub rows-at-again : (n : ℕ) → rowsAt basis (n + 1) xs zs ys ≡ rowsAt basis n xs zs ys ++ (rowAt basis xs zs ys n ∷ [])
   unfolding rowsAt
   rows-at-again n = table-again (rowAt basis xs zs ys) n
+
+  -- the first m of n rows
+  pub rows-at-take : (m n : ℕ) → m ≤ n → take m (rowsAt basis n xs zs ys) ≡ rowsAt basis m xs zs ys
+  unfolding rowsAt
+  rows-at-take m n h = take-table (rowAt basis xs zs ys) m n h
 
   -- what g makes of each row
   pub map-rows-at : {B : Type 0} (g : Row → B) (n : ℕ) → table (λ t. g (rowAt basis xs zs ys t)) n ≡ map g (rowsAt basis n xs zs ys)

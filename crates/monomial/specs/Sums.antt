@@ -8,7 +8,7 @@ use borrow.Author.Tests.{lt-ltb, le-ltb}
 use lib.Dec.{ltb, lit≤}
 use lib.ListN.{length, getD, take, drop, replicate, take-append-drop, length-map}
 use lib.Ieee.{Float, nan, binary64, add, mul}
-use Rattle.loops.specs.Fold.{fold, fold-snoc}
+use Rattle.loops.specs.Fold.{fold, fold-snoc, fold-append}
 use Rattle.loops.specs.Places.{each, table, table-at}
 use Rattle.value.specs.Numbers.{zeroF}
 use Rattle.value.specs.Power.{powerF}
@@ -62,6 +62,11 @@ rows-afresh s rs h = sums-afresh rowProduct 272 s rs h
 pub sums-again : (rs : List Row) (r : Row) → sumsOf (rs ++ (r ∷ [])) ≡ addRow (sumsOf rs) r
 unfolding sumsOf
 sums-again rs r = fold-snoc addRow (replicate 272 zeroF) rs r
+
+-- one list of rows behind another
+pub sums-append : (rs qs : List Row) → sumsOf (rs ++ qs) ≡ addRows (sumsOf rs) qs
+unfolding sumsOf
+sums-append rs qs = fold-append addRow (replicate 272 zeroF) rs qs
 
 -- place k is the sum, in index order from +0, of what each row adds there
 pub sums-at : (rs : List Row) (k : ℕ) → k < 272 → getD (sumsOf rs) k nan ≡ totalF (map (λ (r : Row). productOf (r .terms) (r .y) k) rs)
