@@ -2,21 +2,19 @@
 use mathlib.Core.Path.{_≡_, refl, sym, ap, _∙_}
 use mathlib.Core.Bool.{Bool, true, false}
 use mathlib.Core.List.{List, [], _∷_}
-use Prim.Native.Nat.{ℕ, _+_, _-_, _*_, _/_, _%_, _≤_, _<_}
+use Prim.Native.Nat.{ℕ, _+_, _*_, _≤_, _<_}
 use native.Mathlib.Omega.{arith}
 use borrow.Author.Tests.{ltb-true, ltb-false}
 use lib.Dec.{ltb}
 use lib.ListN.{length, getD, set, drop, length-set, drop-of-length-le}
 use lib.Seq.{getD-set-same, getD-set-other, drop-append-le}
 use lib.Ieee.{Float, nan, binary64, add}
-use Rattle.loops.specs.Cases.{either}
 use Rattle.loops.specs.Fold.{fold, fold-snoc}
-use Rattle.loops.specs.Places.{each-past}
 use Rattle.basis.specs.declared.Basis.{Basis}
 use Rattle.monomial.specs.Terms.{termsAt}
 use Rattle.monomial.specs.Rows.{Row, rowAt, rowsAt, length-rows-at, rows-at-again}
-use Rattle.monomial.specs.Sums.{productOf, addRow, addRows, length-add-row}
-use Rattle.monomial.specs.Corner.{SameCorner, Elsewhere, CornerSet}
+use Rattle.monomial.specs.Sums.{productOf, addRow, addRows}
+use Rattle.monomial.specs.Corner.{SameCorner, CornerSet}
 use Rattle.monomial.specs.CornerLaws.{corner-itself, corner-then, add-row-at, row-corner, length-add-rows}
 
 -- by the last of the numbers below b + 1, or an earlier one
@@ -100,17 +98,6 @@ lines-done k s t r fits l w =
       corner = record { matrix = λ i j a b. w .cell i j a b ∙ sym (add-row-at s r (16 * i + j) l (omega arith)); right = λ i a. w .right i a ∙ sym (add-row-at s r (256 + i) l (omega arith)) };
       rest = λ p e. w .old p (e .not-matrix) (e .not-right);
     }
-
--- a place outside of the corner of 16 is behind the 272
-past-whole : (p : ℕ) → Elsewhere 16 p → 272 ≤ p
-past-whole p e = either 272 p (λ h. h) (λ h. either 256 p (λ g. absurd (e .not-right (p - 256) (omega arith) (omega arith))) (λ g. absurd (e .not-matrix (p / 16) (p % 16) (omega arith) (omega arith) (omega arith))))
-
--- the corner of 16 rows and columns is the whole
-pub whole-corner : (k : ℕ) (s t : List Float) (r : Row) → k ≡ 16 → t ≡ addRow s r → CornerSet k (addRow s r) s t
-unfolding addRow
-whole-corner k s t r z e =
-    rw (z, e)
-    (record { long = length-add-row s r; corner = corner-itself 16 (addRow s r); rest = λ p q. each-past (gains (r .terms) (r .y)) 272 s p nan (past-whole p q) })
 
 -- ---- rows one after the other
 

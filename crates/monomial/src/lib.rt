@@ -167,16 +167,12 @@ pub fn add_sample(sums: &mut [f64], x: f64, y: f64)
     add_row(&mut *sums, &terms, y);
 }
 
-// Adds the products of a row in the corner of k rows and columns of A and in the first k places of g.
-fn add_row_corner(sums: &mut [f64], k: CoefficientCount, terms: &[f64; 16], y: f64)
+// Adds the products of a row in the corner of k rows and columns of A and in the first k places of g, line by line.
+fn add_lines(sums: &mut [f64], k: CoefficientCount, terms: &[f64; 16], y: f64)
     requires { ⌜ (272 ≤ length (now sums)) × (k .0 ≤ 16) ⌝ }
     ensures { λ _. ⌜ CornerSet (k .0) (addRow (now (sums .entry)) (record { terms = now (terms .entry); y = y })) (now (sums .entry)) (now (sums .exit)) ⌝ }
 {
     let n = k.0;
-    if n == 16 {
-        add_row(&mut *sums, terms, y);
-        return;
-    }
     for i in 0..n {
         let t = terms[i];
         for j in 0..n {
@@ -188,8 +184,20 @@ fn add_row_corner(sums: &mut [f64], k: CoefficientCount, terms: &[f64; 16], y: f
     }
 }
 
-// Adds the rows of the places from start on and before end in that corner, which is all that k coefficients are solved from.
-pub fn add_corner(
+// The same. The 16 of the whole is written out, so that its loops are unrolled.
+fn add_row_corner(sums: &mut [f64], k: CoefficientCount, terms: &[f64; 16], y: f64)
+    requires { ⌜ (272 ≤ length (now sums)) × (k .0 ≤ 16) ⌝ }
+    ensures { λ _. ⌜ CornerSet (k .0) (addRow (now (sums .entry)) (record { terms = now (terms .entry); y = y })) (now (sums .entry)) (now (sums .exit)) ⌝ }
+{
+    if k.0 == 16 {
+        add_lines(sums, CoefficientCount(16), terms, y);
+        return;
+    }
+    add_lines(sums, k, terms, y);
+}
+
+// Adds the rows of the places from start on and before end in that corner.
+fn add_rows_corner(
     basis: Basis,
     xs: &[f64],
     zs: &[f64],
@@ -206,6 +214,46 @@ pub fn add_corner(
         let terms = terms_at(basis, xs[t], zs[t]);
         add_row_corner(&mut *sums, k, &terms, ys[t]);
     }
+}
+
+// Rows in a cubic's corner. Its 4 is written out, so that the loops are unrolled and no other power is worked out.
+fn add_rows_cubic(
+    basis: Basis,
+    xs: &[f64],
+    zs: &[f64],
+    ys: &[f64],
+    start: usize,
+    end: usize,
+    sums: &mut [f64],
+)
+    requires { ⌜ (start ≤ end) × (end ≤ length (now xs)) × (end ≤ length (now zs)) × (end ≤ length (now ys)) × (272 ≤ length (now sums)) ⌝ }
+    ensures { λ _. ⌜ CornerSet 4 (addRows (now (sums .entry)) (drop start (rowsAt basis end (now (xs .entry)) (now (zs .entry)) (now (ys .entry))))) (now (sums .entry)) (now (sums .exit)) ⌝ }
+{
+    for t in start..end {
+        let terms = terms_at(basis, xs[t], zs[t]);
+        add_lines(&mut *sums, CoefficientCount(4), &terms, ys[t]);
+    }
+}
+
+// Adds the rows of the places from start on and before end in the corner of k rows and columns, which is all that k coefficients are solved from.
+pub fn add_corner(
+    basis: Basis,
+    xs: &[f64],
+    zs: &[f64],
+    ys: &[f64],
+    start: usize,
+    end: usize,
+    k: CoefficientCount,
+    sums: &mut [f64],
+)
+    requires { ⌜ (start ≤ end) × (end ≤ length (now xs)) × (end ≤ length (now zs)) × (end ≤ length (now ys)) × (k .0 ≤ 16) × (272 ≤ length (now sums)) ⌝ }
+    ensures { λ _. ⌜ CornerSet (k .0) (addRows (now (sums .entry)) (drop start (rowsAt basis end (now (xs .entry)) (now (zs .entry)) (now (ys .entry))))) (now (sums .entry)) (now (sums .exit)) ⌝ }
+{
+    if k.0 == 4 {
+        add_rows_cubic(basis, xs, zs, ys, start, end, sums);
+        return;
+    }
+    add_rows_corner(basis, xs, zs, ys, start, end, k, sums);
 }
 
 // The 272 places become the sums over the first n places of the columns, folded afresh.
