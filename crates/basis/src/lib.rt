@@ -4,6 +4,19 @@ ghost use mathlib.Core.Path.{_≡_};
 ghost use Prim.Native.Nat.{_≤_};
 ghost use Rattle.basis.specs.Counts.{countOf};
 
+// At most 16 terms, so that degree 15 is the highest.
+pub const TERMS: usize = 16;
+
+pub const HIGHEST: usize = 15;
+
+// The places of A, and of A and g together.
+pub const MATRIX: usize = 256;
+
+pub const SUMS: usize = 272;
+
+// The most samples that a book holds.
+pub const SAMPLES: usize = 4096;
+
 // What the term values are: the powers of x, or the products of a power of x and a power of z.
 pub enum Basis {
     Curve,

@@ -5,10 +5,10 @@ use Prim.Native.Nat.{ℕ}
 use lib.Dec.{eqb}
 use lib.ListN.{length}
 use lib.Ieee.{Float}
-use Rattle.monomial.specs.Samples.{Sample}
+use Rattle.samples.specs.Samples.{Sample}
 use Rattle.refusal.specs.Refusals.{Refusal, by, firstOf, settle}
 use Rattle.refusal.specs.Tests.{capacity, bookShort, sampleFinite}
-use Rattle.book.specs.Columns.{Columns, lengths}
+use Rattle.samples.specs.Columns.{Columns, lengths}
 use Rattle.book.specs.Calls.{Out, State, after, refused, withdrawOut, addNext, bookAnswered}
 
 -- 5's condition for single adds there is that capacity is zero

@@ -18,7 +18,8 @@ use Rattle.statistics.specs.Degrees.{maxDegree}
 use Rattle.statistics.specs.declared.DegreeBound.{DegreeBound}
 use Rattle.statistics.specs.declared.Confidence.{Confidence}
 use Rattle.statistics.specs.declared.Tolerance.{Tolerance}
-use Rattle.monomial.specs.Samples.{Sample, samplesOf, length-samples}
+use Rattle.samples.specs.Samples.{Sample, samplesOf}
+use Rattle.samples.specs.SampleLaws.{length-samples}
 use Rattle.monomial.specs.Rows.{Row, rowOf, rowsOf}
 use Rattle.score.specs.declared.Criterion.{Criterion}
 use Rattle.choice.specs.Choice.{solvedCount}
@@ -31,7 +32,8 @@ use Rattle.fit.specs.Chosen.{tried, choiceOf, countsOf}
 use Rattle.folds.specs.Folds.{validated, validatedChoice}
 use Rattle.solve.specs.Solve.{solve}
 use Rattle.covariance.specs.declared.Band.{Band}
-use Rattle.covariance.specs.Marks.{mark, ones, ones-again}
+use Rattle.covariance.specs.Marks.{mark, ones}
+use Rattle.covariance.specs.MarkLaws.{ones-again}
 use Rattle.covariance.specs.Pruning.{prunes, prunedAt, prunedBytes}
 use Rattle.covariance.specs.Bands.{bandAt, outlies, outlierOf, outliersOf}
 use Rattle.frame.specs.Frame.{decode}
@@ -40,8 +42,8 @@ use Rattle.refusal.specs.Refusals.{by, settle}
 use Rattle.refusal.specs.Laws.{numbered}
 use Rattle.book.specs.RefusalLaws.{open-numbers, add-numbers, correct-numbers, withdraw-numbers, frame-numbers, add-room, correct-room, withdraw-room, frame-room}
 use Rattle.book.specs.Calls.{Out, stateOf, refused, openOut, addOut, correctOut, withdrawOut, addFrameOut}
-use Rattle.book.specs.Columns.{columnsOf}
-use Rattle.book.specs.Many.{many-added, added-is}
+use Rattle.samples.specs.Columns.{columnsOf}
+use Rattle.book.specs.ManyLaws.{many-added, added-is}
 use Rattle.measure.specs.Measures.{inverseFails, measureRefusal, covarianceAt}
 use Rattle.query.specs.Refusals.{fitRefusal, validateRefusal, bandRefusal}
 use Rattle.query.specs.RefusalLaws.{fit-numbers, validate-numbers, band-numbers, fit-room, validate-room}
@@ -53,7 +55,8 @@ use Rattle.settings.specs.declared.Settings.{Settings}
 use Rattle.report.specs.declared.Places.{Places}
 use Rattle.report.specs.Refusals.{reportRefusal}
 use Rattle.report.specs.RefusalLaws.{report-numbers, report-room}
-use Rattle.report.specs.Chosen.{reportChoice, chosen-solved}
+use Rattle.report.specs.Chosen.{reportChoice}
+use Rattle.report.specs.ChosenLaws.{chosen-solved}
 use Rattle.report.specs.Reports.{ReportOut, refusedEarly, refusedLate, reportOf, reportPast, reportOn, reportOut, writtenBy}
 use Rattle.capi.specs.Packed.{BookFits, FitFits, BandFits, ReportFits, bandInto}
 

@@ -2,3 +2,4 @@
 pub mod Packed
 pub mod Fitting
 pub mod Reading
+pub mod ReadingLaws

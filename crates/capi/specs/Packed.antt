@@ -5,6 +5,7 @@ use mathlib.Core.List.{List, [], _∷_}
 use Prim.Native.Nat.{ℕ, _+_, _*_, _≤_}
 use lib.Dec.{ltb}
 use lib.Ieee.{Float}
+use Rattle.basis.specs.Sizes.{maxSamples, maxTerms}
 use Rattle.book.specs.declared.Answer.{Answer}
 use Rattle.book.specs.declared.Answer.the-variants as books
 use Rattle.book.specs.Calls.{Out, Is}
@@ -66,7 +67,7 @@ abbrev pub RefusalFits : ℕ → Type 0
 RefusalFits k = (1 ≤ k) × (k ≤ 255)
 
 unfoldable pub BookFits : Answer → Type 0
-BookFits (books.Book b) = b .count ≤ 4096
+BookFits (books.Book b) = b .count ≤ maxSamples
 BookFits (books.Refused k) = RefusalFits k
 
 unfoldable pub FitFits : FitAnswer → Type 0
@@ -78,7 +79,7 @@ BandFits (bands.Band b) = Unit {0}
 BandFits (bands.Refused k) = RefusalFits k
 
 unfoldable pub ReportFits : ReportAnswer → Type 0
-ReportFits (reports.Report d solved outliers pruned) = (d .0 ≤ 15) × (solved ≤ 16) × (outliers ≤ 4096) × (pruned ≤ 16)
+ReportFits (reports.Report d solved outliers pruned) = (d .0 ≤ 15) × (solved ≤ maxTerms) × (outliers ≤ maxSamples) × (pruned ≤ maxTerms)
 ReportFits (reports.Refused k) = RefusalFits k
 
 -- ---- what each call promises: the packed answer of the book's own call, and every lent list as that call leaves it

@@ -1,32 +1,14 @@
--- Reading a packed answer, as include/stakebook.h does, gives the answer back: no bit is lost.
-use mathlib.Core.Path.{_≡_, refl, ap, _∙_}
-use mathlib.Core.List.{List}
-use Prim.Native.Nat.{ℕ, _+_, _-_, _*_, _/_, _%_, _≤_, _<_}
-use native.Mathlib.Nat.{add-mul-div-right, div-eq-of-lt, mod-eq-of-lt, mod-eq-sub-div-mul, add-sub-cancel}
-use native.Mathlib.Omega.{arith}
-use lib.Ieee.{Float}
-use Rattle.statistics.specs.declared.DegreeBound.{DegreeBound}
-use Rattle.statistics.specs.declared.Confidence.{Confidence}
-use Rattle.statistics.specs.declared.Tolerance.{Tolerance}
-use Rattle.monomial.specs.Samples.{Sample}
-use Rattle.score.specs.declared.Criterion.{Criterion}
+-- Reading a packed answer, as include/stakebook.h does, gives the answer back: no bit is lost. Definitions only.
+use mathlib.Core.Path.{_≡_}
+use Prim.Native.Nat.{ℕ, _/_, _%_}
 use Rattle.book.specs.declared.Answer.{Answer}
 use Rattle.book.specs.declared.Answer.the-variants as books
-use Rattle.book.specs.Calls.{openOut, addOut, correctOut, withdrawOut, addFrameOut}
-use Rattle.book.specs.Columns.{columnsOf}
 use Rattle.query.specs.declared.FitAnswer.{FitAnswer}
 use Rattle.query.specs.declared.FitAnswer.the-variants as fits
 use Rattle.query.specs.declared.BandAnswer.{BandAnswer}
 use Rattle.query.specs.declared.BandAnswer.the-variants as bands
-use Rattle.query.specs.Fits.{fitOut, validateOut}
-use Rattle.query.specs.Bands.{bandOut}
-use Rattle.settings.specs.declared.Settings.{Settings}
-use Rattle.report.specs.declared.Places.{Places}
 use Rattle.report.specs.declared.ReportAnswer.{ReportAnswer}
 use Rattle.report.specs.declared.ReportAnswer.the-variants as reports
-use Rattle.report.specs.Reports.{reportOut}
-use Rattle.capi.specs.Packed.{bandInto, packedRefusal, packedBook, packedFit, packedBand, packedCounts, packedReport, BookFits, FitFits, BandFits, ReportFits}
-use Rattle.capi.specs.Fitting.{open-fits, add-fits, correct-fits, withdraw-fits, frame-fits, fit-fits, validate-fits, band-fits, report-fits}
 
 -- the number of the refusal, 0 if there is none
 abbrev pub numberIn : ℕ → ℕ
@@ -68,109 +50,3 @@ unfoldable pub ReportRead : ℕ → ReportAnswer → Type 0
 ReportRead p (reports.Report d solved outliers pruned) =
     (numberIn p ≡ 0) × (degreeIn p ≡ d .0) × (solvedIn p ≡ solved) × (prunedIn p ≡ pruned) × (outliersIn p ≡ outliers)
 ReportRead p (reports.Refused k) = numberIn p ≡ k
-
--- ---- laws
-
--- a number of a low part below m and a high part
-module _ (m low high : ℕ) (below : low < m) where
-  upper-part : (low + high * m) / m ≡ high
-  upper-part =
-      let e = add-mul-div-right low high {z = m} (omega arith) in
-      omega (arith, e, div-eq-of-lt below)
-
-  lower-part : (low + high * m) % m ≡ low
-  lower-part =
-      let e = mod-eq-sub-div-mul (low + high * m) m in
-      e ∙ ap (λ q. low + high * m - q * m) upper-part ∙ add-sub-cancel low (high * m)
-
-refusal-read : (k : ℕ) → numberIn (packedRefusal k) ≡ k
-refusal-read k =
-    let e : packedRefusal k ≡ 0 + k * 0x100_0000_0000_0000 = omega arith in
-    ap numberIn e ∙ upper-part 0x100_0000_0000_0000 0 k (omega arith)
-
-pub book-read : (a : Answer) → BookFits a → BookRead (packedBook a) a
-unfolding BookFits BookRead packedBook
-book-read (books.Book b) h = (div-eq-of-lt (omega arith), mod-eq-of-lt (omega arith))
-book-read (books.Refused k) h = refusal-read k
-
-pub fit-read : (a : FitAnswer) → FitFits a → FitRead (packedFit a) a
-unfolding FitFits FitRead packedFit
-fit-read (fits.Fit d) h = (div-eq-of-lt (omega arith), mod-eq-of-lt (omega arith))
-fit-read (fits.Refused k) h = refusal-read k
-
-pub band-read : (a : BandAnswer) → BandFits a → BandRead (packedBand a) a
-unfolding BandFits BandRead packedBand
-band-read (bands.Band b) h = refl
-band-read (bands.Refused k) h = refusal-read k
-
-module _ (d s o p : ℕ) (hd : d ≤ 15) (hs : s ≤ 16) (ho : o ≤ 4096) (hp : p ≤ 16) where
-  none-in : numberIn (packedCounts d s o p) ≡ 0
-  none-in = div-eq-of-lt (omega arith)
-
-  degree-in : degreeIn (packedCounts d s o p) ≡ d
-  degree-in =
-      let e : packedCounts d s o p ≡ d + (s + p * 0x100 + o * 0x100_0000) * 0x100 = omega arith in
-      ap degreeIn e ∙ lower-part 0x100 d (s + p * 0x100 + o * 0x100_0000) (omega arith)
-
-  solved-in : solvedIn (packedCounts d s o p) ≡ s
-  solved-in =
-      let e : packedCounts d s o p ≡ d + (s + p * 0x100 + o * 0x100_0000) * 0x100 = omega arith in
-      let u : s + p * 0x100 + o * 0x100_0000 ≡ s + (p + o * 0x1_0000) * 0x100 = omega arith in
-      ap solvedIn e ∙ ap (λ q. q % 0x100) (upper-part 0x100 d (s + p * 0x100 + o * 0x100_0000) (omega arith) ∙ u)
-      ∙ lower-part 0x100 s (p + o * 0x1_0000) (omega arith)
-
-  pruned-in : prunedIn (packedCounts d s o p) ≡ p
-  pruned-in =
-      let e : packedCounts d s o p ≡ d + s * 0x100 + (p + o * 0x1_0000) * 0x1_0000 = omega arith in
-      let u : p + o * 0x1_0000 ≡ p + (o * 0x100) * 0x100 = omega arith in
-      ap prunedIn e ∙ ap (λ q. q % 0x100) (upper-part 0x1_0000 (d + s * 0x100) (p + o * 0x1_0000) (omega arith) ∙ u)
-      ∙ lower-part 0x100 p (o * 0x100) (omega arith)
-
-  outliers-in : outliersIn (packedCounts d s o p) ≡ o
-  outliers-in =
-      ap (λ q. q % 0x1_0000) (upper-part 0x1_0000_0000 (d + s * 0x100 + p * 0x1_0000) o (omega arith)) ∙ mod-eq-of-lt (omega arith)
-
-pub report-read : (a : ReportAnswer) → ReportFits a → ReportRead (packedReport a) a
-unfolding ReportFits ReportRead packedReport
-report-read (reports.Report d s o p) h =
-    let hd = h .0 in
-    let hs = h .1 in
-    let ho = h .2 in
-    let hp = h .3 in
-    (none-in (d .0) s o p hd hs ho hp, degree-in (d .0) s o p hd hs ho hp, solved-in (d .0) s o p hd hs ho hp, pruned-in (d .0) s o p hd hs ho hp, outliers-in (d .0) s o p hd hs ho hp)
-report-read (reports.Refused k) h = refusal-read k
-
--- ---- so for every call, whatever it was given: the packed answer is read as the answer
-
-pub open-back : (sums : List Float) → BookRead (packedBook (openOut sums .answer)) (openOut sums .answer)
-open-back sums = book-read _ (open-fits sums)
-
-module _ (n : ℕ) (xs ys sums : List Float) where
-  pub add-back : (p : Sample) → BookRead (packedBook (addOut n p (columnsOf xs ys) sums .answer)) (addOut n p (columnsOf xs ys) sums .answer)
-  add-back p = book-read _ (add-fits n xs ys sums p)
-
-  pub correct-back : (i : ℕ) (y : Float) → BookRead (packedBook (correctOut n i y (columnsOf xs ys) sums .answer)) (correctOut n i y (columnsOf xs ys) sums .answer)
-  correct-back i y = book-read _ (correct-fits n xs ys sums i y)
-
-  pub withdraw-back : (i : ℕ) → BookRead (packedBook (withdrawOut n i (columnsOf xs ys) sums .answer)) (withdrawOut n i (columnsOf xs ys) sums .answer)
-  withdraw-back i = book-read _ (withdraw-fits n xs ys sums i)
-
-  pub frame-back : (f : List ℕ) → BookRead (packedBook (addFrameOut n f (columnsOf xs ys) sums .answer)) (addFrameOut n f (columnsOf xs ys) sums .answer)
-  frame-back f = book-read _ (frame-fits n xs ys sums f)
-
-  module _ (scratch coefficients : List Float) where
-    pub fit-back : (degree : ℕ) → (let a = fitOut n xs ys sums scratch coefficients degree .answer in FitRead (packedFit a) a)
-    fit-back degree = fit-read _ (fit-fits n xs ys sums scratch coefficients degree)
-
-    pub validate-back : (folds : ℕ) (bound : DegreeBound) (criterion : Criterion)
-        → (let a = validateOut n xs ys sums scratch coefficients folds bound criterion .answer in FitRead (packedFit a) a)
-    validate-back folds bound criterion = fit-read _ (validate-fits n xs ys sums scratch coefficients folds bound criterion)
-
-  pub band-back : (x : Float) (degree : ℕ) (confidence : Confidence) (tolerance : Tolerance) (scratch : List Float) (places : ℕ)
-      → (let a = bandInto places (bandOut n x degree confidence tolerance xs ys sums scratch) .answer in BandRead (packedBand a) a)
-  band-back x degree confidence tolerance scratch places =
-      band-read _ (band-fits n x degree confidence tolerance xs ys sums scratch places)
-
-  pub report-back : (settings : Settings) (places : Places)
-      → (let a = reportOut n settings xs ys sums places .answer in ReportRead (packedReport a) a)
-  report-back settings places = report-read _ (report-fits n settings xs ys sums places)

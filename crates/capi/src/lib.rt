@@ -11,7 +11,7 @@ ghost use mathlib.Core.List.{[]};
 ghost use Prim.Native.Nat.{_≤_};
 ghost use lib.ListN.{length};
 ghost use Rattle.book.specs.Calls.{openOut, addOut, correctOut, withdrawOut, addFrameOut};
-ghost use Rattle.book.specs.Columns.{columnsOf};
+ghost use Rattle.samples.specs.Columns.{columnsOf};
 ghost use Rattle.lent.specs.Slices.{before};
 ghost use Rattle.lent.specs.Written.{over};
 ghost use Rattle.query.specs.Fits.{fitOut, validateOut};

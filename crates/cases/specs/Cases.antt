@@ -1,4 +1,4 @@
--- Document 01's T1 to T12 together, stated with the names that the public contracts cite. Assumes nothing.
+-- Document 01's T1 to T12 together, stated with the names that the public contracts cite.
 use mathlib.Core.Path.{_≡_, refl, sym, ap, _∙_}
 use mathlib.Core.Bool.{Bool, true, false}
 use mathlib.Core.List.{List, [], _∷_}
@@ -25,7 +25,8 @@ use Rattle.solve.specs.Solve.{solve}
 use Rattle.solve.specs.declared.Solved.{Solved}
 use Rattle.score.specs.Score.{likelihoodOf, aicOf}
 use Rattle.score.specs.declared.Criterion.the-variants.{Aic}
-use Rattle.choice.specs.Choice.{degree, yields, leastOf, near, chosenOf, least-same, chosen-same}
+use Rattle.choice.specs.Choice.{degree, yields, leastOf, near, chosenOf}
+use Rattle.choice.specs.ChoiceLaws.{least-same, chosen-same}
 use Rattle.choice.specs.declared.Scored.{Scored}
 use Rattle.basis.specs.Counts.{countOf}
 use Rattle.basis.specs.declared.Basis.the-variants.{Curve}

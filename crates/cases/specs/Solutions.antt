@@ -1,4 +1,4 @@
--- What the samples of T10 to T12 solve to and score, computed from the definitions that the contracts cite. Assumes nothing.
+-- What the samples of T10 to T12 solve to and score, computed from the definitions that the contracts cite.
 use mathlib.Core.Path.{_≡_, refl, _∙_}
 use mathlib.Core.Bool.{true, false, cond, _&&_}
 use mathlib.Core.List.{List, [], _∷_}
@@ -18,7 +18,7 @@ use Rattle.value.specs.Total.{totalF}
 use Rattle.statistics.specs.Scores.{milli}
 use Rattle.statistics.specs.Medians.{insert, sort, midpoint, medianOf, deviations, medianAbsoluteDeviation}
 use Rattle.statistics.specs.Losses.{huberConst, huberLoss, losses}
-use Rattle.monomial.specs.Samples.{Sample}
+use Rattle.samples.specs.Samples.{Sample}
 use Rattle.monomial.specs.Rows.{Row, rowOf, rowsOf, fitted}
 use Rattle.monomial.specs.Sums.{productOf, addRow, sumsOf}
 use Rattle.solve.specs.Solve.{clearRow, clearBelow, pivotHolds, eliminate, backRow, back, rightOf, solved, solve}

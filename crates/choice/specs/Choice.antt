@@ -1,12 +1,11 @@
--- Document 01's choice among the degrees 0, 1, .. below b, where S d says of degree d whether it is solved, and its score. Assumes nothing.
-use mathlib.Core.Path.{_≡_, refl, ap, _∙_}
+-- Document 01's choice among the degrees 0, 1, .. below b, where S d says of degree d whether it is solved, and its score. Definitions only.
 use mathlib.Core.Bool.{Bool, false, cond, _&&_}
 use mathlib.Core.Option.{Option, none, some}
 use mathlib.Core.List.{List}
 use Prim.Native.Nat.{ℕ, _+_, _<_}
 use lib.ListN.{getD}
 use lib.Ieee.{Float, nan, binary64, sub, lt, le}
-use Rattle.loops.specs.Loop.{from, seek, from-same, seek-same}
+use Rattle.loops.specs.Loop.{from, seek}
 use Rattle.choice.specs.declared.Scored.{Scored}
 use Rattle.basis.specs.declared.Degree.{Degree}
 use Rattle.basis.specs.declared.OptionDegree.{OptionDegree}
@@ -58,23 +57,3 @@ flagCount flags b = from (λ d m. cond (getD flags d false) (m + 1) m) 0 b 0
 -- of two arrays
 abbrev pub scoredAt : List Bool → List Float → ℕ → Scored
 scoredAt u v d = record { solved = getD u d false; score = getD v d nan }
-
--- ---- what is known of the degrees below b decides
-
-module _ (S R : ℕ → Scored) (b : ℕ) (same : (d : ℕ) → d < b → S d ≡ R d) where
-  pub least-same : leastOf S b ≡ leastOf R b
-  unfolding leastOf
-  least-same = from-same _ _ b (infinityF) (λ d a h. ap (λ (s : Scored). yields s a) (same d h))
-
-  pub chosen-same : chosenOf S b ≡ chosenOf R b
-  unfolding chosenOf
-  chosen-same = ap degreeOf (seek-same _ _ b (λ d h. ap (λ (s : Scored). near (leastOf S b) s) (same d h) ∙ ap (λ (a : Float). near a (R d)) least-same))
-
-  pub count-same : solvedCount S b ≡ solvedCount R b
-  unfolding solvedCount
-  count-same = from-same _ _ b 0 (λ d m h. ap (λ (s : Scored). cond (s .solved) (m + 1) m) (same d h))
-
--- the solved degrees of two arrays are the flags of the first
-pub count-flags : (u : List Bool) (v : List Float) (b : ℕ) → flagCount u b ≡ solvedCount (scoredAt u v) b
-unfolding flagCount solvedCount
-count-flags u v b = refl

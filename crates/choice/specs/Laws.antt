@@ -1,4 +1,4 @@
--- What the choice comes to, of any scores. Assumes nothing.
+-- What the choice comes to, of any scores.
 use mathlib.Core.Path.{_≡_, refl, sym, ap, _∙_}
 use mathlib.Core.Bool.{Bool, true, false, cond, not, _&&_, _||_}
 use mathlib.Core.Logic.{_⊎_, inl, inr}

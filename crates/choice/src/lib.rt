@@ -1,6 +1,7 @@
 // The choice among the degrees below b, of which each is solved or not and has a score. The arrays have 16 places, so b is at most 16.
 use basis::Degree;
 use basis::OptionDegree;
+use basis::TERMS;
 ghost use mathlib.Core.Path.{_≡_};
 ghost use Prim.Native.Nat.{_≤_};
 ghost use lib.Ieee.{nan};
@@ -37,7 +38,7 @@ fn is_near(solved: bool, score: f64, a: f64) -> bool
 }
 
 // The least score: it starts at +infinity and yields to each smaller one of a solved degree.
-pub fn least(solved: &[bool; 16], score: &[f64; 16], b: usize) -> f64
+pub fn least(solved: &[bool; TERMS], score: &[f64; TERMS], b: usize) -> f64
     requires { ⌜ b ≤ 16 ⌝ }
     ensures { λ r. ⌜ r ≡ leastOf (scoredAt (now (solved .entry)) (now (score .entry))) b ⌝ }
 {
@@ -49,7 +50,7 @@ pub fn least(solved: &[bool; 16], score: &[f64; 16], b: usize) -> f64
 }
 
 // The lowest solved degree with a score at most 2 above the least.
-pub fn lowest(solved: &[bool; 16], score: &[f64; 16], b: usize) -> OptionDegree
+pub fn lowest(solved: &[bool; TERMS], score: &[f64; TERMS], b: usize) -> OptionDegree
     requires { ⌜ b ≤ 16 ⌝ }
     ensures { λ r. ⌜ r ≡ chosenOf (scoredAt (now (solved .entry)) (now (score .entry))) b ⌝ }
 {
@@ -63,7 +64,7 @@ pub fn lowest(solved: &[bool; 16], score: &[f64; 16], b: usize) -> OptionDegree
 }
 
 // The score of the chosen degree, +0 where none is chosen.
-pub fn score_of(score: &[f64; 16], chosen: OptionDegree) -> f64
+pub fn score_of(score: &[f64; TERMS], chosen: OptionDegree) -> f64
     requires { ⌜ Below 16 chosen ⌝ }
     ensures { λ r. ⌜ r ≡ chosenScore (λ d. getD (now (score .entry)) d nan) chosen ⌝ }
 {
@@ -75,7 +76,7 @@ pub fn score_of(score: &[f64; 16], chosen: OptionDegree) -> f64
 }
 
 // How many degrees are solved.
-pub fn solved_of(solved: &[bool; 16], b: usize) -> usize
+pub fn solved_of(solved: &[bool; TERMS], b: usize) -> usize
     requires { ⌜ b ≤ 16 ⌝ }
     ensures { λ r. ⌜ r ≡ flagCount (now (solved .entry)) b ⌝ }
 {

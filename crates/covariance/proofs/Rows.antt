@@ -1,4 +1,4 @@
--- What a loop over rows writes and counts. Assumes nothing.
+-- What a loop over rows writes and counts.
 use mathlib.Core.Path.{_≡_, sym, ap, ap₂, _∙_}
 use mathlib.Core.List.{List, _++_, map}
 use Prim.Native.Nat.{ℕ, _+_, _≤_, _<_}
@@ -6,8 +6,10 @@ use lib.ListN.{length, set, drop}
 use lib.Ieee.{Float}
 use Rattle.loops.specs.Places.{each, table, each-again}
 use Rattle.basis.specs.declared.Basis.{Basis}
-use Rattle.monomial.specs.Rows.{Row, rowAt, rowsAt, map-rows-at, each-rows-at}
-use Rattle.covariance.specs.Marks.{ones, ones-again}
+use Rattle.monomial.specs.Rows.{Row, rowAt, rowsAt}
+use Rattle.monomial.specs.RowLaws.{map-rows-at, each-rows-at}
+use Rattle.covariance.specs.Marks.{ones}
+use Rattle.covariance.specs.MarkLaws.{ones-again}
 
 module _ {B : Type 0} (g : Row → B) (basis : Basis) (xs zs ys : List Float) where
   -- the first i places of s are written

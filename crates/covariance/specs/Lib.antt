@@ -1,4 +1,5 @@
 pub mod Covariance
 pub mod Marks
+pub mod MarkLaws
 pub mod Bands
 pub mod Pruning

@@ -2,6 +2,8 @@
 // `prune_insignificant`.
 use basis::Basis;
 use basis::CoefficientCount;
+use basis::MATRIX;
+use basis::TERMS;
 use statistics::Tolerance;
 ghost use mathlib.Core.Path.{_≡_};
 ghost use mathlib.Core.List.{_++_};
@@ -18,23 +20,23 @@ ghost use Rattle.covariance.specs.Pruning.{prunes as prunesF, prunedByte
 const EPSILON: f64 = f64::from_bits(0x3CB0_0000_0000_0000);
 
 // The inverse × residual variance, place by place.
-pub fn covariance(inverse: &[f64; 256], variance: f64) -> [f64; 256]
+pub fn covariance(inverse: &[f64; MATRIX], variance: f64) -> [f64; MATRIX]
     ensures { λ r. ⌜ r ≡ covarianceOf (now (inverse .entry)) variance ⌝ }
 {
-    let mut v = [0.0; 256];
-    for t in 0..256 {
+    let mut v = [0.0; MATRIX];
+    for t in 0..MATRIX {
         v[t] = inverse[t] * variance;
     }
     v
 }
 
 // The roots of the first k diagonal places, then +0.
-pub fn errors(k: CoefficientCount, covariance: &[f64; 256]) -> [f64; 16]
+pub fn errors(k: CoefficientCount, covariance: &[f64; MATRIX]) -> [f64; TERMS]
     requires { ⌜ k .0 ≤ 16 ⌝ }
     ensures { λ r. ⌜ r ≡ errorsOf (k .0) (now (covariance .entry)) ⌝ }
 {
     let n = k.0;
-    let mut e = [0.0; 16];
+    let mut e = [0.0; TERMS];
     for i in 0..n {
         e[i] = value::sqrt(covariance[16 * i + i]);
     }
@@ -42,7 +44,7 @@ pub fn errors(k: CoefficientCount, covariance: &[f64; 256]) -> [f64; 16]
 }
 
 // Term value × place, down column j.
-fn column(k: CoefficientCount, terms: &[f64; 16], covariance: &[f64; 256], j: usize) -> f64
+fn column(k: CoefficientCount, terms: &[f64; TERMS], covariance: &[f64; MATRIX], j: usize) -> f64
     requires { ⌜ (k .0 ≤ 16) × (j < 16) ⌝ }
     ensures { λ r. ⌜ r ≡ columnOf (k .0) (now (terms .entry)) (now (covariance .entry)) j ⌝ }
 {
@@ -55,7 +57,11 @@ fn column(k: CoefficientCount, terms: &[f64; 16], covariance: &[f64; 256], j: us
 }
 
 // The variance of the fitted value at a row of term values.
-pub fn prediction_variance(k: CoefficientCount, terms: &[f64; 16], covariance: &[f64; 256]) -> f64
+pub fn prediction_variance(
+    k: CoefficientCount,
+    terms: &[f64; TERMS],
+    covariance: &[f64; MATRIX],
+) -> f64
     requires { ⌜ k .0 ≤ 16 ⌝ }
     ensures { λ r. ⌜ r ≡ predictionVariance (k .0) (now (terms .entry)) (now (covariance .entry)) ⌝ }
 {
@@ -110,8 +116,8 @@ pub fn confidence_band(tolerance: Tolerance, z: f64, sd: f64, value: f64, varian
 pub fn band_at(
     basis: Basis,
     k: CoefficientCount,
-    c: &[f64; 16],
-    covariance: &[f64; 256],
+    c: &[f64; TERMS],
+    covariance: &[f64; MATRIX],
     tolerance: Tolerance,
     score: f64,
     sd: f64,
@@ -152,8 +158,8 @@ fn mark(b: bool) -> u8
 // The first 16 places become the pruning bytes of k coefficients. Answers how many are pruned.
 pub fn put_pruned(
     k: CoefficientCount,
-    c: &[f64; 16],
-    errors: &[f64; 16],
+    c: &[f64; TERMS],
+    errors: &[f64; TERMS],
     t: f64,
     out: &mut [u8],
 ) -> usize
@@ -163,7 +169,7 @@ pub fn put_pruned(
 {
     let n = k.0;
     let mut count: usize = 0;
-    for i in 0..16 {
+    for i in 0..TERMS {
         let b = mark((i < n) & prunes(t, c[i], errors[i]));
         out[i] = b;
         count = count + b as usize;
@@ -175,8 +181,8 @@ pub fn put_pruned(
 pub fn put_bands(
     basis: Basis,
     k: CoefficientCount,
-    c: &[f64; 16],
-    covariance: &[f64; 256],
+    c: &[f64; TERMS],
+    covariance: &[f64; MATRIX],
     tolerance: Tolerance,
     z: f64,
     sd: f64,

@@ -1,4 +1,4 @@
--- The choice from arrays that hold what is known of the degrees. Assumes nothing.
+-- The choice from arrays that hold what is known of the degrees.
 use mathlib.Core.Path.{_≡_, sym, ap, _∙_}
 use mathlib.Core.Bool.{Bool, false}
 use mathlib.Core.List.{List}
@@ -14,10 +14,12 @@ use Rattle.basis.specs.Counts.{countOf}
 use Rattle.basis.specs.declared.Basis.{Basis}
 use Rattle.monomial.specs.Rows.{Row}
 use Rattle.score.specs.declared.Criterion.{Criterion}
-use Rattle.choice.specs.Choice.{chosenOf, chosenScore, flagCount, scoredAt, chosen-same, count-same, count-flags}
+use Rattle.choice.specs.Choice.{chosenOf, chosenScore, flagCount, scoredAt}
+use Rattle.choice.specs.ChoiceLaws.{chosen-same, count-same, count-flags}
 use Rattle.choice.specs.Laws.{chosen-score-same}
 use Rattle.choice.specs.declared.Scored.{Scored}
-use Rattle.fit.specs.Chosen.{countsOf, tried, testsOf, choiceOf, scores-at}
+use Rattle.fit.specs.Chosen.{countsOf, tried, testsOf, choiceOf}
+use Rattle.fit.specs.ChosenLaws.{scores-at}
 use Rattle.fit.specs.Solved.{scoredBy, pivotTests}
 
 -- no more pivots are tested than there are

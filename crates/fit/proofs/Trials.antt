@@ -1,4 +1,4 @@
--- What an attempt at k coefficients comes to. Assumes nothing.
+-- What an attempt at k coefficients comes to.
 use mathlib.Core.Path.{_≡_, _∙_}
 use mathlib.Core.Bool.{Bool, true, false, false≢true}
 use mathlib.Core.List.{List, _++_, map}
@@ -12,7 +12,8 @@ use Rattle.loops.specs.Within.{within-itself, within-written, front-written}
 use Rattle.value.specs.Absolute.{absF}
 use Rattle.value.specs.Finite.{finite}
 use Rattle.monomial.specs.Rows.{Row}
-use Rattle.solve.specs.Solve.{solve, solve-at-most}
+use Rattle.solve.specs.Solve.{solve}
+use Rattle.solve.specs.SolveLaws.{solve-at-most}
 use Rattle.solve.specs.declared.Solved.{Solved}
 use Rattle.fit.specs.Promises.{Attempted}
 use Rattle.fit.specs.Residuals.{residual, residuals}

@@ -1,19 +1,15 @@
--- Document 01's "Choice", over rows of term values and the list of coefficient counts to try. Assumes nothing.
-use mathlib.Core.Path.{_≡_}
-use mathlib.Core.Bool.{Bool, false}
+-- Document 01's "Choice", over rows of term values and the list of coefficient counts to try. Definitions only.
 use mathlib.Core.List.{List, map}
-use Prim.Native.Nat.{ℕ, _+_, _≤_, _<_}
-use native.Mathlib.Omega.{arith}
-use lib.ListN.{length, getD, replicate}
-use lib.Ieee.{Float, nan}
+use Prim.Native.Nat.{ℕ, _+_}
+use lib.ListN.{length, getD}
+use lib.Ieee.{Float}
 use Rattle.loops.specs.Fold.{fold}
-use Rattle.loops.specs.Places.{each, each-at, table}
-use Rattle.value.specs.Numbers.{zeroF}
+use Rattle.loops.specs.Places.{table}
 use Rattle.basis.specs.Counts.{countOf}
 use Rattle.basis.specs.declared.Basis.{Basis}
 use Rattle.monomial.specs.Rows.{Row}
 use Rattle.score.specs.declared.Criterion.{Criterion}
-use Rattle.choice.specs.Choice.{chosenOf, chosenScore, solvedCount, scoredAt}
+use Rattle.choice.specs.Choice.{chosenOf, chosenScore, solvedCount}
 use Rattle.choice.specs.declared.Scored.{Scored}
 use Rattle.fit.specs.declared.Choice.{Choice}
 use Rattle.fit.specs.Solved.{scoredBy, pivotTests}
@@ -39,11 +35,3 @@ choiceOf criterion sums rows counts =
       solved = solvedCount (tried criterion sums rows counts) (length counts);
       tests = testsOf sums counts;
     }
-
--- ---- laws
-
--- two arrays that hold what is known of the degrees below b
-pub scores-at : (S : ℕ → Scored) (b : ℕ) (u : List Bool) (v : List Float) → b ≤ 16 → u ≡ each (λ e _. S e .solved) b (replicate 16 false)
-    → v ≡ each (λ e _. S e .score) b (replicate 16 zeroF) → (d : ℕ) → d < b → scoredAt u v d ≡ S d
-scores-at S b u v l p q d h =
-    rw (p, q, each-at (λ e _. S e .solved) b (replicate 16 false) d false h (omega arith), each-at (λ e _. S e .score) b (replicate 16 zeroF) d nan h (omega arith))

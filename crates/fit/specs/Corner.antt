@@ -5,8 +5,10 @@ use Prim.Native.Nat.{ℕ, _+_, _≤_, _<_}
 use native.Mathlib.Omega.{arith}
 use lib.ListN.{length, getD}
 use lib.Ieee.{Float}
-use Rattle.loops.specs.All.{All, all-at, all-table}
-use Rattle.basis.specs.Counts.{countOf, count-mono}
+use Rattle.loops.specs.All.{All}
+use Rattle.loops.specs.AllLaws.{all-at, all-table}
+use Rattle.basis.specs.Counts.{countOf}
+use Rattle.basis.specs.CountLaws.{count-mono}
 use Rattle.basis.specs.declared.Basis.{Basis}
 use Rattle.monomial.specs.Rows.{Row}
 use Rattle.monomial.specs.Corner.{SameCorner}
@@ -14,7 +16,8 @@ use Rattle.monomial.specs.CornerLaws.{smaller-corner}
 use Rattle.solve.specs.Solve.{solve}
 use Rattle.solve.specs.Corner.{solve-corner}
 use Rattle.score.specs.declared.Criterion.{Criterion}
-use Rattle.choice.specs.Choice.{chosenOf, chosen-same, count-same}
+use Rattle.choice.specs.Choice.{chosenOf}
+use Rattle.choice.specs.ChoiceLaws.{chosen-same, count-same}
 use Rattle.choice.specs.Laws.{chosen-score-same}
 use Rattle.fit.specs.Solved.{isSolved, scoreOn, scoredBy, pivotTests}
 use Rattle.fit.specs.Chosen.{countsOf, tried, testsOf, choiceOf}

@@ -3,6 +3,7 @@ use basis::Basis;
 use basis::CoefficientCount;
 use basis::Degree;
 use basis::OptionDegree;
+use basis::TERMS;
 use score::Criterion;
 ghost use mathlib.Core.Path.{_≡_};
 ghost use mathlib.Core.List.{_++_, map};
@@ -26,7 +27,7 @@ ghost use Rattle.fit.specs.Chosen.{countsOf, choiceOf};
 ghost use Rattle.fit.specs.Promises.{Attempted};
 
 // y less the fitted value at x and z.
-fn residual(basis: Basis, k: CoefficientCount, c: &[f64; 16], x: f64, z: f64, y: f64) -> f64
+fn residual(basis: Basis, k: CoefficientCount, c: &[f64; TERMS], x: f64, z: f64, y: f64) -> f64
     requires { ⌜ k .0 ≤ 16 ⌝ }
     ensures { λ r. ⌜ r ≡ residualF (k .0) (now (c .entry)) (record { terms = termsAt basis x z; y = y }) ⌝ }
 {
@@ -41,7 +42,7 @@ pub fn sizes(
     ys: &[f64],
     n: usize,
     k: CoefficientCount,
-    c: &[f64; 16],
+    c: &[f64; TERMS],
     scratch: &mut [f64],
 ) -> bool
     requires { ⌜ (n ≤ length (now xs)) × (n ≤ length (now zs)) × (n ≤ length (now ys)) × (n ≤ length (now scratch)) × (k .0 ≤ 16) ⌝ }
@@ -61,7 +62,7 @@ pub fn sizes(
 pub struct Solution {
     pub solved: bool,
     pub tests: usize,
-    pub c: [f64; 16],
+    pub c: [f64; TERMS],
 }
 
 // Solves k coefficients from the sums. Where it is solved, the first n places of scratch hold the sizes of the residuals.
@@ -169,8 +170,8 @@ pub fn choose(
     ensures within { λ _. ⌜ Within n (now (scratch .entry)) (now (scratch .exit)) ⌝ }
 {
     let b = bound.0 + 1;
-    let mut solved = [false; 16];
-    let mut score = [0.0; 16];
+    let mut solved = [false; TERMS];
+    let mut score = [0.0; TERMS];
     let mut tests = 0;
     for d in 0..b {
         let k = Degree(d).k(basis);

@@ -1,4 +1,4 @@
--- The choice from the totals and counts of all folds. Assumes nothing.
+-- The choice from the totals and counts of all folds.
 use mathlib.Core.Path.{_≡_, ap₂, _∙_}
 use mathlib.Core.List.{List}
 use Prim.Native.Nat.{ℕ, _+_}
@@ -9,7 +9,8 @@ use Rattle.basis.specs.declared.Basis.the-variants.{Curve}
 use Rattle.basis.specs.declared.OptionDegree.{OptionDegree}
 use Rattle.monomial.specs.Rows.{Row}
 use Rattle.score.specs.declared.Criterion.{Criterion}
-use Rattle.choice.specs.Choice.{chosenOf, chosen-same}
+use Rattle.choice.specs.Choice.{chosenOf}
+use Rattle.choice.specs.ChoiceLaws.{chosen-same}
 use Rattle.folds.specs.Folds.{degreeScored, solvedScores, meanOf, validated, validatedChoice}
 use Rattle.folds.specs.Tallies.{Tallied}
 

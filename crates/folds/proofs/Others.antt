@@ -10,11 +10,14 @@ use Rattle.loops.specs.Fold.{fold}
 use Rattle.loops.specs.Places.{table}
 use Rattle.value.specs.Numbers.{zeroF}
 use Rattle.basis.specs.declared.Basis.the-variants.{Curve}
-use Rattle.monomial.specs.Rows.{Row, rowsAt, rows-at-take}
-use Rattle.monomial.specs.Sums.{addRows, sumsOf, length-sums, sums-append}
+use Rattle.monomial.specs.Rows.{Row, rowsAt}
+use Rattle.monomial.specs.RowLaws.{rows-at-take}
+use Rattle.monomial.specs.Sums.{addRows, sumsOf}
+use Rattle.monomial.specs.SumLaws.{length-sums, sums-append}
 use Rattle.monomial.specs.Corner.{SameCorner}
 use Rattle.monomial.specs.CornerLaws.{corner-itself, corner-then, rows-corner}
-use Rattle.folds.specs.Folds.{startOf, endOf, othersOf, first-start, next-start, start-end, end-below}
+use Rattle.folds.specs.Folds.{startOf, endOf, othersOf}
+use Rattle.folds.specs.FoldLaws.{first-start, next-start, start-end, end-below}
 
 module _ (k : ℕ) (fits : k ≤ 16) (xs ys s t : List Float) (long : 272 ≤ length s) where
   -- rows behind others

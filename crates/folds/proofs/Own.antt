@@ -1,4 +1,4 @@
--- A fold's own part of the sizes in scratch, and its score. Assumes nothing.
+-- A fold's own part of the sizes in scratch, and its score.
 use mathlib.Core.Path.{_≡_, sym, ap, subst, _∙_}
 use mathlib.Core.List.{List, map}
 use Prim.Native.Nat.{ℕ, _-_, _≤_}
@@ -6,12 +6,14 @@ use native.Mathlib.Omega.{arith}
 use lib.ListN.{length, take, drop, length-take, length-drop}
 use lib.Seq.{take-all}
 use lib.Ieee.{Float}
-use Rattle.loops.specs.All.{All, all-part}
+use Rattle.loops.specs.All.{All}
+use Rattle.loops.specs.AllLaws.{all-part}
 use Rattle.loops.specs.Places.{part-take, map-part}
 use Rattle.value.specs.Absolute.{absF}
 use Rattle.statistics.specs.Medians.{Size}
 use Rattle.monomial.specs.Rows.{Row}
-use Rattle.monomial.specs.Sums.{sumsOf, length-sums}
+use Rattle.monomial.specs.Sums.{sumsOf}
+use Rattle.monomial.specs.SumLaws.{length-sums}
 use Rattle.monomial.specs.Corner.{SameCorner}
 use Rattle.score.specs.declared.Criterion.{Criterion}
 use Rattle.choice.specs.declared.Scored.{Scored}

@@ -1,2 +1,4 @@
 pub mod Folds
+pub mod FoldLaws
 pub mod Tallies
+pub mod TallyLaws

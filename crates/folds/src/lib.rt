@@ -3,6 +3,8 @@ use basis::Basis;
 use basis::CoefficientCount;
 use basis::Degree;
 use basis::OptionDegree;
+use basis::SUMS;
+use basis::TERMS;
 use choice::Scored;
 use score::Criterion;
 ghost use mathlib.Core.Path.{_≡_};
@@ -48,8 +50,8 @@ fn fold_others(
     n: usize,
     end: usize,
     k: CoefficientCount,
-    before: [f64; 272],
-) -> [f64; 272]
+    before: [f64; SUMS],
+) -> [f64; SUMS]
     requires { ⌜ (n ≤ length (now xs)) × (n ≤ length (now ys)) × (end ≤ n) × (k .0 ≤ 16) ⌝ }
     ensures long { λ r. ⌜ length r ≡ 272 ⌝ }
     ensures same { λ r. ⌜ SameCorner (k .0) r (addRows before (drop end (rowsAt Curve n (now (xs .entry)) (now (xs .entry)) (now (ys .entry))))) ⌝ }
@@ -141,7 +143,7 @@ fn add_fold(
     f: usize,
     b: usize,
     criterion: Criterion,
-    before: [f64; 272],
+    before: [f64; SUMS],
     scratch: &mut [f64],
     totals: &mut [f64],
     counts: &mut [usize],
@@ -189,12 +191,12 @@ fn mean(total: f64, m: usize) -> Scored
 }
 
 // The choice among the degrees below b by their means.
-fn choose_by_means(totals: &[f64; 16], counts: &[usize; 16], b: usize) -> OptionDegree
+fn choose_by_means(totals: &[f64; TERMS], counts: &[usize; TERMS], b: usize) -> OptionDegree
     requires { ⌜ b ≤ 16 ⌝ }
     ensures { λ r. ⌜ r ≡ chosenOf (λ d. meanOf (getD (now (totals .entry)) d nan) (getD (now (counts .entry)) d 0)) b ⌝ }
 {
-    let mut solved = [false; 16];
-    let mut score = [0.0; 16];
+    let mut solved = [false; TERMS];
+    let mut score = [0.0; TERMS];
     for d in 0..b {
         let s = mean(totals[d], counts[d]);
         solved[d] = s.solved;
@@ -218,9 +220,9 @@ pub fn choose_by_folds(
     ensures within { λ _. ⌜ Within n (now (scratch .entry)) (now (scratch .exit)) ⌝ }
 {
     let b = bound.0 + 1;
-    let mut before = [0.0; 272];
-    let mut totals = [0.0; 16];
-    let mut counts: [usize; 16] = [0; 16];
+    let mut before = [0.0; SUMS];
+    let mut totals = [0.0; TERMS];
+    let mut counts: [usize; TERMS] = [0; TERMS];
     for f in 0..folds {
         add_fold(
             xs,

@@ -1,15 +1,15 @@
 -- Demand 3, whole: any list of calls from a book just opened, with the words on each report.
 use mathlib.Core.Path.{_≡_, refl, ap, _∙_}
-use mathlib.Core.List.{List, [], _∷_, _++_}
+use mathlib.Core.List.{List, []}
 use lib.ListN.{length}
 use Rattle.runs.specs.Runs.{replies-at}
-use Rattle.monomial.specs.Samples.{Sample}
+use Rattle.samples.specs.Samples.{Sample}
 use Rattle.settings.specs.declared.Settings.{Settings}
 use Rattle.report.specs.declared.Places.{Places}
 use Rattle.report.specs.Refusals.{reportRefusal}
 use Rattle.report.specs.Reports.{reportOn}
 use Rattle.ledger.specs.Ledger.{reads, Lent, lentOf, ledgerNext, ledgerReply, ledger, ledgerEnd, ledgerReplies}
-use Rattle.ledger.specs.Questions.{reports, readOn}
+use Rattle.ledger.specs.ReadCalls.{reports, readOn}
 use Rattle.ledger.specs.Words.{Words}
 use Rattle.ledger.specs.Whole.{ledgerReport, AnyList}
 use Rattle.ledger.proofs.Whole.{whole-list}

@@ -5,13 +5,14 @@ use Prim.Native.Nat.{ℕ, zero, suc, _+_, _-_, _≤_, _<_}
 use native.Mathlib.Numerals.{add-one}
 use native.Mathlib.Omega.{arith}
 use lib.Dec.{lit≤}
-use lib.ListN.{length, getD, set, take, drop, length-append, length-drop, take-append-drop}
+use lib.ListN.{length, getD, set, take, drop, length-append, length-drop}
 use lib.Seq.{take-suc-set, take-take, take-at, drop-at, drop-drop, getD-drop, paste, length-paste, take-nil, take-paste, drop-paste, length-take-le}
 use lib.Ieee.{Float, nan}
 use Rattle.loops.specs.Places.{table}
-use Rattle.monomial.specs.Samples.{Sample, samplesOf, xsOf, ysOf}
+use Rattle.samples.specs.Samples.{Sample, samplesOf, xsOf, ysOf}
 use Rattle.monomial.specs.Rows.{rowOf, rowsOf}
-use Rattle.monomial.specs.Sums.{addRow, sumsOf, length-sums, add-row-append, sums-again, corrected, terms-same, rows-again}
+use Rattle.monomial.specs.Sums.{addRow, sumsOf}
+use Rattle.monomial.specs.SumLaws.{length-sums, add-row-append, sums-again, corrected, terms-same, rows-again}
 use Rattle.book.specs.Calls.{withoutAt}
 use Rattle.ledger.specs.Ledger.{newY, seen}
 

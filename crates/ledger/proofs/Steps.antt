@@ -11,7 +11,7 @@ use lib.Seq.{drop-set-lt, take-set-lt, append-snoc}
 use lib.Ieee.{Float}
 use Rattle.loops.specs.Cases.{either}
 use Rattle.loops.specs.Fold.{fold}
-use Rattle.monomial.specs.Samples.{Sample}
+use Rattle.samples.specs.Samples.{Sample}
 use Rattle.monomial.specs.Rows.{rowsOf}
 use Rattle.monomial.specs.Sums.{sumsOf}
 use Rattle.frame.specs.Frame.{decode}
@@ -23,9 +23,10 @@ use Rattle.refusal.specs.Refusals.{firstOf, settle}
 use Rattle.refusal.specs.Laws.{first-none}
 use Rattle.refusal.specs.Rooms.{Room, room, room-of, long-enough}
 use Rattle.refusal.specs.Tests.{capacity, sampleFinite}
-use Rattle.book.specs.Columns.{lengths, Column, ofX, ofY, value, samplesAt, withY}
+use Rattle.samples.specs.Columns.{lengths, Column, ofX, ofY, value, samplesAt, withY}
 use Rattle.book.specs.Calls.{Out, State, after, bookOf, bookAnswered, refused, addOut, correctOut, withdrawOut, withoutAt, addNext, addMany, addFrameOut}
-use Rattle.book.specs.Many.{added, RoomFor, room-one, room-rest, one-added, many-added, added-is}
+use Rattle.book.specs.Many.{added, RoomFor}
+use Rattle.book.specs.ManyLaws.{room-one, room-rest, one-added, many-added, added-is}
 use Rattle.book.specs.Window.{windowRefusal, withPlace, windowOut}
 use Rattle.ledger.specs.Ledger.{Change, adds, corrects, withdraws, frames, windows, Lent, lentBy, outOf, newY, without, changed, refusalOf}
 use Rattle.ledger.proofs.Lists.{length-new, new-x, new-y, length-less, column-add, column-without, length-without, without-rest, samples-are, sums-rest, sums-add, sums-correct, sums-long, drop-later}

@@ -1,19 +1,20 @@
 -- The theorem over a list of calls: the definitions that the contracts promise, folded over any list of calls from a book just opened, agree with
 -- the plain ledger.
-use mathlib.Core.Path.{_≡_, refl, sym, ap, ap₂, subst, _∙_}
+use mathlib.Core.Path.{_≡_, refl, ap, subst, _∙_}
 use mathlib.Core.List.{List, [], _∷_, _++_, map}
 use Prim.Native.Nat.{ℕ, zero, suc, _≤_}
 use native.Mathlib.Omega.{arith}
 use lib.ListN.{length, getD, take, drop, length-map, length-append, length-drop}
 use lib.Ieee.{Float, nan}
 use Rattle.runs.specs.Runs.{agree, remembered}
-use Rattle.monomial.specs.Samples.{Sample}
-use Rattle.monomial.specs.Sums.{sumsOf, length-sums}
+use Rattle.samples.specs.Samples.{Sample}
+use Rattle.monomial.specs.Sums.{sumsOf}
+use Rattle.monomial.specs.SumLaws.{length-sums}
 use Rattle.book.specs.declared.Answer.the-variants as answers
 use Rattle.book.specs.Refusals.{openRefusal}
 use Rattle.book.specs.RefusalLaws.{open-room}
 use Rattle.book.specs.Calls.{State, stateOf, bookOf, openOut}
-use Rattle.book.specs.Columns.{Column, ofX, ofY, value, columnsOf}
+use Rattle.samples.specs.Columns.{Column, ofX, ofY, value, columnsOf}
 use Rattle.ledger.specs.Ledger.{Call, changes, reads, said, told, Reading, Lent, lentOf, next, reply, program, final, replies, opened, ledgerNext, ledgerReply, ledger, ledgerEnd, ledgerReplies, seen, held, Agrees, WholeList}
 use Rattle.ledger.proofs.Lists.{seen-is, seen-kept, sums-first, sums-rest}
 use Rattle.ledger.proofs.Steps.{Holds, Leaves, leaves-all, held-by, step}

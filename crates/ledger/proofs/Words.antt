@@ -2,7 +2,7 @@
 use mathlib.Core.Path.{_≡_, refl, sym, ap, _∙_}
 use mathlib.Core.Bool.{Bool, true, false, cond}
 use mathlib.Core.List.{List}
-use Prim.Native.Nat.{ℕ, _+_, _<_}
+use Prim.Native.Nat.{ℕ, _<_}
 use native.Mathlib.Omega.{arith}
 use lib.ListN.{length}
 use Rattle.loops.specs.Places.{length-table, table-at}
@@ -11,10 +11,11 @@ use Rattle.basis.specs.declared.OptionDegree.the-variants.{Some, None}
 use Rattle.statistics.specs.Degrees.{maxDegree}
 use Rattle.basis.specs.Counts.{countOf}
 use Rattle.basis.specs.declared.Basis.the-variants.{Curve}
-use Rattle.monomial.specs.Samples.{Sample}
+use Rattle.samples.specs.Samples.{Sample}
 use Rattle.monomial.specs.Rows.{rowsOf}
 use Rattle.solve.specs.Solve.{solve}
-use Rattle.choice.specs.Choice.{degree, chosenOf, solvedCount, chosen-same, count-same}
+use Rattle.choice.specs.Choice.{degree, chosenOf, solvedCount}
+use Rattle.choice.specs.ChoiceLaws.{chosen-same, count-same}
 use Rattle.choice.specs.Laws.{none-below, chosen, chosen-is, none-such, none-such-only}
 use Rattle.choice.specs.declared.Scored.{Scored}
 use Rattle.fit.specs.Solved.{scoredBy}

@@ -7,9 +7,10 @@ use lib.Dec.{eqb}
 use mathlib.Core.Bool.{cond}
 use lib.ListN.{length, getD, take, drop}
 use lib.Ieee.{Float, nan}
+use Rattle.basis.specs.Sizes.{sumPlaces}
 use Rattle.loops.specs.Fold.{fold}
 use Rattle.runs.specs.Runs.{Machine, replies as repliesOf, history}
-use Rattle.monomial.specs.Samples.{Sample}
+use Rattle.samples.specs.Samples.{Sample}
 use Rattle.monomial.specs.Rows.{rowsOf}
 use Rattle.monomial.specs.Sums.{sumsOf}
 use Rattle.frame.specs.Frame.{decode}
@@ -18,7 +19,7 @@ use Rattle.book.specs.declared.Answer.the-variants as answers
 use Rattle.book.specs.Refusals.{addRefusal, correctRefusal, withdrawRefusal, frameAddRefusal}
 use Rattle.refusal.specs.Tests.{capacity}
 use Rattle.book.specs.Calls.{Out, State, stateOf, after, bookOf, bookAfter, openOut, addOut, correctOut, withdrawOut, addFrameOut}
-use Rattle.book.specs.Columns.{Column, value, lengths, columnsOf, samplesAt}
+use Rattle.samples.specs.Columns.{Column, value, lengths, columnsOf, samplesAt}
 use Rattle.refusal.specs.Refusals.{settle}
 use Rattle.book.specs.Window.{windowRefusal, windowOut}
 
@@ -75,7 +76,7 @@ next s (reads q) = s
 unfoldable pub reply : {R W : Type 0} → Reading R W → State → Call R → Reply W
 reply readOn s (changes c) = said (outOf s c .answer)
 reply readOn s (reads q) =
-    told (readOn q (s .count) (samplesAt (s .count) (s .columns)) (take 272 (s .sums)) (lengths (s .columns)) (length (s .sums)))
+    told (readOn q (s .count) (samplesAt (s .count) (s .columns)) (take sumPlaces (s .sums)) (lengths (s .columns)) (length (s .sums)))
 
 abbrev pub program : {R W : Type 0} → Reading R W → Machine State (Call R) (Reply W)
 program readOn = record { step = next; reply = reply readOn }
@@ -159,11 +160,11 @@ pub record Agrees {R W : Type 0} (readOn : Reading R W) (xs₀ ys₀ sums₀ : L
   -- the column places below it hold the ledger's samples,
   pub below : (k : Column) → take (final s cs .count) (final s cs .columns k) ≡ map (value k) (ledgerEnd (lentOf xs₀ ys₀ sums₀) l cs)
   -- and the 272 sums are the ledger's, bit for bit, NaNs as one value.
-  pub sums : take 272 (final s cs .sums) ≡ sumsOf (rowsOf (ledgerEnd (lentOf xs₀ ys₀ sums₀) l cs))
+  pub sums : take sumPlaces (final s cs .sums) ≡ sumsOf (rowsOf (ledgerEnd (lentOf xs₀ ys₀ sums₀) l cs))
   -- A column place at or past the count keeps what it held when it was last below the count, or else what it held at opening.
   pub places : (k : Column) (p : ℕ) → getD (final s cs .columns k) p nan ≡ held (value k) (getD (s .columns k) p nan) (lentOf xs₀ ys₀ sums₀) l cs p
   -- Places past the 272 are not the book's: they are left as they were.
-  pub past : drop 272 (final s cs .sums) ≡ drop 272 sums₀
+  pub past : drop sumPlaces (final s cs .sums) ≡ drop sumPlaces sums₀
   -- The columns and the sums are the same lent memory in every call.
   pub lent : lentBy (final s cs) ≡ lentOf xs₀ ys₀ sums₀
 

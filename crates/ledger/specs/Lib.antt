@@ -1,5 +1,5 @@
 -- Document 01's plain ledger, lists of calls, and what demand 3 says of them.
 pub mod Ledger
-pub mod Questions
+pub mod ReadCalls
 pub mod Words
 pub mod Whole

@@ -4,7 +4,7 @@ use mathlib.Core.Path.{_≡_}
 use mathlib.Core.List.{List, [], _∷_, _++_}
 use lib.ListN.{length}
 use lib.Ieee.{Float}
-use Rattle.monomial.specs.Samples.{Sample}
+use Rattle.samples.specs.Samples.{Sample}
 use Rattle.monomial.specs.Rows.{rowsOf}
 use Rattle.monomial.specs.Sums.{sumsOf}
 use Rattle.book.specs.Calls.{bookOf, openOut}
@@ -13,7 +13,7 @@ use Rattle.report.specs.declared.Places.{Places}
 use Rattle.report.specs.Refusals.{reportRefusal}
 use Rattle.report.specs.Reports.{ReportOut, reportOn}
 use Rattle.ledger.specs.Ledger.{Call, reads, Reply, told, Lent, lentOf, replies, opened, ledgerEnd, ledgerReplies, Agrees}
-use Rattle.ledger.specs.Questions.{Question, Told, reports, reported, readOn}
+use Rattle.ledger.specs.ReadCalls.{ReadCall, Told, reports, reported, readOn}
 use Rattle.ledger.specs.Words.{Words}
 
 -- a report of the plain ledger
@@ -21,7 +21,7 @@ abbrev pub ledgerReport : Lent → List Sample → Settings → Places → Repor
 ledgerReport m l settings places = reportOn (length l) settings l (sumsOf (rowsOf l)) (m .columns) (m .sums) places
 
 -- a report that stands in the list after the calls `before`; all are what the calls reply
-pub record ReportedIn (m : Lent) (before : List (Call Question)) (settings : Settings) (places : Places) (all : List (Reply Told)) : Type 0 where
+pub record ReportedIn (m : Lent) (before : List (Call ReadCall)) (settings : Settings) (places : Places) (all : List (Reply Told)) : Type 0 where
   -- its reply comes after theirs, and is the report of the ledger that they leave;
   pub later : List (Reply Told)
   pub stands : all ≡ ledgerReplies readOn m [] before ++ (told (reported (ledgerReport m (ledgerEnd m [] before) settings places)) ∷ later)
@@ -30,15 +30,15 @@ pub record ReportedIn (m : Lent) (before : List (Call Question)) (settings : Set
       → Words settings (ledgerEnd m [] before) (ledgerReport m (ledgerEnd m [] before) settings places)
 
 -- the claim about the list of calls cs, where the lent memory held xs, ys and sums at opening
-pub record WholeBook (xs ys sums : List Float) (cs : List (Call Question)) : Type 0 where
+pub record WholeBook (xs ys sums : List Float) (cs : List (Call ReadCall)) : Type 0 where
   -- answers call by call, every value that a call writes, the book, the columns below the count and past it, the sums and the places past 272
   pub agrees : Agrees readOn xs ys sums (opened xs ys sums) [] cs
   -- each report in it
-  pub each-report : (before : List (Call Question)) (settings : Settings) (places : Places) (after : List (Call Question))
+  pub each-report : (before : List (Call ReadCall)) (settings : Settings) (places : Places) (after : List (Call ReadCall))
       → cs ≡ before ++ (reads (reports settings places) ∷ after)
       → ReportedIn (lentOf xs ys sums) before settings places (replies readOn (opened xs ys sums) cs)
 
 -- Take any list of adds, corrections, withdrawals, frames, fits, validations, bands and reports, refused ones included, in any order, from a book just
 -- opened.
 abbrev pub AnyList : Type 0
-AnyList = (xs ys sums : List Float) → openOut sums .answer ≡ bookOf 0 → (cs : List (Call Question)) → WholeBook xs ys sums cs
+AnyList = (xs ys sums : List Float) → openOut sums .answer ≡ bookOf 0 → (cs : List (Call ReadCall)) → WholeBook xs ys sums cs

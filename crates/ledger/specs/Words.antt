@@ -8,7 +8,7 @@ use lib.Ieee.{Float, lt}
 use Rattle.statistics.specs.Degrees.{maxDegree}
 use Rattle.basis.specs.Counts.{countOf}
 use Rattle.basis.specs.declared.Basis.the-variants.{Curve}
-use Rattle.monomial.specs.Samples.{Sample}
+use Rattle.samples.specs.Samples.{Sample}
 use Rattle.monomial.specs.Rows.{rowsOf}
 use Rattle.monomial.specs.Sums.{sumsOf}
 use Rattle.solve.specs.Solve.{solve}

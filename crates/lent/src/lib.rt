@@ -1,4 +1,5 @@
 // Writing to lent memory from its first place on.
+use basis::TERMS;
 ghost use mathlib.Core.Path.{_≡_};
 ghost use mathlib.Core.List.{_++_};
 ghost use Prim.Native.Nat.{_≤_};
@@ -16,11 +17,11 @@ pub fn clear(s: &mut [f64], n: usize)
 }
 
 // The first 16 places become the values.
-pub fn put_terms(values: [f64; 16], out: &mut [f64])
+pub fn put_terms(values: [f64; TERMS], out: &mut [f64])
     requires { ⌜ 16 ≤ length (now out) ⌝ }
     ensures { λ _. ⌜ now (out .exit) ≡ values ++ drop 16 (now (out .entry)) ⌝ }
 {
-    for i in 0..16 {
+    for i in 0..TERMS {
         out[i] = values[i];
     }
 }

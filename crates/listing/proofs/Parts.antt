@@ -1,4 +1,4 @@
--- A text that is written place by place. Assumes nothing.
+-- A text that is written place by place.
 use mathlib.Core.Path.{_≡_, refl, sym, ap, _∙_}
 use mathlib.Core.List.{List, [], _∷_, _++_}
 use Prim.Native.Nat.{ℕ, zero, suc, _+_, _-_, _*_, _/_, _%_, _^_, _<_}
@@ -8,7 +8,8 @@ use native.Mathlib.Omega.{arith}
 use lib.ListN.{length, getD, take, List·getD-map}
 use lib.Pow.{pow-add}
 use lib.Seq.{take-suc}
-use Rattle.loops.specs.Digits.{digits, digits-at}
+use Rattle.loops.specs.Digits.{digits}
+use Rattle.loops.specs.DigitLaws.{digits-at}
 use Rattle.listing.specs.Text.{glyph, hexadecimal}
 
 -- one place more of a text

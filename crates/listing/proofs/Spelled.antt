@@ -1,4 +1,4 @@
--- The decimal digits that `io::decimal` spells are those of the definition. Assumes nothing.
+-- The decimal digits that `io::decimal` spells are those of the definition.
 use mathlib.Core.Path.{_≡_, refl, sym, ap, ap₂, subst, _∙_}
 use mathlib.Core.List.{[], _∷_, _++_}
 use mathlib.Core.Bool.{Bool, true, false, cond}

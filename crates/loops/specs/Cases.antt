@@ -1,4 +1,4 @@
--- Proofs by cases on a test. Assumes nothing.
+-- Proofs by cases on a test.
 use mathlib.Core.Path.{_≡_, refl, sym}
 use mathlib.Core.Bool.{Bool, true, false, cond, _&&_, _||_, false≢true}
 use Prim.Native.Nat.{ℕ, _≤_, _<_}

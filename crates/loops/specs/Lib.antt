@@ -2,7 +2,10 @@
 pub mod Loop
 pub mod Places
 pub mod Fold
+pub mod FoldLaws
 pub mod Within
 pub mod All
+pub mod AllLaws
 pub mod Cases
 pub mod Digits
+pub mod DigitLaws

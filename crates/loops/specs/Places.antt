@@ -1,4 +1,4 @@
--- Lists, place by place: `each` puts the first places through a function, `table` makes a list of n places. Assumes nothing.
+-- Lists, place by place: `each` puts the first places through a function, `table` makes a list of n places.
 use mathlib.Core.Path.{_≡_, refl, ap, fun-ext, _∙_}
 use mathlib.Core.List.{List, [], _∷_, _++_, append-nil, map}
 use Prim.Native.Nat.{ℕ, zero, suc, _+_, _-_, _≤_, _<_}

@@ -1,4 +1,4 @@
--- Memory of which only the first n places are used: t is s but there. Assumes nothing.
+-- Memory of which only the first n places are used: t is s but there.
 use mathlib.Core.Path.{_≡_, refl, ap, _∙_}
 use mathlib.Core.List.{List, _++_}
 use Prim.Native.Nat.{ℕ, _≤_, _<_}

@@ -9,10 +9,12 @@ use lib.Dec.{ltb}
 use lib.ListN.{length, getD, set, drop, length-set, drop-of-length-le}
 use lib.Seq.{getD-set-same, getD-set-other, drop-append-le}
 use lib.Ieee.{Float, nan, binary64, add}
-use Rattle.loops.specs.Fold.{fold, fold-snoc}
+use Rattle.loops.specs.Fold.{fold}
+use Rattle.loops.specs.FoldLaws.{fold-snoc}
 use Rattle.basis.specs.declared.Basis.{Basis}
 use Rattle.monomial.specs.Terms.{termsAt}
-use Rattle.monomial.specs.Rows.{Row, rowAt, rowsAt, length-rows-at, rows-at-again}
+use Rattle.monomial.specs.Rows.{Row, rowAt, rowsAt}
+use Rattle.monomial.specs.RowLaws.{length-rows-at, rows-at-again}
 use Rattle.monomial.specs.Sums.{productOf, addRow, addRows}
 use Rattle.monomial.specs.Corner.{SameCorner, CornerSet}
 use Rattle.monomial.specs.CornerLaws.{corner-itself, corner-then, add-row-at, row-corner, length-add-rows}

@@ -1,4 +1,4 @@
--- The fitted value of up to four coefficients, one after the other. Assumes nothing.
+-- The fitted value of up to four coefficients, one after the other.
 use mathlib.Core.Path.{_≡_, refl, sym, ap}
 use mathlib.Core.List.{List}
 use Prim.Native.Nat.{ℕ, _+_, _<_}

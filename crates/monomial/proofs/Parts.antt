@@ -1,16 +1,19 @@
--- One turn of the loops that add a row's products, and a row's products added in two parts, A and then g. Assumes nothing.
+-- One turn of the loops that add a row's products, and a row's products added in two parts, A and then g.
 use mathlib.Core.Path.{_≡_, sym, ap, _∙_}
 use mathlib.Core.List.{List, _++_}
 use Prim.Native.Nat.{ℕ, _+_, _-_, _*_, _≤_, _<_}
 use native.Mathlib.Omega.{arith}
 use lib.ListN.{length, getD, set, take, drop}
 use lib.Ieee.{Float, nan, binary64, add, mul}
-use Rattle.loops.specs.Fold.{fold, fold-snoc}
+use Rattle.loops.specs.Fold.{fold}
+use Rattle.loops.specs.FoldLaws.{fold-snoc}
 use Rattle.loops.specs.Places.{each, each-again, each-same, each-rest, each-split, tail-through}
 use Rattle.value.specs.Numbers.{zeroF}
-use Rattle.monomial.specs.Samples.{sampleAt, samplesOf, samples-again}
+use Rattle.samples.specs.Samples.{sampleAt, samplesOf}
+use Rattle.samples.specs.SampleLaws.{samples-again}
 use Rattle.monomial.specs.Rows.{Row, rowOf, rowsOf}
-use Rattle.monomial.specs.Sums.{productOf, addRow, product-matrix, product-no-y, rows-again}
+use Rattle.monomial.specs.Sums.{productOf, addRow}
+use Rattle.monomial.specs.SumLaws.{product-matrix, product-no-y, rows-again}
 
 -- A with its places below n added
 abbrev pub addedA : List Float → ℕ → List Float → List Float

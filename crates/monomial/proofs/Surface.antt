@@ -1,6 +1,6 @@
--- A surface's term values, each from the squares and cubes of x and z. Assumes nothing.
-use mathlib.Core.Path.{_≡_, refl, ap, _∙_}
-use mathlib.Core.List.{List, [], _∷_}
+-- A surface's term values, each from the squares and cubes of x and z.
+use mathlib.Core.Path.{_≡_, refl, _∙_}
+use mathlib.Core.List.{[], _∷_}
 use lib.Dec.{T}
 use lib.Ieee.{Float, binary64, mul, fits, ofBits}
 use Rattle.loops.specs.Places.{table}

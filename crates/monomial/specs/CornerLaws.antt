@@ -8,7 +8,8 @@ use lib.Ieee.{Float, nan, binary64, add}
 use Rattle.loops.specs.Fold.{fold}
 use Rattle.loops.specs.Places.{each-at}
 use Rattle.monomial.specs.Rows.{Row}
-use Rattle.monomial.specs.Sums.{productOf, addRow, addRows, length-add-row}
+use Rattle.monomial.specs.Sums.{productOf, addRow, addRows}
+use Rattle.monomial.specs.SumLaws.{length-add-row}
 use Rattle.monomial.specs.Corner.{SameCorner}
 
 pub corner-itself : (k : ℕ) (s : List Float) → SameCorner k s s

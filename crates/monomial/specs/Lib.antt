@@ -1,8 +1,11 @@
 -- Samples, their rows of term values, and the sums of document 01.
-pub mod Samples
 pub mod Terms
+pub mod TermLaws
 pub mod Rows
+pub mod RowLaws
 pub mod Adding
+pub mod AddingLaws
 pub mod Sums
+pub mod SumLaws
 pub mod Corner
 pub mod CornerLaws

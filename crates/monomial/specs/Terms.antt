@@ -1,8 +1,8 @@
--- The term values of a basis at x and z: always 16 places. Assumes nothing.
-use mathlib.Core.Path.{_≡_, refl}
+-- The term values of a basis at x and z: always 16 places. Definitions only.
 use mathlib.Core.List.{List, [], _∷_, _++_, map}
 use Prim.Native.Nat.{ℕ, _+_, _-_}
 use lib.Ieee.{Float, binary64, mul}
+use Rattle.basis.specs.Sizes.{maxTerms}
 use Rattle.loops.specs.Places.{table}
 use Rattle.value.specs.Numbers.{zeroF}
 use Rattle.value.specs.Power.{powerF}
@@ -27,11 +27,5 @@ surfaceTerms x z = map (λ (p : Powers). mul binary64 (powerF x (p .a)) (powerF 
 
 -- a curve's term values are the powers 0 to 15 of x; z is not read
 unfoldable pub termsAt : Basis → Float → Float → List Float
-termsAt Curve x z = table (powerF x) 16
+termsAt Curve x z = table (powerF x) maxTerms
 termsAt Surface x z = surfaceTerms x z
-
--- ---- laws
-
-pub curve-terms : (x z : Float) → termsAt Curve x z ≡ table (powerF x) 16
-unfolding termsAt
-curve-terms x z = refl

@@ -1,6 +1,8 @@
 // The fitted value, and the 272 sums that a fit is solved from: A[i][j] at 16i + j, g[i] at 256 + i.
 use basis::Basis;
 use basis::CoefficientCount;
+use basis::SUMS;
+use basis::TERMS;
 ghost use mathlib.Core.Path.{_≡_};
 ghost use mathlib.Core.List.{_++_};
 ghost use Prim.Native.Nat.{_+_, _≤_};
@@ -9,14 +11,14 @@ ghost use lib.ListN.{length, take, drop};
 ghost use Rattle.loops.specs.Places.{each, table};
 ghost use Rattle.value.specs.Numbers.{zeroF};
 ghost use Rattle.value.specs.Power.{powerF};
-ghost use Rattle.monomial.specs.Samples.{samplesOf};
+ghost use Rattle.samples.specs.Samples.{samplesOf};
 ghost use Rattle.monomial.specs.Terms.{surfaceTerms, termsAt};
 ghost use Rattle.monomial.specs.Rows.{rowOf, rowsOf, rowsAt, fitted as fittedF};
 ghost use Rattle.monomial.specs.Sums.{productOf, addRow, addRows, sumsOf};
 ghost use Rattle.monomial.specs.Corner.{CornerSet};
 
 // Coefficient × term value, ascending, for the k coefficients.
-pub fn fitted(k: CoefficientCount, c: &[f64; 16], terms: &[f64; 16]) -> f64
+pub fn fitted(k: CoefficientCount, c: &[f64; TERMS], terms: &[f64; TERMS]) -> f64
     requires { ⌜ k .0 ≤ 16 ⌝ }
     ensures { λ r. ⌜ r ≡ fittedF (k .0) (now (c .entry)) (now (terms .entry)) ⌝ }
 {
@@ -29,7 +31,7 @@ pub fn fitted(k: CoefficientCount, c: &[f64; 16], terms: &[f64; 16]) -> f64
 }
 
 // The fitted value of up to four coefficients at x, for which few powers are worked out.
-fn fitted_low(k: CoefficientCount, c: &[f64; 16], x: f64) -> f64
+fn fitted_low(k: CoefficientCount, c: &[f64; TERMS], x: f64) -> f64
     requires { ⌜ k .0 ≤ 4 ⌝ }
     ensures { λ r. ⌜ r ≡ fittedF (k .0) (now (c .entry)) (table (powerF x) 16) ⌝ }
 {
@@ -54,7 +56,7 @@ fn fitted_low(k: CoefficientCount, c: &[f64; 16], x: f64) -> f64
 }
 
 // The fitted value of a curve at x.
-pub fn curve_at(k: CoefficientCount, c: &[f64; 16], x: f64) -> f64
+pub fn curve_at(k: CoefficientCount, c: &[f64; TERMS], x: f64) -> f64
     requires { ⌜ k .0 ≤ 16 ⌝ }
     ensures { λ r. ⌜ r ≡ fittedF (k .0) (now (c .entry)) (table (powerF x) 16) ⌝ }
 {
@@ -66,7 +68,7 @@ pub fn curve_at(k: CoefficientCount, c: &[f64; 16], x: f64) -> f64
 }
 
 // A surface's 15 term values, and +0.
-fn surface_terms(x: f64, z: f64) -> [f64; 16]
+fn surface_terms(x: f64, z: f64) -> [f64; TERMS]
     ensures { λ r. ⌜ r ≡ surfaceTerms x z ⌝ }
 {
     let x2 = x * x;
@@ -96,7 +98,7 @@ fn surface_terms(x: f64, z: f64) -> [f64; 16]
 }
 
 // The term values at x and z.
-pub fn terms_at(basis: Basis, x: f64, z: f64) -> [f64; 16]
+pub fn terms_at(basis: Basis, x: f64, z: f64) -> [f64; TERMS]
     ensures { λ r. ⌜ r ≡ termsAt basis x z ⌝ }
 {
     match basis {
@@ -106,7 +108,7 @@ pub fn terms_at(basis: Basis, x: f64, z: f64) -> [f64; 16]
 }
 
 // The fitted value of a surface at x and z.
-pub fn surface_at(k: CoefficientCount, c: &[f64; 16], x: f64, z: f64) -> f64
+pub fn surface_at(k: CoefficientCount, c: &[f64; TERMS], x: f64, z: f64) -> f64
     requires { ⌜ k .0 ≤ 16 ⌝ }
     ensures { λ r. ⌜ r ≡ fittedF (k .0) (now (c .entry)) (surfaceTerms x z) ⌝ }
 {
@@ -115,7 +117,7 @@ pub fn surface_at(k: CoefficientCount, c: &[f64; 16], x: f64, z: f64) -> f64
 }
 
 // The fitted value at x and z.
-pub fn fitted_at(basis: Basis, k: CoefficientCount, c: &[f64; 16], x: f64, z: f64) -> f64
+pub fn fitted_at(basis: Basis, k: CoefficientCount, c: &[f64; TERMS], x: f64, z: f64) -> f64
     requires { ⌜ k .0 ≤ 16 ⌝ }
     ensures { λ r. ⌜ r ≡ fittedF (k .0) (now (c .entry)) (termsAt basis x z) ⌝ }
 {
@@ -126,13 +128,13 @@ pub fn fitted_at(basis: Basis, k: CoefficientCount, c: &[f64; 16], x: f64, z: f6
 }
 
 // Adds the products of two term values to the 256 places of A.
-fn add_matrix(sums: &mut [f64], terms: &[f64; 16])
+fn add_matrix(sums: &mut [f64], terms: &[f64; TERMS])
     requires { ⌜ 256 ≤ length (now sums) ⌝ }
     ensures { λ _. ⌜ now (sums .exit) ≡ each (λ k v. add binary64 v (productOf (now (terms .entry)) zeroF k)) 256 (now (sums .entry)) ⌝ }
 {
-    for i in 0..16 {
+    for i in 0..TERMS {
         let t = terms[i];
-        for j in 0..16 {
+        for j in 0..TERMS {
             let at = 16 * i + j;
             sums[at] = sums[at] + t * terms[j];
         }
@@ -140,17 +142,17 @@ fn add_matrix(sums: &mut [f64], terms: &[f64; 16])
 }
 
 // Adds the products of a term value and y to the 16 places of g.
-fn add_right(g: &mut [f64], terms: &[f64; 16], y: f64)
+fn add_right(g: &mut [f64], terms: &[f64; TERMS], y: f64)
     requires { ⌜ 16 ≤ length (now g) ⌝ }
     ensures { λ _. ⌜ now (g .exit) ≡ each (λ i v. add binary64 v (productOf (now (terms .entry)) y (256 + i))) 16 (now (g .entry)) ⌝ }
 {
-    for i in 0..16 {
+    for i in 0..TERMS {
         g[i] = g[i] + terms[i] * y;
     }
 }
 
 // Adds the products of a row to what stands at the 272 places.
-pub fn add_row(sums: &mut [f64], terms: &[f64; 16], y: f64)
+pub fn add_row(sums: &mut [f64], terms: &[f64; TERMS], y: f64)
     requires { ⌜ 272 ≤ length (now sums) ⌝ }
     ensures { λ _. ⌜ now (sums .exit) ≡ addRow (now (sums .entry)) (record { terms = now (terms .entry); y = y }) ⌝ }
 {
@@ -168,7 +170,7 @@ pub fn add_sample(sums: &mut [f64], x: f64, y: f64)
 }
 
 // Adds the products of a row in the corner of k rows and columns of A and in the first k places of g, line by line.
-fn add_lines(sums: &mut [f64], k: CoefficientCount, terms: &[f64; 16], y: f64)
+fn add_lines(sums: &mut [f64], k: CoefficientCount, terms: &[f64; TERMS], y: f64)
     requires { ⌜ (272 ≤ length (now sums)) × (k .0 ≤ 16) ⌝ }
     ensures { λ _. ⌜ CornerSet (k .0) (addRow (now (sums .entry)) (record { terms = now (terms .entry); y = y })) (now (sums .entry)) (now (sums .exit)) ⌝ }
 {
@@ -185,7 +187,7 @@ fn add_lines(sums: &mut [f64], k: CoefficientCount, terms: &[f64; 16], y: f64)
 }
 
 // The same. The 16 of the whole is written out, so that its loops are unrolled.
-fn add_row_corner(sums: &mut [f64], k: CoefficientCount, terms: &[f64; 16], y: f64)
+fn add_row_corner(sums: &mut [f64], k: CoefficientCount, terms: &[f64; TERMS], y: f64)
     requires { ⌜ (272 ≤ length (now sums)) × (k .0 ≤ 16) ⌝ }
     ensures { λ _. ⌜ CornerSet (k .0) (addRow (now (sums .entry)) (record { terms = now (terms .entry); y = y })) (now (sums .entry)) (now (sums .exit)) ⌝ }
 {
@@ -262,7 +264,7 @@ pub fn fold_sums(xs: &[f64], ys: &[f64], n: usize, sums: &mut [f64])
     requires { ⌜ (n ≤ length (now xs)) × (n ≤ length (now ys)) ⌝ }
     ensures { λ _. ⌜ now (sums .exit) ≡ sumsOf (rowsOf (samplesOf n (now (xs .entry)) (now (ys .entry)))) ++ drop 272 (now (sums .entry)) ⌝ }
 {
-    for k in 0..272 {
+    for k in 0..SUMS {
         sums[k] = 0.0;
     }
     for t in 0..n {
@@ -276,7 +278,7 @@ fn fold_right(xs: &[f64], ys: &[f64], n: usize, g: &mut [f64])
     requires { ⌜ (n ≤ length (now xs)) × (n ≤ length (now ys)) ⌝ }
     ensures { λ _. ⌜ now (g .exit) ≡ drop 256 (sumsOf (rowsOf (samplesOf n (now (xs .entry)) (now (ys .entry))))) ++ drop 16 (now (g .entry)) ⌝ }
 {
-    for k in 0..16 {
+    for k in 0..TERMS {
         g[k] = 0.0;
     }
     for t in 0..n {

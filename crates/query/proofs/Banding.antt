@@ -1,7 +1,7 @@
--- What a band comes to: refused by 1 to 9, by 10 or 12, or made. Assumes nothing.
+-- What a band comes to: refused by 1 to 9, by 10 or 12, or made.
 use mathlib.Core.Path.{_≡_, refl}
 use mathlib.Core.List.{List}
-use Prim.Native.Nat.{ℕ, zero, suc, _+_}
+use Prim.Native.Nat.{ℕ, zero, suc}
 use lib.Ieee.{Float}
 use Rattle.loops.specs.Places.{table}
 use Rattle.value.specs.Power.{powerF}
@@ -12,15 +12,14 @@ use Rattle.statistics.specs.declared.StddevAndMean.{StddevAndMean}
 use Rattle.statistics.specs.declared.Tolerance.{Tolerance}
 use Rattle.basis.specs.Counts.{countOf}
 use Rattle.basis.specs.declared.Basis.the-variants.{Curve}
-use Rattle.monomial.specs.Samples.{Sample, ysOf}
+use Rattle.samples.specs.Samples.{Sample, ysOf}
 use Rattle.monomial.specs.Rows.{rowsOf}
 use Rattle.solve.specs.Solve.{solve}
 use Rattle.covariance.specs.Bands.{bandAt}
 use Rattle.covariance.specs.declared.Band.{Band}
 use Rattle.refusal.specs.Refusals.{settle}
 use Rattle.measure.specs.Measures.{measureRefusal, covarianceAt}
-use Rattle.lent.specs.Written.{over}
-use Rattle.lent.specs.Written.{zeros}
+use Rattle.lent.specs.Written.{over, zeros}
 use Rattle.query.specs.declared.BandAnswer.{BandAnswer}
 use Rattle.query.specs.declared.BandAnswer.the-variants as answers
 use Rattle.query.specs.Bands.{BandOut, BandIs, bandRefused, bandOn, bandPast}

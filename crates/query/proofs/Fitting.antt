@@ -1,24 +1,25 @@
--- What a fit or a validation comes to: refused by 1 to 9, unsolved, or solved. Assumes nothing.
+-- What a fit or a validation comes to: refused by 1 to 9, unsolved, or solved.
 use mathlib.Core.Path.{_≡_, refl, sym, ap, _∙_}
 use mathlib.Core.Bool.{true, false}
 use mathlib.Core.List.{List}
-use Prim.Native.Nat.{ℕ, zero, suc, _+_}
+use Prim.Native.Nat.{ℕ, zero, suc}
 use lib.Ieee.{Float}
 use Rattle.loops.specs.Within.{Within}
 use Rattle.basis.specs.declared.OptionDegree.{OptionDegree}
 use Rattle.basis.specs.declared.OptionDegree.the-variants.{Some, None}
 use Rattle.basis.specs.Counts.{countOf}
 use Rattle.basis.specs.declared.Basis.the-variants.{Curve}
-use Rattle.monomial.specs.Samples.{Sample}
+use Rattle.samples.specs.Samples.{Sample}
 use Rattle.monomial.specs.Rows.{rowsOf}
 use Rattle.solve.specs.Solve.{solve}
 use Rattle.fit.specs.Solved.{isSolved}
 use Rattle.refusal.specs.Refusals.{settle}
-use Rattle.lent.specs.Written.{over}
-use Rattle.lent.specs.Written.{zeros, over-within}
+use Rattle.lent.specs.Written.{over, zeros}
+use Rattle.lent.specs.WrittenLaws.{over-within}
 use Rattle.query.specs.declared.FitAnswer.{FitAnswer}
 use Rattle.query.specs.declared.FitAnswer.the-variants as answers
-use Rattle.query.specs.Fits.{FitOut, FitIs, fitRefused, fitPast, validatePast, past-scratch}
+use Rattle.query.specs.Fits.{FitOut, FitIs, fitRefused, fitPast, validatePast}
+use Rattle.query.specs.FitLaws.{past-scratch}
 
 -- refused by r, one of 1 to 9
 pub refused-early : (r q : ℕ) (past : FitOut) (s c : List Float) → r ≡ q → (r ≡ 0 → ⊥) → FitIs (settle q past (fitRefused q)) (answers.Refused r) s s c c

@@ -1,10 +1,10 @@
--- Document 01's band for one x and degree: what it answers and writes, from samples, sums and lengths.
-use mathlib.Core.Path.{_≡_, refl}
-use mathlib.Core.List.{List, [], _∷_, List·Memᴰ, List·Memᴰ·head, List·Memᴰ·cases-cons, Memᴰ·append-right}
-use mathlib.Core.Logic.{⊎-elim}
-use Prim.Native.Nat.{ℕ, zero, suc, _+_}
+-- Document 01's band for one x and degree: what it answers and writes, from samples, sums and lengths. Definitions only.
+use mathlib.Core.Path.{_≡_}
+use mathlib.Core.List.{List, [], _∷_}
+use Prim.Native.Nat.{ℕ, zero}
 use lib.ListN.{length, take}
 use lib.Ieee.{Float}
+use Rattle.basis.specs.Sizes.{maxTerms, sumPlaces}
 use Rattle.loops.specs.Places.{table}
 use Rattle.value.specs.Power.{powerF}
 use Rattle.statistics.specs.Scores.{zScore}
@@ -13,20 +13,17 @@ use Rattle.statistics.specs.declared.Confidence.{Confidence}
 use Rattle.statistics.specs.declared.Tolerance.{Tolerance}
 use Rattle.basis.specs.Counts.{countOf}
 use Rattle.basis.specs.declared.Basis.the-variants.{Curve}
-use Rattle.monomial.specs.Samples.{Sample, samplesOf, ysOf}
+use Rattle.samples.specs.Samples.{Sample, samplesOf, ysOf}
 use Rattle.monomial.specs.Rows.{rowsOf}
 use Rattle.solve.specs.Solve.{solve}
 use Rattle.covariance.specs.Bands.{bandAt}
 use Rattle.covariance.specs.declared.Band.{Band}
 use Rattle.refusal.specs.Refusals.{settle}
-use Rattle.refusal.specs.Laws.{numbered, settled-among}
 use Rattle.measure.specs.Measures.{measureRefusal, covarianceAt}
-use Rattle.lent.specs.Written.{over}
-use Rattle.lent.specs.Written.{zeros}
+use Rattle.lent.specs.Written.{over, zeros}
 use Rattle.query.specs.declared.BandAnswer.{BandAnswer}
 use Rattle.query.specs.declared.BandAnswer.the-variants as answers
 use Rattle.query.specs.Refusals.{bandRefusal}
-use Rattle.query.specs.RefusalLaws.{band-numbers}
 
 -- the answer, and the values written to scratch
 pub record BandOut : Type 0 where
@@ -46,7 +43,7 @@ bandRefused r = record { answer = answers.Refused r; scratch = [] }
 unfoldable pub bandOn : Float → ℕ → Confidence → Tolerance → List Sample → List Float → Band
 bandOn x degree confidence tolerance samples sums =
     bandAt (countOf Curve degree) (solve sums (countOf Curve degree) .c) (covarianceAt sums (rowsOf samples) (countOf Curve degree)) tolerance (zScore confidence)
-    (stddevAndMean (ysOf samples) .stddev) (table (powerF x) 16)
+    (stddevAndMean (ysOf samples) .stddev) (table (powerF x) maxTerms)
 
 -- past refusals 1 to 9: 10 if the asked degree is unsolved, 12 if an inverse pivot fails, else the band
 unfoldable pub bandPast : ℕ → Float → ℕ → Confidence → Tolerance → List Sample → List Float → BandOut
@@ -63,25 +60,9 @@ bandFor n x degree confidence tolerance samples sums columns places scratch =
 -- the same on what stands in memory: what the call does
 abbrev pub bandOut : ℕ → Float → ℕ → Confidence → Tolerance → List Float → List Float → List Float → List Float → BandOut
 bandOut n x degree confidence tolerance xs ys sums scratch =
-    bandFor n x degree confidence tolerance (samplesOf n xs ys) (take 272 sums) (length xs ∷ length ys ∷ []) (length sums) (length scratch)
+    bandFor n x degree confidence tolerance (samplesOf n xs ys) (take sumPlaces sums) (length xs ∷ length ys ∷ []) (length sums) (length scratch)
 
 -- the promise: the answer is the definition's, and so is scratch, s before and s′ after
 pub record BandIs (o : BandOut) (r : BandAnswer) (s s′ : List Float) : Type 0 where
   pub answer : r ≡ o .answer
   pub scratch : s′ ≡ over (o .scratch) s
-
--- ---- laws
-
-band-past-number : (r : ℕ) (b : Band) → List·Memᴰ r (0 ∷ 10 ∷ 12 ∷ []) → List·Memᴰ (bandNumber (settle r (answers.Band b) (answers.Refused r))) (0 ∷ 1 ∷ 4 ∷ 7 ∷ 8 ∷ 9 ∷ 10 ∷ 12 ∷ [])
-band-past-number zero b h = List·Memᴰ·head refl
-band-past-number (suc k) b h =
-    ⊎-elim (λ e. List·Memᴰ·head e) (λ m. Memᴰ·append-right (0 ∷ 1 ∷ 4 ∷ 7 ∷ 8 ∷ 9 ∷ []) m) (List·Memᴰ·cases-cons h)
-
--- what a band may answer, by document 01's numbers
-pub band-answers : (n : ℕ) (x : Float) (degree : ℕ) (confidence : Confidence) (tolerance : Tolerance) (samples : List Sample) (sums : List Float) (columns : List ℕ) (places scratch : ℕ)
-    → List·Memᴰ (bandNumber (bandFor n x degree confidence tolerance samples sums columns places scratch .answer)) (0 ∷ 1 ∷ 4 ∷ 7 ∷ 8 ∷ 9 ∷ 10 ∷ 12 ∷ [])
-unfolding bandFor bandPast measureRefusal
-band-answers n x degree confidence tolerance samples sums columns places scratch =
-    settled-among (λ (o : BandOut). bandNumber (o .answer)) (bandRefusal n x degree confidence tolerance samples columns places scratch)
-    (bandPast n x degree confidence tolerance samples sums) _ (0 ∷ 1 ∷ 4 ∷ 7 ∷ 8 ∷ 9 ∷ []) (10 ∷ 12 ∷ [])
-    (band-numbers n samples columns places scratch x degree confidence tolerance) (band-past-number _ _ (numbered _)) refl

@@ -2,4 +2,6 @@
 pub mod Refusals
 pub mod RefusalLaws
 pub mod Fits
+pub mod FitLaws
 pub mod Bands
+pub mod BandLaws

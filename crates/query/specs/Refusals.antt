@@ -9,7 +9,7 @@ use Rattle.value.specs.Finite.{finite}
 use Rattle.statistics.specs.declared.Confidence.{Confidence}
 use Rattle.statistics.specs.declared.DegreeBound.{DegreeBound}
 use Rattle.statistics.specs.declared.Tolerance.{Tolerance}
-use Rattle.monomial.specs.Samples.{Sample, xsOf}
+use Rattle.samples.specs.Samples.{Sample, xsOf}
 use Rattle.refusal.specs.Refusals.{Refusal, by, firstOf}
 use Rattle.refusal.specs.Tests.{Memory, memory, tooShort, allFinite, scoreFinite, toleranceFinite, noSamples, wrongFolds, degreeTooHigh, boundTooHigh, outside}
 

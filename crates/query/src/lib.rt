@@ -5,6 +5,7 @@ mod refusals;
 use basis::Basis;
 use basis::Degree;
 use basis::OptionDegree;
+use basis::SUMS;
 use book::Book;
 use covariance::Band;
 use score::Criterion;
@@ -13,7 +14,7 @@ use statistics::DegreeBound;
 use statistics::Tolerance;
 ghost use Prim.Native.Nat.{_≤_};
 ghost use lib.ListN.{length, take};
-ghost use Rattle.monomial.specs.Samples.{samplesOf};
+ghost use Rattle.samples.specs.Samples.{samplesOf};
 ghost use Rattle.query.specs.Fits.{FitIs, fitPast, fitOut, validateOut};
 ghost use Rattle.query.specs.Bands.{BandIs, bandOut};
 
@@ -43,7 +44,7 @@ fn solve_at(
     ensures { λ r. ⌜ FitIs (fitPast n (degree .0) (samplesOf n (now (xs .entry)) (now (ys .entry))) (take 272 (now (sums .entry)))) r (now (scratch .entry)) (now (scratch .exit)) (now (coefficients .entry)) (now (coefficients .exit)) ⌝ }
 {
     let k = degree.k(Basis::Curve);
-    let s = fit::attempt(Basis::Curve, xs, xs, ys, n, &sums[..272], k, &mut *scratch);
+    let s = fit::attempt(Basis::Curve, xs, xs, ys, n, &sums[..SUMS], k, &mut *scratch);
     lent::clear(&mut *scratch, n);
     if !s.solved {
         return FitAnswer::Refused(10);
@@ -148,7 +149,7 @@ pub fn band(
         return BandAnswer::Refused(refusal);
     }
     let k = degree.k(Basis::Curve);
-    let m = measure::measure(Basis::Curve, xs, xs, ys, n, &sums[..272], k, &mut *scratch);
+    let m = measure::measure(Basis::Curve, xs, xs, ys, n, &sums[..SUMS], k, &mut *scratch);
     lent::clear(scratch, n);
     if m.number != 0 {
         return BandAnswer::Refused(m.number);

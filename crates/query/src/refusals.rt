@@ -1,12 +1,14 @@
 // Refusals 1 to 9 of the calls that read a book: the number of the first test that holds, 0 if none does.
 use basis::Degree;
+use basis::SUMS;
+use basis::TERMS;
 use statistics::Confidence;
 use statistics::DegreeBound;
 use statistics::Tolerance;
 ghost use mathlib.Core.Path.{_≡_};
 ghost use mathlib.Core.List.{[], _∷_};
 ghost use lib.ListN.{length};
-ghost use Rattle.monomial.specs.Samples.{samplesOf};
+ghost use Rattle.samples.specs.Samples.{samplesOf};
 ghost use Rattle.refusal.specs.Tests.{tooShort};
 ghost use Rattle.query.specs.Refusals.{fitMemory, bandMemory, fitRefusal, validateRefusal, bandRefusal};
 
@@ -21,8 +23,8 @@ fn fit_short(
 ) -> bool
     ensures { λ r. ⌜ r ≡ tooShort n (xs ∷ ys ∷ []) (fitMemory n sums scratch coefficients) ⌝ }
 {
-    let written = refusal::short(n, scratch, refusal::short(16, coefficients, false));
-    refusal::too_short(n, xs, ys, refusal::short(272, sums, written))
+    let written = refusal::short(n, scratch, refusal::short(TERMS, coefficients, false));
+    refusal::too_short(n, xs, ys, refusal::short(SUMS, sums, written))
 }
 
 // 1, of a band.
@@ -30,7 +32,7 @@ fn band_short(n: usize, xs: usize, ys: usize, sums: usize, scratch: usize) -> bo
     ensures { λ r. ⌜ r ≡ tooShort n (xs ∷ ys ∷ []) (bandMemory n sums scratch) ⌝ }
 {
     let written = refusal::short(n, scratch, false);
-    refusal::too_short(n, xs, ys, refusal::short(272, sums, written))
+    refusal::too_short(n, xs, ys, refusal::short(SUMS, sums, written))
 }
 
 pub fn fit_refusal(

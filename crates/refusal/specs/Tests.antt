@@ -1,5 +1,5 @@
 -- What each of document 01's numbers tests, where several calls share it. 2 and 3 are the frame's, 10, 11 and 12 come from solving. Definitions only.
-use mathlib.Core.Bool.{Bool, true, false, cond, not, _&&_, _||_}
+use mathlib.Core.Bool.{Bool, true, false, cond, _&&_, _||_}
 use mathlib.Core.List.{List, [], _∷_}
 use Prim.Native.Nat.{ℕ, _+_, min}
 use lib.Dec.{ltb, leb, eqb}
@@ -14,7 +14,7 @@ use Rattle.statistics.specs.declared.Confidence.the-variants as confidence
 use Rattle.statistics.specs.declared.DegreeBound.{DegreeBound}
 use Rattle.statistics.specs.declared.Tolerance.{Tolerance}
 use Rattle.statistics.specs.declared.Tolerance.the-variants as tolerance
-use Rattle.monomial.specs.Samples.{Sample}
+use Rattle.samples.specs.Samples.{Sample}
 
 -- ---- 1: a lent memory other than a book column is shorter than this call's places, or the count is above capacity
 

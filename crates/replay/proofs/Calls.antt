@@ -8,7 +8,8 @@ use lib.Ieee.{Float}
 use Rattle.book.specs.declared.Answer.{Answer}
 use Rattle.book.specs.declared.Answer.the-variants as answers
 use Rattle.book.specs.Calls.{Is, State, stateOf, bookAfter, addOut, correctOut, withdrawOut}
-use Rattle.book.specs.Columns.{columnsOf, columns-are}
+use Rattle.samples.specs.Columns.{columnsOf}
+use Rattle.samples.specs.ColumnLaws.{columns-are}
 use Rattle.settings.specs.declared.Settings.{Settings}
 use Rattle.report.specs.declared.Places.{Places}
 use Rattle.report.specs.declared.ReportAnswer.{ReportAnswer}
@@ -16,7 +17,7 @@ use Rattle.report.specs.declared.ReportAnswer.the-variants as tells
 use Rattle.report.specs.Reports.{ReportOut, Does}
 use Rattle.report.specs.Outputs.{Outputs, nothing, placesOf}
 use Rattle.ledger.specs.Ledger.{said, changes, reads, Change, adds, corrects, withdraws, outOf, next, reply}
-use Rattle.ledger.specs.Questions.{reports, readOn}
+use Rattle.ledger.specs.ReadCalls.{reports, readOn}
 use Rattle.replay.specs.declared.Done.{Done}
 use Rattle.replay.specs.Records.{callOf}
 use Rattle.replay.specs.Replay.{resultsOf, reportResults, writtenOf, overAllAt}

@@ -1,7 +1,7 @@
 -- Values written into lent buffers: into a window that is cut out, and window after window.
 use mathlib.Core.Path.{_≡_, refl, sym, ap, _∙_}
 use mathlib.Core.List.{List, [], _∷_, _++_, append-assoc}
-use Prim.Native.Nat.{ℕ, suc, _+_, _-_, _*_, _≤_}
+use Prim.Native.Nat.{ℕ, suc, _+_, _-_, _≤_}
 use native.Mathlib.Omega.{arith}
 use lib.ListN.{length, set, take, drop, length-append, length-drop, length-take, take-append-drop}
 use lib.Seq.{drop-append-le, length-front, length-take-le}

@@ -9,7 +9,8 @@ use borrow.Author.Tests.{leb-true, eqb-true}
 use lib.Dec.{leb, eqb}
 use lib.ListN.{length}
 use lib.Ieee.{Float}
-use Rattle.loops.specs.Fold.{allOf, all-cons}
+use Rattle.loops.specs.Fold.{allOf}
+use Rattle.loops.specs.FoldLaws.{all-cons}
 use Rattle.loops.specs.Places.{table}
 use Rattle.report.specs.declared.Places.{Places}
 use Rattle.replay.specs.declared.Buffers.{Buffers}

@@ -1,14 +1,15 @@
 -- The loop of a replay: one call, all calls so far, and all.
 use mathlib.Core.Path.{_≡_, refl, sym, ap, subst, _∙_}
 use mathlib.Core.Bool.{true, false, false≢true}
-use mathlib.Core.List.{List, [], _∷_, _++_}
-use Prim.Native.Nat.{ℕ, suc, _+_, _-_, _*_, _≤_, _<_}
+use mathlib.Core.List.{List, [], _++_}
+use Prim.Native.Nat.{ℕ, _+_, _-_, _*_, _≤_, _<_}
 use native.Mathlib.Nat.{zero-add}
 use native.Mathlib.Omega.{arith}
 use borrow.Author.Tests.{le-ltb}
 use lib.ListN.{length, getD, take, drop}
 use lib.Ieee.{Float, nan}
-use Rattle.loops.specs.Fold.{fold, fold-table}
+use Rattle.loops.specs.Fold.{fold}
+use Rattle.loops.specs.FoldLaws.{fold-table}
 use Rattle.loops.specs.Places.{table, length-table}
 use Rattle.runs.specs.Runs.{replies as repliesOf, length-replies, replies-table}
 use Rattle.lent.specs.Written.{over}
@@ -16,14 +17,14 @@ use Rattle.book.specs.declared.Answer.{Answer}
 use Rattle.book.specs.Refusals.{openRefusal}
 use Rattle.refusal.specs.Refusals.{firstOf}
 use Rattle.book.specs.Calls.{Is, State, stateOf, bookOf, bookAfter, openOut}
-use Rattle.book.specs.Columns.{ofX, ofY}
+use Rattle.samples.specs.Columns.{ofX, ofY}
 use Rattle.settings.specs.declared.Settings.{Settings}
 use Rattle.report.specs.declared.Places.{Places}
 use Rattle.report.specs.Reports.{reportOut}
 use Rattle.report.specs.Outputs.{Outputs, placesOf}
 use Rattle.refusal.specs.Tests.{anyShort}
 use Rattle.ledger.specs.Ledger.{Call, Reply, next, reply, program, final, replies, opened}
-use Rattle.ledger.specs.Questions.{Question, Told, readOn}
+use Rattle.ledger.specs.ReadCalls.{ReadCall, Told, readOn}
 use Rattle.ledger.proofs.Book.{whole-book}
 use Rattle.replay.specs.declared.Done.{Done}
 use Rattle.replay.specs.declared.Replayed.the-variants as replays
@@ -78,7 +79,7 @@ module _ (kinds words : List ℕ) (numbers : List Float) (width k n : ℕ) (m : 
 -- ---- the calls so far
 
 -- memory b that holds what the first k calls write gets what the next one writes
-written-more : {W : Type 0} (put : ℕ → Reply Told → W → W) (s₀ s : State) (g : ℕ → Call Question) (k : ℕ) → s ≡ final s₀ (table g k) → (b₀ b b′ : W)
+written-more : {W : Type 0} (put : ℕ → Reply Told → W → W) (s₀ s : State) (g : ℕ → Call ReadCall) (k : ℕ) → s ≡ final s₀ (table g k) → (b₀ b b′ : W)
     → b ≡ writeAll put 0 (replies readOn s₀ (table g k)) b₀ → b′ ≡ put k (reply readOn s (g k)) b
     → b′ ≡ writeAll put 0 (replies readOn s₀ (table g (k + 1))) b₀
 written-more put s₀ s g k q b₀ b b′ e h =

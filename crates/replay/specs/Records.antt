@@ -14,7 +14,7 @@ use Rattle.settings.specs.declared.Settings.{Settings}
 use Rattle.report.specs.declared.Places.{Places}
 use Rattle.replay.specs.declared.Buffers.{Buffers}
 use Rattle.ledger.specs.Ledger.{Call, changes, reads, adds, corrects, withdraws}
-use Rattle.ledger.specs.Questions.{Question, reports}
+use Rattle.ledger.specs.ReadCalls.{ReadCall, reports}
 
 -- the kinds: of the call, of the bound, the criterion, the confidence and the tolerance;
 -- the words: the index, the bound's degree, and the lengths of scratch, coefficients, errors, pruning bytes, lower, upper and outlier bytes;
@@ -37,13 +37,13 @@ placesAt words k =
     }
 
 -- a call by its kind: 0 add, 1 correct, 2 withdraw, else report
-unfoldable pub callOf : ℕ → ℕ → Float → Float → Settings → Places → Call Question
+unfoldable pub callOf : ℕ → ℕ → Float → Float → Settings → Places → Call ReadCall
 callOf zero i x y settings places = changes (adds (record { x = x; y = y }))
 callOf (suc zero) i x y settings places = changes (corrects i y)
 callOf (suc (suc zero)) i x y settings places = changes (withdraws i)
 callOf (suc (suc (suc kind))) i x y settings places = reads (reports settings places)
 
-unfoldable pub callAt : List ℕ → List ℕ → List Float → ℕ → Call Question
+unfoldable pub callAt : List ℕ → List ℕ → List Float → ℕ → Call ReadCall
 callAt kinds words numbers k =
     callOf (getD kinds (5 * k) 0) (getD words (9 * k) 0) (getD numbers (4 * k) nan) (getD numbers (4 * k + 1) nan) (settingsAt kinds words numbers k)
     (placesAt words k)
@@ -52,7 +52,7 @@ callAt kinds words numbers k =
 abbrev pub callCount : List ℕ → ℕ
 callCount kinds = length kinds / 5
 
-unfoldable pub callsOf : List ℕ → List ℕ → List Float → List (Call Question)
+unfoldable pub callsOf : List ℕ → List ℕ → List Float → List (Call ReadCall)
 callsOf kinds words numbers = table (callAt kinds words numbers) (callCount kinds)
 
 -- ---- well formed

@@ -6,13 +6,13 @@ use Prim.Native.Nat.{ℕ, _+_, _*_}
 use lib.ListN.{length, take, drop}
 use lib.Ieee.{Float}
 use Rattle.book.specs.declared.Answer.the-variants as answers
-use Rattle.book.specs.Columns.{ofX, ofY}
+use Rattle.samples.specs.Columns.{ofX, ofY}
 use Rattle.lent.specs.Written.{over}
 use Rattle.report.specs.declared.ReportAnswer.{ReportAnswer}
 use Rattle.report.specs.declared.ReportAnswer.the-variants as reports
 use Rattle.report.specs.Outputs.{nothing, Outputs, Lent, placesOf}
 use Rattle.ledger.specs.Ledger.{Call, Reply, said, told, lentOf, final, opened, ledgerEnd, ledgerReplies}
-use Rattle.ledger.specs.Questions.{Question, Told, fitted, banded, reported, readOn}
+use Rattle.ledger.specs.ReadCalls.{ReadCall, Told, fitted, banded, reported, readOn}
 use Rattle.ledger.specs.Whole.{WholeBook}
 use Rattle.lent.specs.Slices.{Slice, before, after}
 use Rattle.replay.specs.declared.Buffers.{Buffers}
@@ -94,7 +94,7 @@ memory xs ys sums results w =
     }
 
 -- the calls cs from a book just opened: n is the book, m the memory before and m′ after
-pub record Ran (cs : List (Call Question)) (width n : ℕ) (m m′ : Memory) : Type 0 where
+pub record Ran (cs : List (Call ReadCall)) (width n : ℕ) (m m′ : Memory) : Type 0 where
   -- demand 3 of these calls: columns and sums below are the plain ledger's
   pub whole : WholeBook (m .xs) (m .ys) (m .sums) cs
   pub book : n ≡ length (ledgerEnd (lentOf (m .xs) (m .ys) (m .sums)) [] cs)
@@ -114,7 +114,7 @@ abbrev pub buffersIn : Memory → Buffers
 buffersIn m = buffersOf (m .sums) (m .results) (m .outputs)
 
 -- the answer is a book, and it and the memory are what the calls leave
-pub record RanBook (cs : List (Call Question)) (width : ℕ) (m m′ : Memory) (r : Replayed) : Type 0 where
+pub record RanBook (cs : List (Call ReadCall)) (width : ℕ) (m m′ : Memory) (r : Replayed) : Type 0 where
   pub count : ℕ
   pub answer : r ≡ replays.Book (record { count = count })
   pub ran : Ran cs width count m m′

@@ -12,7 +12,7 @@ use Rattle.report.specs.declared.ReportAnswer.{ReportAnswer}
 use Rattle.report.specs.declared.ReportAnswer.the-variants as reports
 use Rattle.report.specs.Reports.{ReportOut}
 use Rattle.ledger.specs.Ledger.{Call, next, reply}
-use Rattle.ledger.specs.Questions.{Question, readOn}
+use Rattle.ledger.specs.ReadCalls.{ReadCall, readOn}
 use Rattle.replay.specs.declared.Done.{Done}
 use Rattle.report.specs.Outputs.{Outputs, Lent}
 use Rattle.replay.specs.Replay.{Memory, LentMemory, Ran, resultsOf, overAllAt, putResults, putOutputs}
@@ -32,7 +32,7 @@ toldOf n (reports.Report d s o p) = record { count = n; number = 0; size = d .0;
 toldOf n (reports.Refused r) = record { count = n; number = r; size = 0; solved = 0; outliers = 0; pruned = 0 }
 
 -- a call that changes a book
-pub record Changed (s : State) (c : Call Question) (d : Done) (a b t : List Float) : Type 0 where
+pub record Changed (s : State) (c : Call ReadCall) (d : Done) (a b t : List Float) : Type 0 where
   pub state : stateOf (d .count) a b t ≡ next s c
   pub results : resultsIn d ≡ resultsOf (reply readOn s c)
 
@@ -42,16 +42,16 @@ pub record Reported (n at : ℕ) (o : ReportOut) (d : Done) (w : Lent) : Type 0 
   pub wrote : w .left ≡ overAllAt at (o .written) (w .found)
 
 -- the call c, the k-th, from the book n and the memory m: n′ and m′ are left
-pub record Turned (c : Call Question) (width k n n′ : ℕ) (m m′ : Memory) : Type 0 where
+pub record Turned (c : Call ReadCall) (width k n n′ : ℕ) (m m′ : Memory) : Type 0 where
   pub state : stateOf n′ (m′ .xs) (m′ .ys) (m′ .sums) ≡ next (stateOf n (m .xs) (m .ys) (m .sums)) c
   pub results : m′ .results ≡ putResults k (reply readOn (stateOf n (m .xs) (m .ys) (m .sums)) c) (m .results)
   pub outputs : m′ .outputs ≡ putOutputs width k (reply readOn (stateOf n (m .xs) (m .ys) (m .sums)) c) (m .outputs)
 
 -- in a contract
-abbrev pub TurnIs : Call Question → ℕ → ℕ → ℕ → ℕ → LentMemory → Type 0
+abbrev pub TurnIs : Call ReadCall → ℕ → ℕ → ℕ → ℕ → LentMemory → Type 0
 TurnIs c width k n n′ m = Turned c width k n n′ (m .found) (m .left)
 
-abbrev pub RunIs : List (Call Question) → ℕ → ℕ → LentMemory → Type 0
+abbrev pub RunIs : List (Call ReadCall) → ℕ → ℕ → LentMemory → Type 0
 RunIs cs width n m = Ran cs width n (m .found) (m .left)
 
 -- ---- room

@@ -1,4 +1,5 @@
 // A list of calls in lent buffers, run by the book's own calls. The promise of `replay` is demand 3, of the code.
+use basis::SUMS;
 use book::Answer;
 use book::Book;
 use report::Places;
@@ -133,7 +134,7 @@ fn has_room(m: usize, words: usize, numbers: usize, width: usize, b: Buffers) ->
     (m <= words / 9)
         & (m <= numbers / 4)
         & (m <= b.results / 5)
-        & (272 <= b.sums)
+        & (SUMS <= b.sums)
         & room_in_all(width, m, outputs)
 }
 

@@ -2,7 +2,7 @@
 use mathlib.Core.Path.{_≡_, refl, sym, ap, _∙_}
 use mathlib.Core.Bool.{true, cond}
 use mathlib.Core.List.{List}
-use Prim.Native.Nat.{ℕ, _+_, _≤_, _<_}
+use Prim.Native.Nat.{ℕ, _≤_, _<_}
 use native.Mathlib.Omega.{arith}
 use lib.Ieee.{Float}
 use Rattle.loops.specs.Within.{Within, within-then}
@@ -11,8 +11,9 @@ use Rattle.basis.specs.declared.Basis.the-variants.{Curve}
 use Rattle.basis.specs.declared.Degree.{Degree}
 use Rattle.basis.specs.declared.OptionDegree.{OptionDegree}
 use Rattle.basis.specs.declared.OptionDegree.the-variants.{Some, None}
-use Rattle.statistics.specs.Degrees.{maxDegree, max-degree-below}
-use Rattle.monomial.specs.Samples.{Sample}
+use Rattle.statistics.specs.Degrees.{maxDegree}
+use Rattle.statistics.specs.DegreeLaws.{max-degree-below}
+use Rattle.samples.specs.Samples.{Sample}
 use Rattle.monomial.specs.Rows.{rowsOf}
 use Rattle.fit.specs.Solved.{isSolved}
 use Rattle.fit.specs.Chosen.{choiceOf, countsOf}
@@ -22,7 +23,8 @@ use Rattle.measure.specs.Measures.{Measures, measureRefusal, inverseFails}
 use Rattle.measure.specs.declared.Measured.{Measured}
 use Rattle.settings.specs.declared.Settings.{Settings}
 use Rattle.report.specs.declared.Chosen.{Chosen}
-use Rattle.report.specs.Chosen.{reportChoice, chosenRefusal, Chooses, chosen-solved}
+use Rattle.report.specs.Chosen.{reportChoice, chosenRefusal, Chooses}
+use Rattle.report.specs.ChosenLaws.{chosen-solved}
 
 -- a solved degree is not refused by 10
 measured-solved : (sums : List Float) (samples : List Sample) (k : ℕ) → isSolved sums (rowsOf samples) k ≡ true

@@ -11,11 +11,12 @@ use Rattle.basis.specs.declared.Basis.the-variants.{Curve}
 use Rattle.basis.specs.declared.OptionDegree.{OptionDegree}
 use Rattle.basis.specs.declared.OptionDegree.the-variants.{Some, None}
 use Rattle.basis.specs.declared.Degree.{Degree}
-use Rattle.monomial.specs.Samples.{Sample, samplesOf}
+use Rattle.samples.specs.Samples.{Sample, samplesOf}
 use Rattle.monomial.specs.Rows.{rowsOf}
 use Rattle.solve.specs.Solve.{solve}
 use Rattle.measure.specs.Measures.{inverseFails, covarianceAt}
-use Rattle.lent.specs.Written.{over, zeros, over-cleared, over-within}
+use Rattle.lent.specs.Written.{over, zeros}
+use Rattle.lent.specs.WrittenLaws.{over-cleared, over-within}
 use Rattle.loops.specs.Within.{Within}
 use Rattle.fit.specs.declared.Choice.{Choice}
 use Rattle.settings.specs.declared.Settings.{Settings}

@@ -6,18 +6,19 @@ use lib.ListN.{length, drop, replicate, length-map, length-replicate}
 use lib.Ieee.{Float}
 use Rattle.loops.specs.Places.{length-each, length-table}
 use Rattle.value.specs.Numbers.{zeroF}
-use Rattle.statistics.specs.Scores.{zScore, tScore}
+use Rattle.statistics.specs.Scores.{zScore, tScore, degreesOfFreedom}
 use Rattle.statistics.specs.Variances.{stddevAndMean}
 use Rattle.statistics.specs.declared.StddevAndMean.{StddevAndMean}
 use Rattle.basis.specs.Counts.{countOf}
 use Rattle.basis.specs.declared.Basis.the-variants.{Curve}
-use Rattle.monomial.specs.Samples.{Sample, ysOf}
+use Rattle.samples.specs.Samples.{Sample, ysOf}
 use Rattle.monomial.specs.Rows.{Row, rowsOf}
 use Rattle.covariance.specs.Covariance.{errorsOf}
 use Rattle.covariance.specs.Marks.{ones}
 use Rattle.covariance.specs.Bands.{lowerOf, upperOf, outlierOf, lowersOf, uppersOf, outliersOf}
-use Rattle.covariance.specs.Pruning.{degreesOfFreedom, prunedAt, prunedBytes}
-use Rattle.lent.specs.Written.{over, zeros, over-by}
+use Rattle.covariance.specs.Pruning.{prunedAt, prunedBytes}
+use Rattle.lent.specs.Written.{over, zeros}
+use Rattle.lent.specs.WrittenLaws.{over-by}
 use Rattle.settings.specs.declared.Settings.{Settings}
 use Rattle.report.specs.declared.ReportAnswer.the-variants as answers
 use Rattle.report.specs.Outputs.{Outputs}

@@ -2,6 +2,7 @@
 pub mod Refusals
 pub mod RefusalLaws
 pub mod Chosen
+pub mod ChosenLaws
 pub mod Outputs
 pub mod Reports
 pub mod ReportLaws

@@ -6,7 +6,7 @@ use native.Mathlib.Omega.{arith}
 use borrow.Author.Tests.{ltb-false, eqb-false}
 use Rattle.basis.specs.Sizes.{highestDegree}
 use Rattle.statistics.specs.Degrees.{maxDegree}
-use Rattle.monomial.specs.Samples.{Sample}
+use Rattle.samples.specs.Samples.{Sample}
 use Rattle.refusal.specs.Refusals.{numbersOf, InOrder, those, isAmong}
 use Rattle.refusal.specs.Laws.{numbered, first-none}
 use Rattle.refusal.specs.Rooms.{Room, room}

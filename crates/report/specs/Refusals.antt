@@ -4,7 +4,7 @@ use mathlib.Core.Bool.{not, _&&_}
 use mathlib.Core.List.{List, [], _∷_}
 use Prim.Native.Nat.{ℕ}
 use Rattle.basis.specs.Sizes.{maxTerms, sumPlaces}
-use Rattle.monomial.specs.Samples.{Sample}
+use Rattle.samples.specs.Samples.{Sample}
 use Rattle.refusal.specs.Refusals.{Refusal, by, firstOf}
 use Rattle.refusal.specs.Tests.{Memory, memory, tooShort, allFinite, scoreFinite, toleranceFinite, noSamples, boundTooHigh}
 use Rattle.settings.specs.declared.Settings.{Settings}

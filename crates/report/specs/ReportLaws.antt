@@ -8,7 +8,7 @@ use Rattle.basis.specs.Counts.{countOf}
 use Rattle.basis.specs.declared.Basis.the-variants.{Curve}
 use Rattle.basis.specs.declared.OptionDegree.{OptionDegree}
 use Rattle.basis.specs.declared.OptionDegree.the-variants.{Some, None}
-use Rattle.monomial.specs.Samples.{Sample}
+use Rattle.samples.specs.Samples.{Sample}
 use Rattle.refusal.specs.Refusals.{InOrder, those, isAmong}
 use Rattle.refusal.specs.Laws.{settled-among}
 use Rattle.measure.specs.Measures.{inverseFails}

@@ -10,15 +10,15 @@ use Rattle.basis.specs.Sizes.{sumPlaces}
 use Rattle.basis.specs.declared.Basis.the-variants.{Curve}
 use Rattle.basis.specs.declared.OptionDegree.{OptionDegree}
 use Rattle.basis.specs.declared.OptionDegree.the-variants.{Some, None}
-use Rattle.statistics.specs.Scores.{zScore, tScore}
+use Rattle.statistics.specs.Scores.{zScore, tScore, degreesOfFreedom}
 use Rattle.statistics.specs.Variances.{stddevAndMean}
-use Rattle.monomial.specs.Samples.{Sample, samplesOf, ysOf}
+use Rattle.samples.specs.Samples.{Sample, samplesOf, ysOf}
 use Rattle.monomial.specs.Rows.{rowsOf}
 use Rattle.solve.specs.Solve.{solve}
 use Rattle.covariance.specs.Covariance.{errorsOf}
 use Rattle.covariance.specs.Marks.{ones}
 use Rattle.covariance.specs.Bands.{lowersOf, uppersOf, outliersOf}
-use Rattle.covariance.specs.Pruning.{degreesOfFreedom, prunedBytes}
+use Rattle.covariance.specs.Pruning.{prunedBytes}
 use Rattle.refusal.specs.Refusals.{settle}
 use Rattle.measure.specs.Measures.{inverseFails, covarianceAt}
 use Rattle.lent.specs.Written.{zeros}

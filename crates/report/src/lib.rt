@@ -4,13 +4,16 @@ mod refusals;
 
 use basis::Basis;
 use basis::Degree;
+use basis::MATRIX;
 use basis::OptionDegree;
+use basis::SUMS;
+use basis::TERMS;
 use book::Book;
 use fit::Choice;
 use settings::Settings;
 ghost use Prim.Native.Nat.{_+_, _≤_, _<_};
 ghost use lib.ListN.{length};
-ghost use Rattle.monomial.specs.Samples.{samplesOf};
+ghost use Rattle.samples.specs.Samples.{samplesOf};
 ghost use Rattle.statistics.specs.Degrees.{maxDegree};
 ghost use Rattle.report.specs.Outputs.{outputs};
 ghost use Rattle.report.specs.Reports.{Does, ReportIs, writtenBy};
@@ -43,8 +46,8 @@ pub struct Chosen {
     pub number: u8,
     pub choice: Choice,
     pub degree: Degree,
-    pub c: [f64; 16],
-    pub covariance: [f64; 256],
+    pub c: [f64; TERMS],
+    pub covariance: [f64; MATRIX],
 }
 
 // Chooses a degree, solves it again and measures it. Of scratch, only the first n places change.
@@ -79,8 +82,8 @@ fn choose(
             number: 11,
             choice,
             degree: Degree(0),
-            c: [0.0; 16],
-            covariance: [0.0; 256],
+            c: [0.0; TERMS],
+            covariance: [0.0; MATRIX],
         },
         OptionDegree::Some(degree) => {
             let k = degree.k(Basis::Curve);
@@ -104,8 +107,8 @@ fn write(
     settings: Settings,
     degree: Degree,
     solved: usize,
-    c: [f64; 16],
-    v: [f64; 256],
+    c: [f64; TERMS],
+    v: [f64; MATRIX],
     xs: &[f64],
     ys: &[f64],
     scratch: &mut [f64],
@@ -187,7 +190,7 @@ pub fn report(
     if refusal != 0 {
         return ReportAnswer::Refused(refusal);
     }
-    let m = choose(n, settings, xs, ys, &sums[..272], &mut *scratch);
+    let m = choose(n, settings, xs, ys, &sums[..SUMS], &mut *scratch);
     if m.number != 0 {
         lent::clear(scratch, n);
         return ReportAnswer::Refused(m.number);

@@ -1,8 +1,10 @@
 // Refusals 1 to 9 of a report: the number of the first test that holds, 0 if none does.
+use basis::SUMS;
+use basis::TERMS;
 ghost use mathlib.Core.Path.{_≡_};
 ghost use mathlib.Core.List.{[], _∷_};
 ghost use lib.ListN.{length};
-ghost use Rattle.monomial.specs.Samples.{samplesOf};
+ghost use Rattle.samples.specs.Samples.{samplesOf};
 ghost use Rattle.refusal.specs.Tests.{tooShort};
 ghost use Rattle.report.specs.Refusals.{reportMemory, reportRefusal};
 use crate::Places;
@@ -20,13 +22,13 @@ fn report_short(n: usize, xs: usize, ys: usize, sums: usize, p: Places) -> bool
     let terms = refusal::short(
         16,
         p.coefficients,
-        refusal::short(16, p.errors, refusal::short(16, p.pruned, bands)),
+        refusal::short(TERMS, p.errors, refusal::short(TERMS, p.pruned, bands)),
     );
     refusal::too_short(
         n,
         xs,
         ys,
-        refusal::short(272, sums, refusal::short(n, p.scratch, terms)),
+        refusal::short(SUMS, sums, refusal::short(n, p.scratch, terms)),
     )
 }
 

@@ -1,5 +1,4 @@
 -- A machine over a list of calls: what it replies, what it leaves, and the laws of any such list. The state after the calls cs is `fold step s cs`.
--- Assumes nothing.
 use mathlib.Core.Path.{_≡_, refl, sym, ap, ap₂, _∙_}
 use mathlib.Core.Bool.{Bool, true, false, cond, false≢true}
 use mathlib.Core.Option.{Option, none, some}

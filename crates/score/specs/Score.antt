@@ -1,6 +1,5 @@
--- AIC and BIC as in polyfit's `score/basic.rs`, from the total of the losses. Assumes nothing.
-use mathlib.Core.Path.{_≡_}
-use mathlib.Core.Bool.{true, false, cond, _&&_}
+-- AIC and BIC as in polyfit's `score/basic.rs`, from the total of the losses. Definitions only.
+use mathlib.Core.Bool.{cond, _&&_}
 use Prim.Native.Nat.{ℕ}
 use lib.Ieee.{Float, binary64, add, sub, mul, div, lt}
 use Rattle.value.specs.Logarithm.{lnF}
@@ -31,20 +30,3 @@ bicOf n k total = add binary64 (mul binary64 (num n) (lnF (likelihoodOf n total)
 unfoldable pub scoreOf : Criterion → ℕ → ℕ → Float → Float
 scoreOf Aic n k total = aicOf n k total
 scoreOf Bic n k total = bicOf n k total
-
--- ---- laws
-
-module _ (n k : ℕ) (total N K L : Float) (en : N ≡ num n) (ek : K ≡ num k) (el : L ≡ lnF (likelihoodOf n total)) where
-  pub aic-few : lt (div binary64 N K) fourF && lt (add binary64 K oneF) N ≡ true
-      → add binary64 (add binary64 (mul binary64 N L) (mul binary64 twoF K)) (div binary64 (mul binary64 (mul binary64 twoF K) (add binary64 K oneF)) (sub binary64 (sub binary64 N K) oneF)) ≡ aicOf n k total
-  unfolding aicOf
-  aic-few h = rw (← en, ← ek, ← el, h)
-
-  pub aic-many : lt (div binary64 N K) fourF && lt (add binary64 K oneF) N ≡ false
-      → add binary64 (mul binary64 N L) (mul binary64 twoF K) ≡ aicOf n k total
-  unfolding aicOf
-  aic-many h = rw (← en, ← ek, ← el, h)
-
-  pub bic-is : (M : Float) → M ≡ lnF N → add binary64 (mul binary64 N L) (mul binary64 K M) ≡ bicOf n k total
-  unfolding bicOf
-  bic-is M em = rw (em, ← en, ← ek, ← el)

@@ -13,7 +13,7 @@ use Rattle.loops.specs.Loop.{Together, from-related, while-related}
 use Rattle.loops.specs.Places.{each, each-same, each-at, length-each}
 use Rattle.value.specs.Numbers.{zeroF, epsilon}
 use Rattle.monomial.specs.Corner.{SameCorner}
-use Rattle.solve.specs.Solve.{System, cell, pivotHolds, lessCell, clearRow, clearBelow, eliminate, lessTerm, backRow, back, matrixOf, rightOf, solved, solve, liftCell, lift, unit, unitColumn, columnHolds, inverseColumn, inverseColumns, inverse}
+use Rattle.solve.specs.Solve.{System, cell, pivotHolds, lessCell, clearRow, clearBelow, eliminate, lessTerm, backRow, back, matrixOf, rightOf, solved, solve, ridgeCell, ridge, unit, unitColumn, columnHolds, inverseColumn, inverseColumns, inverse}
 
 -- ---- two matrices that agree in the corner
 
@@ -97,10 +97,10 @@ module _ (k : ℕ) (h : k ≤ 16) where
       let e = eliminate-same start start′ s t a q in
       rw (e .stop, e .related .right, back-same _ _ (eliminate start′ k t .state .b) (e .related .corner))
 
-  lift-same : (m n : List Float) → SameCells k m n → SameCells k (lift k m) (lift k n)
-  unfolding lift
-  lift-same m n q =
-      from-related (SameCells k) liftCell liftCell 0 k m n
+  ridge-same : (m n : List Float) → SameCells k m n → SameCells k (ridge k m) (ridge k n)
+  unfolding ridge
+  ridge-same m n q =
+      from-related (SameCells k) ridgeCell ridgeCell 0 k m n
       (λ i u v a l o. set-cell k i i u v (add binary64 (cell u i i) epsilon) (add binary64 (cell v i i) epsilon) h l l o (rw (o .cells i i l l))) q
 
   -- one column of the inverse
@@ -135,10 +135,10 @@ module _ (k : ℕ) (h : k ≤ 16) (s t : List Float) (hs : 256 ≤ length s) (ht
   pub inverse-corner : inverse s k ≡ inverse t k
   unfolding inverse inverseColumns
   inverse-corner =
-      let q = lift-same k h (matrixOf s) (matrixOf t) matrix-of in
+      let q = ridge-same k h (matrixOf s) (matrixOf t) matrix-of in
       let e =
-      while-related (λ (u v : List Float). u ≡ v) (columnHolds k (lift k (matrixOf s))) (columnHolds k (lift k (matrixOf t))) (inverseColumn k (lift k (matrixOf s))) (inverseColumn k (lift k (matrixOf t)))
-      0 k (replicate 256 zeroF) (replicate 256 zeroF) (λ j u v i l o. column-same k h (lift k (matrixOf s)) (lift k (matrixOf t)) j u v q o) refl in
+      while-related (λ (u v : List Float). u ≡ v) (columnHolds k (ridge k (matrixOf s))) (columnHolds k (ridge k (matrixOf t))) (inverseColumn k (ridge k (matrixOf s))) (inverseColumn k (ridge k (matrixOf t)))
+      0 k (replicate 256 zeroF) (replicate 256 zeroF) (λ j u v i l o. column-same k h (ridge k (matrixOf s)) (ridge k (matrixOf t)) j u v q o) refl in
       rw (e .stop, e .related)
 
 -- ---- the solution from the first k rows of A alone, with the sums for starting values

@@ -12,7 +12,7 @@ use Rattle.loops.specs.Loop.{Stopped, from-related, from-keeps, while-related, 
 use Rattle.loops.specs.Places.{each-rest, length-each}
 use Rattle.loops.specs.Within.{Within, within-itself, within-then, within-set}
 use Rattle.value.specs.Numbers.{zeroF}
-use Rattle.solve.specs.Solve.{System, pivotHolds, clearRow, clearBelow, eliminate, backRow, back, matrixOf, rightOf, solved, solve, liftCell, lift, unit, unitColumn, columnHolds, inverseColumn, inverseColumns, inverse}
+use Rattle.solve.specs.Solve.{System, pivotHolds, clearRow, clearBelow, eliminate, backRow, back, matrixOf, rightOf, solved, solve, ridgeCell, ridge, unit, unitColumn, columnHolds, inverseColumn, inverseColumns, inverse}
 
 -- ---- the inverse is whole exactly when no pivot fails
 
@@ -36,29 +36,29 @@ held-without-b start k m b b′ =
 
 module _ (sums : List Float) (k : ℕ) (b : List Float) where
   -- how many pivots hold in the corner with 2⁻⁵² added
-  abbrev pub liftedHeld : ℕ
-  liftedHeld = eliminate (lift k (matrixOf sums)) k (record { m = lift k (matrixOf sums); b = b }) .at
+  abbrev pub ridgeHeld : ℕ
+  ridgeHeld = eliminate (ridge k (matrixOf sums)) k (record { m = ridge k (matrixOf sums); b = b }) .at
 
-  column-test : (j : ℕ) (v : List Float) → columnHolds k (lift k (matrixOf sums)) j v ≡ leb k liftedHeld
+  column-test : (j : ℕ) (v : List Float) → columnHolds k (ridge k (matrixOf sums)) j v ≡ leb k ridgeHeld
   unfolding columnHolds unitColumn
-  column-test j v = ap (leb k) (held-without-b (lift k (matrixOf sums)) k (lift k (matrixOf sums)) (unit j) b)
+  column-test j v = ap (leb k) (held-without-b (ridge k (matrixOf sums)) k (ridge k (matrixOf sums)) (unit j) b)
 
-  pub inverse-whole : liftedHeld ≡ k → inverse sums k .made ≡ k
+  pub inverse-whole : ridgeHeld ≡ k → inverse sums k .columns ≡ k
   unfolding inverse inverseColumns
   inverse-whole e =
-      while-all (columnHolds k (lift k (matrixOf sums))) (inverseColumn k (lift k (matrixOf sums))) 0 k (replicate 256 zeroF) (omega arith)
-      (λ j v i l. column-test j v ∙ le-leb k liftedHeld (omega (arith, e)))
+      while-all (columnHolds k (ridge k (matrixOf sums))) (inverseColumn k (ridge k (matrixOf sums))) 0 k (replicate 256 zeroF) (omega arith)
+      (λ j v i l. column-test j v ∙ le-leb k ridgeHeld (omega (arith, e)))
 
-  pub inverse-none : liftedHeld < k → inverse sums k .made ≡ 0
+  pub inverse-none : ridgeHeld < k → inverse sums k .columns ≡ 0
   unfolding inverse inverseColumns
   inverse-none e =
       ap (λ (u : Stopped (List Float)). u .at)
-      (while-fails (columnHolds k (lift k (matrixOf sums))) (inverseColumn k (lift k (matrixOf sums))) 0 k (replicate 256 zeroF) (omega (arith, e)) (column-test 0 (replicate 256 zeroF) ∙ lt-leb k liftedHeld e))
+      (while-fails (columnHolds k (ridge k (matrixOf sums))) (inverseColumn k (ridge k (matrixOf sums))) 0 k (replicate 256 zeroF) (omega (arith, e)) (column-test 0 (replicate 256 zeroF) ∙ lt-leb k ridgeHeld e))
 
 -- the corner with 2⁻⁵² added is as long
-pub length-lift : (k : ℕ) (m : List Float) → length (lift k m) ≡ length m
-unfolding lift
-length-lift k m = from-keeps (λ t. length t ≡ length m) liftCell 0 k m (λ i t a b e. length-set t (16 * i + i) _ ∙ e) refl
+pub length-ridge : (k : ℕ) (m : List Float) → length (ridge k m) ≡ length m
+unfolding ridge
+length-ridge k m = from-keeps (λ t. length t ≡ length m) ridgeCell 0 k m (λ i t a b e. length-set t (16 * i + i) _ ∙ e) refl
 
 -- ---- the solution has 16 places, +0 from k on
 

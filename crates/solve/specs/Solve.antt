@@ -1,12 +1,12 @@
--- Document 01's stand-ins "Solve" and "Inverse", on the k by k corner of A and on g. Assumes nothing.
+-- Document 01's stand-ins "Solve" and "Inverse", on the k by k corner of A and on g. Definitions only.
 use mathlib.Core.Bool.{Bool, cond}
 use mathlib.Core.List.{List}
-use Prim.Native.Nat.{ℕ, _+_, _-_, _*_, _≤_}
-use native.Mathlib.Omega.{arith}
+use Prim.Native.Nat.{ℕ, _+_, _-_, _*_}
 use lib.Dec.{ltb, leb}
 use lib.ListN.{getD, set, take, replicate}
 use lib.Ieee.{Float, nan, binary64, ofBits, add, sub, mul, div, lt}
-use Rattle.loops.specs.Loop.{from, while, Stopped, while-at-most}
+use Rattle.basis.specs.Sizes.{matrixPlaces, maxTerms}
+use Rattle.loops.specs.Loop.{from, while, Stopped}
 use Rattle.loops.specs.Places.{each}
 use Rattle.value.specs.Numbers.{zeroF, oneF, epsilon}
 use Rattle.solve.specs.declared.Solved.{Solved}
@@ -62,15 +62,15 @@ back k m b = from (λ i. backRow k m (k - 1 - i)) 0 k b
 
 -- the 256 places of A
 abbrev pub matrixOf : List Float → List Float
-matrixOf sums = take 256 sums
+matrixOf sums = take matrixPlaces sums
 
 -- the first k places of g, then +0
 unfoldable pub rightOf : List Float → ℕ → List Float
-rightOf sums k = each (λ i _. getD sums (256 + i) nan) k (replicate 16 zeroF)
+rightOf sums k = each (λ i _. getD sums (matrixPlaces + i) nan) k (replicate maxTerms zeroF)
 
 -- how many pivots held; the k coefficients if no pivot failed; +0 in every other place
 unfoldable pub solved : ℕ → Stopped System → Solved
-solved k s = record { held = s .at; c = cond (ltb (s .at) k) (replicate 16 zeroF) (back k (s .state .m) (s .state .b)) }
+solved k s = record { held = s .at; c = cond (ltb (s .at) k) (replicate maxTerms zeroF) (back k (s .state .m) (s .state .b)) }
 
 -- Solve, on the k by k corner of A and g; the starting values are A's.
 unfoldable pub solve : List Float → ℕ → Solved
@@ -79,16 +79,16 @@ solve sums k = solved k (eliminate (matrixOf sums) k (record { m = matrixOf sums
 -- ---- Inverse
 
 -- 2⁻⁵² is added to M[i][i]
-abbrev pub liftCell : ℕ → List Float → List Float
-liftCell i m = set m (16 * i + i) (add binary64 (cell m i i) epsilon)
+abbrev pub ridgeCell : ℕ → List Float → List Float
+ridgeCell i m = set m (16 * i + i) (add binary64 (cell m i i) epsilon)
 
 -- the corner with 2⁻⁵² first added to each diagonal place
-unfoldable pub lift : ℕ → List Float → List Float
-lift k m = from liftCell 0 k m
+unfoldable pub ridge : ℕ → List Float → List Float
+ridge k m = from ridgeCell 0 k m
 
 -- unit column j
 abbrev pub unit : ℕ → List Float
-unit j = set (replicate 16 zeroF) j oneF
+unit j = set (replicate maxTerms zeroF) j oneF
 
 -- the same elimination for unit column j; the starting values include the 2⁻⁵²
 unfoldable pub unitColumn : ℕ → List Float → ℕ → Stopped System
@@ -112,23 +112,8 @@ inverseColumn k m j v = let s = unitColumn k m j .state in putColumn k j (back k
 
 -- once per unit column, up to the first at which a pivot fails
 unfoldable pub inverseColumns : ℕ → List Float → Stopped (List Float)
-inverseColumns k m = while (columnHolds k m) (inverseColumn k m) 0 k (replicate 256 zeroF)
+inverseColumns k m = while (columnHolds k m) (inverseColumn k m) 0 k (replicate matrixPlaces zeroF)
 
 -- Inverse: how many columns are made, all k unless a pivot fails, and V; +0 in every other place.
 unfoldable pub inverse : List Float → ℕ → Inverted
-inverse sums k = let t = inverseColumns k (lift k (matrixOf sums)) in record { made = t .at; v = t .state }
-
--- ---- laws
-
--- no more pivots hold than there are
-pub held-at-most : (start : List Float) (k : ℕ) (s : System) → eliminate start k s .at ≤ k
-unfolding eliminate
-held-at-most start k s = while-at-most (pivotHolds start) (clearBelow k) 0 k s (omega arith)
-
-pub solve-at-most : (sums : List Float) (k : ℕ) → solve sums k .held ≤ k
-unfolding solve solved
-solve-at-most sums k = held-at-most (matrixOf sums) k (record { m = matrixOf sums; b = rightOf sums k })
-
-pub inverse-at-most : (sums : List Float) (k : ℕ) → inverse sums k .made ≤ k
-unfolding inverse inverseColumns
-inverse-at-most sums k = let m = lift k (matrixOf sums) in while-at-most (columnHolds k m) (inverseColumn k m) 0 k (replicate 256 zeroF) (omega arith)
+inverse sums k = let t = inverseColumns k (ridge k (matrixOf sums)) in record { columns = t .at; v = t .state }

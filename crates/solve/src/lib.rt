@@ -1,10 +1,12 @@
 // The solution and the inverse of the k by k corner of A, by elimination and back substitution, for every content of the lent sums.
 // They stand in for polyfit's SVD in `solve_matrix` and for its inverse.
 use basis::CoefficientCount;
+use basis::MATRIX;
+use basis::TERMS;
 ghost use mathlib.Core.Path.{_≡_};
 ghost use Prim.Native.Nat.{_≤_, _<_};
 ghost use lib.ListN.{length};
-ghost use Rattle.solve.specs.Solve.{eliminate as eliminateF, back, matrixOf, rightOf, solve as solveF, lift as liftF, putColumn, inverse as inverseF};
+ghost use Rattle.solve.specs.Solve.{eliminate as eliminateF, back, matrixOf, rightOf, solve as solveF, ridge as ridgeF, putColumn, inverse as inverseF};
 ghost use Rattle.solve.specs.Corner.{firstRows};
 
 // 2 to the power −48.
@@ -15,7 +17,12 @@ const EPSILON: f64 = f64::from_bits(0x3CB0_0000_0000_0000);
 
 // Eliminates on the k by k corner of m, with b beside it, and is abandoned at the first pivot that is not greater than 2⁻⁴⁸ × its
 // starting value. Answers how many pivots held.
-pub fn eliminate(start: &[f64], k: CoefficientCount, m: &mut [f64; 256], b: &mut [f64; 16]) -> usize
+pub fn eliminate(
+    start: &[f64],
+    k: CoefficientCount,
+    m: &mut [f64; MATRIX],
+    b: &mut [f64; TERMS],
+) -> usize
     requires { ⌜ (256 ≤ length (now start)) × (k .0 ≤ 16) ⌝ }
     ensures { λ held. ⌜ record { at = held; state = record { m = now (m .exit); b = now (b .exit) } } ≡ eliminateF (now (start .entry)) (k .0) (record { m = now (m .entry); b = now (b .entry) }) ⌝ }
 {
@@ -41,7 +48,7 @@ pub fn eliminate(start: &[f64], k: CoefficientCount, m: &mut [f64; 256], b: &mut
 }
 
 // From the last row of m up, b becomes the k coefficients.
-pub fn back_substitution(k: CoefficientCount, m: &[f64; 256], b: &mut [f64; 16])
+pub fn back_substitution(k: CoefficientCount, m: &[f64; MATRIX], b: &mut [f64; TERMS])
     requires { ⌜ k .0 ≤ 16 ⌝ }
     ensures { λ _. ⌜ now (b .exit) ≡ back (k .0) (now (m .entry)) (now (b .entry)) ⌝ }
 {
@@ -57,24 +64,24 @@ pub fn back_substitution(k: CoefficientCount, m: &[f64; 256], b: &mut [f64; 16])
 }
 
 // The 256 places of A.
-fn matrix_of(sums: &[f64]) -> [f64; 256]
+fn matrix_of(sums: &[f64]) -> [f64; MATRIX]
     requires { ⌜ 256 ≤ length (now sums) ⌝ }
     ensures { λ r. ⌜ r ≡ matrixOf (now (sums .entry)) ⌝ }
 {
-    let mut a = [0.0; 256];
-    for i in 0..256 {
+    let mut a = [0.0; MATRIX];
+    for i in 0..MATRIX {
         a[i] = sums[i];
     }
     a
 }
 
 // The first k rows of A, then +0, which no step for k coefficients reads.
-fn first_rows(sums: &[f64], k: CoefficientCount) -> [f64; 256]
+fn first_rows(sums: &[f64], k: CoefficientCount) -> [f64; MATRIX]
     requires { ⌜ (256 ≤ length (now sums)) × (k .0 ≤ 16) ⌝ }
     ensures { λ r. ⌜ r ≡ firstRows (now (sums .entry)) (k .0) ⌝ }
 {
     let n = 16 * k.0;
-    let mut a = [0.0; 256];
+    let mut a = [0.0; MATRIX];
     for i in 0..n {
         a[i] = sums[i];
     }
@@ -82,14 +89,14 @@ fn first_rows(sums: &[f64], k: CoefficientCount) -> [f64; 256]
 }
 
 // The first k places of g, then +0.
-fn right_of(sums: &[f64], k: CoefficientCount) -> [f64; 16]
+fn right_of(sums: &[f64], k: CoefficientCount) -> [f64; TERMS]
     requires { ⌜ (272 ≤ length (now sums)) × (k .0 ≤ 16) ⌝ }
     ensures { λ r. ⌜ r ≡ rightOf (now (sums .entry)) (k .0) ⌝ }
 {
     let n = k.0;
-    let mut b = [0.0; 16];
+    let mut b = [0.0; TERMS];
     for i in 0..n {
-        b[i] = sums[256 + i];
+        b[i] = sums[MATRIX + i];
     }
     b
 }
@@ -97,7 +104,7 @@ fn right_of(sums: &[f64], k: CoefficientCount) -> [f64; 16]
 // How many pivots held, and the k coefficients if all did; +0 in every other place.
 pub struct Solved {
     pub held: usize,
-    pub c: [f64; 16],
+    pub c: [f64; TERMS],
 }
 
 // The k coefficients, from the corner of A and from g.
@@ -109,16 +116,19 @@ pub fn solve(sums: &[f64], k: CoefficientCount) -> Solved
     let mut b = right_of(sums, k);
     let held = eliminate(sums, k, &mut m, &mut b);
     if held < k.0 {
-        return Solved { held, c: [0.0; 16] };
+        return Solved {
+            held,
+            c: [0.0; TERMS],
+        };
     }
     back_substitution(k, &m, &mut b);
     Solved { held, c: b }
 }
 
 // Adds 2⁻⁵² to each diagonal place of the corner.
-fn lift(k: CoefficientCount, m: &mut [f64; 256])
+fn ridge(k: CoefficientCount, m: &mut [f64; MATRIX])
     requires { ⌜ k .0 ≤ 16 ⌝ }
-    ensures { λ _. ⌜ now (m .exit) ≡ liftF (k .0) (now (m .entry)) ⌝ }
+    ensures { λ _. ⌜ now (m .exit) ≡ ridgeF (k .0) (now (m .entry)) ⌝ }
 {
     let n = k.0;
     for i in 0..n {
@@ -128,7 +138,7 @@ fn lift(k: CoefficientCount, m: &mut [f64; 256])
 }
 
 // Column j of v becomes the first k places of b.
-fn put_column(k: CoefficientCount, j: usize, b: &[f64; 16], v: &mut [f64; 256])
+fn put_column(k: CoefficientCount, j: usize, b: &[f64; TERMS], v: &mut [f64; MATRIX])
     requires { ⌜ (k .0 ≤ 16) × (j < 16) ⌝ }
     ensures { λ _. ⌜ now (v .exit) ≡ putColumn (k .0) j (now (b .entry)) (now (v .entry)) ⌝ }
 {
@@ -140,8 +150,8 @@ fn put_column(k: CoefficientCount, j: usize, b: &[f64; 16], v: &mut [f64; 256])
 
 // How many columns of the inverse are made, all k unless a pivot fails, and the inverse; +0 in every other place.
 pub struct Inverted {
-    pub made: usize,
-    pub v: [f64; 256],
+    pub columns: usize,
+    pub v: [f64; MATRIX],
 }
 
 // The inverse of the corner of A with 2⁻⁵² first added to each diagonal place, one unit column after the other.
@@ -152,13 +162,13 @@ pub fn inverse(sums: &[f64], k: CoefficientCount) -> Inverted
     let n = k.0;
     let a = matrix_of(sums);
     let mut l = a;
-    lift(k, &mut l);
+    ridge(k, &mut l);
     let start = l;
-    let mut v = [0.0; 256];
+    let mut v = [0.0; MATRIX];
     let mut j = 0;
     'columns: while j < n {
         let mut m = l;
-        let mut b = [0.0; 16];
+        let mut b = [0.0; TERMS];
         b[j] = 1.0;
         if eliminate(&start, k, &mut m, &mut b) < n {
             break 'columns;
@@ -167,5 +177,5 @@ pub fn inverse(sums: &[f64], k: CoefficientCount) -> Inverted
         put_column(k, j, &b, &mut v);
         j += 1;
     }
-    Inverted { made: j, v }
+    Inverted { columns: j, v }
 }

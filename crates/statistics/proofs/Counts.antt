@@ -1,5 +1,4 @@
 -- Counts of bits over a list of doubles with no NaN and no sign: how they grow along a list, and what they tell of a place of the list in order.
--- Assumes nothing.
 use mathlib.Core.Path.{_≡_, refl, sym, ap, subst, _∙_}
 use mathlib.Core.Bool.{Bool, true, false, not, _&&_}
 use mathlib.Core.List.{List, [], _∷_, _++_, map, map-append}
@@ -14,9 +13,11 @@ use lib.ListN.{length, getD, take}
 use lib.Seq.{take-suc}
 use lib.Ieee.{Float, nan, binary64, sub, toBits, ofBits}
 use lib.Ieee.Bits.{ofBits-toBits}
-use Rattle.loops.specs.All.{All, all-at}
+use Rattle.loops.specs.All.{All}
+use Rattle.loops.specs.AllLaws.{all-at}
 use Rattle.loops.specs.Cases.{by-test, either, never, and-first, and-second}
-use Rattle.loops.specs.Fold.{fold, fold-map-again}
+use Rattle.loops.specs.Fold.{fold}
+use Rattle.loops.specs.FoldLaws.{fold-map-again}
 use Rattle.value.specs.Absolute.{absF}
 use Rattle.value.specs.Keys.{bits-le, plain-fits}
 use Rattle.statistics.specs.Medians.{sort, deviations, Plain}

@@ -1,5 +1,4 @@
 -- Deviations |x − d|: their bits, that they have no sign, that those from +0 are the numbers themselves; and the median by the number's evenness.
--- Assumes nothing.
 use mathlib.Core.Path.{_≡_, refl, sym, ap, ap₂, subst, _∙_}
 use mathlib.Core.Bool.{Bool, true, false, not, _&&_, Bool·beq}
 use mathlib.Core.List.{List, [], _∷_, map}
@@ -14,17 +13,20 @@ use lib.Seq.{length-take-le, getD-take}
 use lib.Ieee.{Float, nan, inf, fin, binary64, round, units, odd, sum, add, sub, neg, div, le, toBits, ofBits, fits, isNan, nanBits, low, prec, emax, up, down, size}
 use lib.Ieee.Bits.{cond-no, nanBits-is, ofBits-fits, toBits-ofBits}
 use lib.Ieee.Fits.{round-is, sub-fits}
-use Rattle.loops.specs.All.{All, all-at, all-map}
+use Rattle.loops.specs.All.{All}
+use Rattle.loops.specs.AllLaws.{all-at, all-map}
 use Rattle.loops.specs.Cases.{choose}
 use Rattle.loops.specs.Places.{map-at}
-use Rattle.value.specs.Absolute.{absF, flat}
+use Rattle.value.specs.Absolute.{absF}
+use Rattle.value.specs.AbsoluteLaws.{flat}
 use Rattle.value.specs.Exact.{round-itself}
 use Rattle.value.specs.Finite.{finite}
 use Rattle.value.specs.Keys.{bits-le, le-key}
 use Rattle.value.specs.Nan.{bits-some as pattern-some}
 use Rattle.value.specs.Numbers.{zeroF, twoF}
 use Rattle.value.proofs.Positive.{round-plain, plain-some}
-use Rattle.statistics.specs.Medians.{sort, midpoint, medianOf, deviations, Plain, Size, abs-plain}
+use Rattle.statistics.specs.Medians.{sort, midpoint, medianOf, deviations, Plain, Size}
+use Rattle.statistics.specs.MedianLaws.{abs-plain}
 use Rattle.statistics.proofs.Sorting.{all-sort, length-sort}
 
 -- ---- the bits of a size

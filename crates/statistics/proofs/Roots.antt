@@ -1,11 +1,12 @@
--- What a count up to a cap finds is the lesser of the root and the cap. Assumes nothing.
+-- What a count up to a cap finds is the lesser of the root and the cap.
 use mathlib.Core.Path.{_≡_, sym, ap, subst, _∙_}
 use Prim.Native.Nat.{ℕ, zero, suc, _+_, _-_, _*_, _/_, _^_, _≤_, _<_, min}
 use native.Mathlib.Nat.{le-trans, lt-of-not-le, lt-irrefl, lt-of-lt-of-le, not-suc-le-zero, le-of-eq, pow-le-pow-left, pow-suc, pow-zero, pow-le-pow-right, mul-zero, one-mul}
 use native.Mathlib.Omega.{arith}
 use native.Mathlib.Numerals.{add-one}
 use lib.Dec.{lit<}
-use Rattle.statistics.specs.Degrees.{root, root-largest, leastBound}
+use Rattle.statistics.specs.Degrees.{root, leastBound}
+use Rattle.statistics.specs.DegreeLaws.{root-largest}
 
 -- one more factor
 pub more : (s i r : ℕ) → r ≡ s ^ i → r * s ≡ s ^ (i + 1)

@@ -1,5 +1,4 @@
 -- What stands at place m of a list in order, told by two counts over the list in any order: at most m are below it, and more than m are at most it.
--- Assumes nothing.
 use mathlib.Core.Path.{_≡_, refl, sym, ap, _∙_}
 use mathlib.Core.Bool.{Bool}
 use mathlib.Core.List.{List, [], _∷_}

@@ -1,15 +1,14 @@
--- polyfit's `median` and `median_absolute_deviation`: sort, then the middle. Assumes nothing.
-use mathlib.Core.Path.{_≡_, refl, ap, ap₂}
-use mathlib.Core.Bool.{cond, not}
+-- polyfit's `median` and `median_absolute_deviation`: sort, then the middle. Definitions only.
+use mathlib.Core.Path.{ap}
+use mathlib.Core.Bool.{cond}
 use mathlib.Core.List.{List, [], _∷_, map}
-use Prim.Native.Nat.{zero, suc, _-_, _/_, _%_}
+use Prim.Native.Nat.{zero, _-_, _/_, _%_}
 use lib.Dec.{T, eqb}
 use lib.ListN.{length, getD}
-use lib.Ieee.{Float, nan, inf, fin, binary64, add, sub, div, le, fits, isNan}
-use Rattle.loops.specs.All.{All, all-map}
+use lib.Ieee.{Float, nan, fin, binary64, add, sub, div, le}
 use Rattle.value.specs.Numbers.{zeroF, twoF, plain}
 use Rattle.value.specs.Finite.{finite}
-use Rattle.value.specs.Absolute.{absF, abs-abs}
+use Rattle.value.specs.Absolute.{absF}
 
 -- a list in ascending order with one more element, before those that are not less
 unfoldable pub insert : Float → List Float → List Float
@@ -46,39 +45,3 @@ Plain x = T (plain x)
 -- What it finds deviations of: these but +infinity, as the sizes of finite residuals are (`sizes-of`).
 abbrev pub Size : Float → Type 0
 Size x = T (finite x) × Plain x
-
--- ---- laws
-
--- a size's size is itself
-pub sizes-twice : (rs : List Float) → map absF (map absF rs) ≡ map absF rs
-sizes-twice [] = refl
-sizes-twice (x ∷ xs) = ap₂ (λ (a : Float) (r : List Float). a ∷ r) (abs-abs x) (sizes-twice xs)
-
--- the deviation of residuals is that of their sizes
-pub deviation-sizes : (rs : List Float) → medianAbsoluteDeviation (map absF rs) ≡ medianAbsoluteDeviation rs
-unfolding medianAbsoluteDeviation
-deviation-sizes rs = ap (λ (s : List Float). medianOf (deviations (medianOf s) s)) (sizes-twice rs)
-
-finite-abs : (v : Float) → T (finite v) → T (finite (absF v))
-unfolding finite absF
-finite-abs nan p = p
-finite-abs (inf s) p = p
-finite-abs (fin s m e) p = tt
-
--- the size of a double that is no NaN has no sign
-pub abs-plain : (x : Float) → T (fits binary64 x) → T (not (isNan x)) → Plain (absF x)
-unfolding absF isNan fits
-abs-plain nan p q = absurd q
-abs-plain (inf s) p q = tt
-abs-plain (fin s zero e) p q = p
-abs-plain (fin s (suc m) e) p q = p
-
-finite-some : (v : Float) → T (finite v) → T (not (isNan v))
-unfolding finite isNan
-finite-some nan p = absurd p
-finite-some (inf s) p = absurd p
-finite-some (fin s m e) p = tt
-
--- the sizes of finite doubles
-pub sizes-of : (rs : List Float) → All (λ x. T (finite x) × T (fits binary64 x)) rs → All Size (map absF rs)
-sizes-of rs a = all-map _ Size absF rs (λ x h. (finite-abs x (h .0), abs-plain x (h .1) (finite-some x (h .0)))) a

@@ -44,3 +44,7 @@ tableScore (Custom z) df = zScore (Custom z)
 -- `t_score`: df 0 gives +infinity for every confidence, Custom too; df 30 or more gives the z score, so that row 30 is never read
 unfoldable pub tScore : Confidence → ℕ → Float
 tScore c df = cond (eqb df 0) infinityF (cond (leb 30 df) (zScore c) (tableScore c df))
+
+-- the degrees of freedom of n samples and k coefficients: n − k, 0 at the least
+abbrev pub degreesOfFreedom : ℕ → ℕ → ℕ
+degreesOfFreedom n k = n - k

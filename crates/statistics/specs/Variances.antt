@@ -1,12 +1,10 @@
--- polyfit's `residual_variance`, `mean` and `stddev_and_mean`. A square is v × v; sums run in index order from +0. Assumes nothing.
-use mathlib.Core.Path.{_≡_, refl, ap₂}
+-- polyfit's `residual_variance`, `mean` and `stddev_and_mean`. A square is v × v; sums run in index order from +0. Definitions only.
 use mathlib.Core.Bool.{cond}
-use mathlib.Core.List.{List, [], _∷_, map}
+use mathlib.Core.List.{List, map}
 use Prim.Native.Nat.{ℕ}
-use lib.ListN.{length, length-map}
+use lib.ListN.{length}
 use lib.Ieee.{Float, binary64, sub, mul, div, eq}
 use Rattle.value.specs.Numbers.{zeroF, num}
-use Rattle.value.specs.Absolute.{absF, square-abs}
 use Rattle.value.specs.Root.{rootF}
 use Rattle.value.specs.Total.{totalF}
 use Rattle.statistics.specs.declared.StddevAndMean.{StddevAndMean}
@@ -28,14 +26,3 @@ unfoldable pub stddevAndMean : List Float → StddevAndMean
 stddevAndMean l =
     let m = mean l in
     record { stddev = rootF (div binary64 (totalF (map (λ v. square (sub binary64 v m)) l)) (num (length l))); mean = m }
-
--- ---- laws
-
--- the variance of residuals is that of their sizes
-pub variance-sizes : (k : ℕ) (rs : List Float) → residualVariance k (map absF rs) ≡ residualVariance k rs
-unfolding residualVariance
-variance-sizes k rs = rw (length-map rs absF, squares rs)
-  where
-    squares : (l : List Float) → map square (map absF l) ≡ map square l
-    squares [] = refl
-    squares (x ∷ xs) = ap₂ (λ (a : Float) (r : List Float). a ∷ r) (square-abs x) (squares xs)

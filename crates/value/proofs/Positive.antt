@@ -1,4 +1,4 @@
--- What the tests of `ln` tell of a double, and which results are plain: no NaN and no sign. Assumes nothing.
+-- What the tests of `ln` tell of a double, and which results are plain: no NaN and no sign.
 use mathlib.Core.Path.{_≡_, refl, sym, ap, subst, _∙_}
 use mathlib.Core.Bool.{Bool, true, false, cond, not, _&&_, _||_, Bool·beq, true≢false, false≢true}
 use Prim.Native.Nat.{ℕ, zero, suc, _+_, _-_, _*_, _^_, _≤_, _<_}

@@ -1,4 +1,4 @@
--- Where a float step changes nothing: a double is the nearest to its own value, so 1 × b is b. Assumes nothing.
+-- Where a float step changes nothing: a double is the nearest to its own value, so 1 × b is b.
 use mathlib.Core.Path.{_≡_, refl, sym, ap, subst, _∙_}
 use mathlib.Core.Bool.{Bool, true, false, _&&_}
 use Prim.Native.Nat.{ℕ, zero, suc, _+_, _-_, _*_, _%_, _^_, _≤_, _<_}
@@ -10,7 +10,7 @@ use lib.Pow.{pow-add, pow-pos, pow-lt, pow-mono, shl-lt}
 use lib.Ieee.{Float, nan, inf, fin, binary64, round, mul, fits, up, down, ofBits}
 use lib.Ieee.Exact.{HasValue, round-exact}
 use lib.Ieee.Fits.{and-l, and-r, down-pos, up-pos, round-fits}
-use Rattle.value.specs.Absolute.{flat}
+use Rattle.value.specs.AbsoluteLaws.{flat}
 use Rattle.value.specs.Numbers.{oneF}
 
 -- ---- what `fits` says of a double that is not zero

@@ -1,4 +1,4 @@
--- Which doubles are finite. Assumes nothing.
+-- Which doubles are finite.
 use mathlib.Core.Path.{_≡_, refl, sym}
 use mathlib.Core.Bool.{Bool, true, false}
 use lib.Ieee.{Float, nan, inf, fin, lt}

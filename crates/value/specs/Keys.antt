@@ -1,5 +1,4 @@
 -- The bits of doubles with no sign are in the order of the doubles: `le x y` is `toBits x ≤ toBits y`.
--- Assumes nothing.
 use mathlib.Core.Path.{_≡_, refl, sym, ap, subst, subst₂, _∙_}
 use mathlib.Core.Bool.{Bool, true, false, not, _&&_, _||_}
 use Prim.Native.Nat.{ℕ, zero, suc, _+_, _-_, _*_, _/_, _%_, _^_, _≤_, _<_}

@@ -1,4 +1,4 @@
--- NaNs, which count as one value: what a test `x != x` tells, and which bit patterns are a NaN's. Assumes nothing.
+-- NaNs, which count as one value: what a test `x != x` tells, and which bit patterns are a NaN's.
 use mathlib.Core.Path.{_≡_, refl, sym, ap, subst, _∙_}
 use mathlib.Core.Bool.{Bool, true, false, not, false≢true}
 use Prim.Native.Nat.{ℕ, _%_, _^_, _≤_, _<_}

@@ -1,4 +1,4 @@
--- The order of doubles, NaNs and infinities among them. Assumes nothing.
+-- The order of doubles, NaNs and infinities among them.
 use mathlib.Core.Path.{_≡_, refl}
 use mathlib.Core.Bool.{Bool, true, false, not, _&&_}
 use Prim.Native.Nat.{ℕ, zero, suc, _+_, _*_, _<_}

@@ -1,10 +1,11 @@
--- Sums in index order from +0. Assumes nothing.
+-- Sums in index order from +0.
 use mathlib.Core.Path.{_≡_}
 use mathlib.Core.List.{List}
 use Prim.Native.Nat.{ℕ, _+_}
 use lib.Ieee.{Float, binary64, add}
 use Rattle.loops.specs.Places.{table}
-use Rattle.loops.specs.Fold.{fold, fold-table}
+use Rattle.loops.specs.Fold.{fold}
+use Rattle.loops.specs.FoldLaws.{fold-table}
 use Rattle.value.specs.Numbers.{zeroF}
 
 -- sums run in index order from +0

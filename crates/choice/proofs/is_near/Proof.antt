@@ -1,4 +1,4 @@
--- `choice::is_near` meets its contract. Assumes nothing.
+-- `choice::is_near` meets its contract.
 use Prim.Native.Nat.{_-_}
 use Rattle.choice.specs.Choice.{near}
 use borrow.Author.Tests.{not-true, not-false}

@@ -1,4 +1,4 @@
--- `choice::least` meets its contract. Assumes nothing.
+-- `choice::least` meets its contract.
 use mathlib.Core.Path.{_≡_, refl, sym, _∙_}
 use Prim.Native.Nat.{_-_}
 use Rattle.choice.specs.Choice.{yields, leastOf, scoredAt}

@@ -1,4 +1,4 @@
--- `choice::lowest` meets its contract. Assumes nothing.
+-- `choice::lowest` meets its contract.
 use mathlib.Core.Path.{_≡_, refl, sym, ap, _∙_}
 use Prim.Native.Nat.{_-_}
 use Rattle.choice.specs.Choice.{near, chosenOf, degreeOf, scoredAt}

@@ -1,4 +1,4 @@
--- `choice::solved_of` meets its contract. Assumes nothing.
+-- `choice::solved_of` meets its contract.
 use mathlib.Core.Path.{_≡_, refl, sym, _∙_}
 use Prim.Native.Nat.{_+_, _-_, _≤_}
 use Rattle.choice.specs.Choice.{flagCount}

@@ -1,4 +1,4 @@
--- `choice::yielded` meets its contract. Assumes nothing.
+-- `choice::yielded` meets its contract.
 use Prim.Native.Nat.{_-_}
 use Rattle.choice.specs.Choice.{yields}
 use borrow.Author.Tests.{not-true, not-false}

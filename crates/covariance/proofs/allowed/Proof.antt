@@ -1,4 +1,4 @@
--- `covariance::allowed` meets its contract. Assumes nothing.
+-- `covariance::allowed` meets its contract.
 use mathlib.Core.Path.{refl}
 use borrow.Author.Needs.{needs}
 use Rattle.covariance.proofs.allowed.Statement.{statement}

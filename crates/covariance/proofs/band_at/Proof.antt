@@ -1,4 +1,4 @@
--- `covariance::band_at` meets its contract. Assumes nothing.
+-- `covariance::band_at` meets its contract.
 use borrow.Author.Needs.{needs}
 use Rattle.covariance.specs.Bands.{bandAt}
 use Rattle.covariance.proofs.band_at.Statement.{statement}

@@ -1,4 +1,4 @@
--- `covariance::column` meets its contract. The loop's invariant: v is the sum over the places passed. Assumes nothing.
+-- `covariance::column` meets its contract. The loop's invariant: v is the sum over the places passed.
 use mathlib.Core.Path.{_≡_, refl, sym}
 use Prim.Native.Nat.{_-_, _≤_}
 use native.Mathlib.Omega.{arith}

@@ -1,4 +1,4 @@
--- `covariance::confidence_band` meets its contract. Assumes nothing.
+-- `covariance::confidence_band` meets its contract.
 use borrow.Author.Needs.{needs}
 use Rattle.covariance.specs.Bands.{bandOf}
 use Rattle.covariance.proofs.confidence_band.Statement.{statement}

@@ -1,4 +1,4 @@
--- `covariance::covariance` meets its contract. The loop's invariant: the places passed are products. Assumes nothing.
+-- `covariance::covariance` meets its contract. The loop's invariant: the places passed are products.
 use mathlib.Core.Path.{_≡_, refl, _∙_}
 use Prim.Native.Nat.{_-_, _≤_}
 use native.Mathlib.Omega.{arith}

@@ -1,4 +1,4 @@
--- `covariance::errors` meets its contract. The loop's invariant: the places passed are roots. Assumes nothing.
+-- `covariance::errors` meets its contract. The loop's invariant: the places passed are roots.
 use mathlib.Core.Path.{_≡_, refl}
 use Prim.Native.Nat.{_-_, _≤_}
 use native.Mathlib.Omega.{arith}

@@ -1,4 +1,4 @@
--- `covariance::prediction_variance` meets its contract. The loop's invariant: v is the sum over the columns passed. Assumes nothing.
+-- `covariance::prediction_variance` meets its contract. The loop's invariant: v is the sum over the columns passed.
 use mathlib.Core.Path.{_≡_, refl, sym}
 use Prim.Native.Nat.{_-_, _≤_}
 use native.Mathlib.Omega.{arith}

@@ -1,4 +1,4 @@
--- `covariance::prunes` meets its contract. Assumes nothing.
+-- `covariance::prunes` meets its contract.
 use borrow.Author.Needs.{needs}
 use Rattle.covariance.specs.Pruning.{prunes}
 use Rattle.covariance.proofs.prunes.Statement.{statement}

@@ -1,4 +1,4 @@
--- `covariance::put_bands` meets its contract. The loop's invariant: the places passed are written, and count is their number of ones. Assumes nothing.
+-- `covariance::put_bands` meets its contract. The loop's invariant: the places passed are written, and count is their number of ones.
 use mathlib.Core.Path.{_≡_, refl, ap, _∙_}
 use Prim.Native.Nat.{_-_, _≤_}
 use native.Mathlib.Omega.{arith}

@@ -1,4 +1,4 @@
--- `covariance::put_pruned` meets its contract. The loop's invariant: the places passed hold their bytes, and count is their number of ones. Assumes nothing.
+-- `covariance::put_pruned` meets its contract. The loop's invariant: the places passed hold their bytes, and count is their number of ones.
 use mathlib.Core.Path.{_≡_, refl, sym, _∙_}
 use Prim.Native.Nat.{_-_, _≤_}
 use native.Mathlib.Omega.{arith}
@@ -6,7 +6,8 @@ use borrow.Author.Needs.{needs}
 use lib.ListN.{length, length-set}
 use Rattle.loops.specs.Fold.{fold}
 use Rattle.loops.specs.Places.{each, each-again, each-write, table}
-use Rattle.covariance.specs.Marks.{mark, ones, ones-again}
+use Rattle.covariance.specs.Marks.{mark, ones}
+use Rattle.covariance.specs.MarkLaws.{ones-again}
 use Rattle.covariance.specs.Pruning.{prunedAt}
 use Rattle.covariance.proofs.put_pruned.Statement.{statement}
 use Rattle.covariance.proofs.put_pruned.Tie as tie

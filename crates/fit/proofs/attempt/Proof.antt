@@ -1,7 +1,7 @@
--- `fit::attempt` meets its contract. Assumes nothing.
+-- `fit::attempt` meets its contract.
 use Prim.Native.Nat.{_-_}
 use borrow.Author.Needs.{needs}
-use Rattle.monomial.specs.Rows.{length-rows-at}
+use Rattle.monomial.specs.RowLaws.{length-rows-at}
 use Rattle.fit.proofs.Trials.{pivot-fails, pivots-hold}
 use Rattle.fit.proofs.attempt.Statement.{statement}
 use Rattle.fit.proofs.attempt.Tie as tie

@@ -1,14 +1,16 @@
--- `fit::choose` meets its contract. Assumes nothing.
+-- `fit::choose` meets its contract.
 use mathlib.Core.Path.{_≡_, refl, sym, ap, _∙_}
 use mathlib.Core.Bool.{false}
 use Prim.Native.Nat.{_+_, _-_, _*_, _≤_}
 use native.Mathlib.Omega.{arith}
 use borrow.Author.Needs.{needs}
 use lib.Ieee.{nan}
-use Rattle.loops.specs.Fold.{fold, fold-table}
+use Rattle.loops.specs.Fold.{fold}
+use Rattle.loops.specs.FoldLaws.{fold-table}
 use Rattle.loops.specs.Places.{each, each-again, table}
 use Rattle.loops.specs.Within.{Within, within-itself, within-then}
-use Rattle.basis.specs.Counts.{countOf, count-mono}
+use Rattle.basis.specs.Counts.{countOf}
+use Rattle.basis.specs.CountLaws.{count-mono}
 use Rattle.monomial.specs.Rows.{rowsAt}
 use Rattle.choice.specs.Laws.{chosen-below}
 use Rattle.choice.specs.declared.Scored.{Scored}

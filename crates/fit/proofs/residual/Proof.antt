@@ -1,4 +1,4 @@
--- `fit::residual` meets its contract. Assumes nothing.
+-- `fit::residual` meets its contract.
 use borrow.Author.Needs.{needs}
 use Rattle.fit.specs.Residuals.{residual}
 use Rattle.fit.proofs.residual.Statement.{statement}

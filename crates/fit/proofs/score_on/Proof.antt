@@ -1,4 +1,4 @@
--- `fit::score_on` meets its contract. Assumes nothing.
+-- `fit::score_on` meets its contract.
 use mathlib.Core.Path.{ap, _∙_}
 use Prim.Native.Nat.{_-_}
 use borrow.Author.Needs.{needs}

@@ -1,4 +1,4 @@
--- `fit::sizes` meets its contract. Assumes nothing.
+-- `fit::sizes` meets its contract.
 use mathlib.Core.Path.{_≡_, refl, sym, _∙_}
 use mathlib.Core.Bool.{true, _&&_}
 use Prim.Native.Nat.{_-_, _≤_}
@@ -6,12 +6,14 @@ use native.Mathlib.Omega.{arith}
 use borrow.Author.Needs.{needs}
 use lib.ListN.{length, length-set}
 use lib.Ieee.{nan}
-use Rattle.loops.specs.Fold.{fold, allOf, fold-table}
+use Rattle.loops.specs.Fold.{fold, allOf}
+use Rattle.loops.specs.FoldLaws.{fold-table}
 use Rattle.loops.specs.Places.{each, each-again, table}
 use Rattle.value.specs.Finite.{finite}
 use Rattle.value.specs.Absolute.{absF}
 use Rattle.monomial.specs.Rows.{Row, rowAt, rowsAt}
-use Rattle.fit.specs.Residuals.{residual, sizes-written, every-residual}
+use Rattle.fit.specs.Residuals.{residual}
+use Rattle.fit.specs.ResidualLaws.{sizes-written, every-residual}
 use Rattle.fit.proofs.sizes.Statement.{statement}
 use Rattle.fit.proofs.sizes.Tie as tie
 

@@ -1,12 +1,13 @@
--- `fit::trial` meets its contract. Assumes nothing.
+-- `fit::trial` meets its contract.
 use mathlib.Core.Path.{sym, subst, _∙_}
 use Prim.Native.Nat.{_-_}
 use borrow.Author.Needs.{needs}
 use Rattle.loops.specs.All.{All}
 use Rattle.statistics.specs.Medians.{Size}
 use borrow.Author.Tests.{not-true, not-false}
-use Rattle.monomial.specs.Rows.{rowsAt, length-rows-at}
-use Rattle.fit.specs.Solved.{sizes-fine, scored-not, scored-is}
+use Rattle.monomial.specs.Rows.{rowsAt}
+use Rattle.monomial.specs.RowLaws.{length-rows-at}
+use Rattle.fit.specs.SolvedLaws.{sizes-fine, scored-not, scored-is}
 use Rattle.fit.proofs.trial.Statement.{statement}
 use Rattle.fit.proofs.trial.Tie as tie
 

@@ -10,10 +10,13 @@ use Rattle.loops.specs.Places.{each, each-again, each-past}
 use Rattle.loops.specs.Within.{Within, within-itself, within-then}
 use Rattle.basis.specs.Counts.{countOf}
 use Rattle.basis.specs.declared.Basis.the-variants.{Curve}
-use Rattle.monomial.specs.Rows.{rowsAt, length-rows-at}
-use Rattle.folds.specs.Folds.{degreeScored, start-end, end-below}
-use Rattle.folds.specs.Tallies.{plus, more, count-at-most, tallied-again}
-use Rattle.basis.specs.Counts.{curve-count}
+use Rattle.monomial.specs.Rows.{rowsAt}
+use Rattle.monomial.specs.RowLaws.{length-rows-at}
+use Rattle.folds.specs.Folds.{degreeScored}
+use Rattle.folds.specs.FoldLaws.{start-end, end-below}
+use Rattle.folds.specs.Tallies.{plus, more}
+use Rattle.folds.specs.TallyLaws.{count-at-most, tallied-again}
+use Rattle.basis.specs.CountLaws.{curve-count}
 use Rattle.folds.proofs.Own.{fold-scored}
 use Rattle.folds.proofs.Others.{others-same}
 use Rattle.folds.proofs.add_fold.Statement.{statement}

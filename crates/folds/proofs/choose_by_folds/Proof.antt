@@ -10,7 +10,8 @@ use Rattle.monomial.specs.Rows.{rowsAt}
 use Rattle.monomial.specs.Sums.{sumsOf}
 use Rattle.monomial.specs.Corner.{SameCorner}
 use Rattle.folds.specs.Folds.{degreeScored, startOf}
-use Rattle.folds.specs.Tallies.{Tallied, tallied-none}
+use Rattle.folds.specs.Tallies.{Tallied}
+use Rattle.folds.specs.TallyLaws.{tallied-none}
 use Rattle.folds.proofs.Others.{begun, next-begun}
 use Rattle.folds.proofs.Means.{validated-is}
 use Rattle.folds.proofs.choose_by_folds.Statement.{statement}

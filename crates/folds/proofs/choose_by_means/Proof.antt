@@ -1,4 +1,4 @@
--- `folds::choose_by_means` meets its contract. Assumes nothing.
+-- `folds::choose_by_means` meets its contract.
 use mathlib.Core.Path.{_≡_, refl, ap, _∙_}
 use mathlib.Core.Bool.{false}
 use Prim.Native.Nat.{_-_, _≤_}
@@ -7,9 +7,10 @@ use borrow.Author.Needs.{needs}
 use lib.ListN.{getD}
 use lib.Ieee.{nan}
 use Rattle.loops.specs.Places.{each, each-again}
-use Rattle.choice.specs.Choice.{scoredAt, chosen-same}
+use Rattle.choice.specs.Choice.{scoredAt}
+use Rattle.choice.specs.ChoiceLaws.{chosen-same}
 use Rattle.choice.specs.declared.Scored.{Scored}
-use Rattle.fit.specs.Chosen.{scores-at}
+use Rattle.fit.specs.ChosenLaws.{scores-at}
 use Rattle.folds.specs.Folds.{meanOf}
 use Rattle.folds.proofs.choose_by_means.Statement.{statement}
 use Rattle.folds.proofs.choose_by_means.Tie as tie

@@ -1,10 +1,11 @@
--- `folds::end_of` meets its contract. Assumes nothing.
+-- `folds::end_of` meets its contract.
 use mathlib.Core.Path.{sym}
 use Prim.Native.Nat.{_+_}
 use native.Mathlib.Omega.{arith}
 use borrow.Author.Needs.{needs}
 use borrow.Author.Tests.{ne-eqb}
-use Rattle.folds.specs.Folds.{endOf, product-below, last-end}
+use Rattle.folds.specs.Folds.{endOf}
+use Rattle.folds.specs.FoldLaws.{product-below, last-end}
 use Rattle.folds.proofs.end_of.Statement.{statement}
 use Rattle.folds.proofs.end_of.Tie as tie
 

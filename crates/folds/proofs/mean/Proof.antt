@@ -1,4 +1,4 @@
--- `folds::mean` meets its contract. Assumes nothing.
+-- `folds::mean` meets its contract.
 use borrow.Author.Needs.{needs}
 use borrow.Author.Tests.{lt-ltb, le-ltb}
 use Rattle.folds.specs.Folds.{meanOf}

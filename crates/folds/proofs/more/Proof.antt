@@ -1,4 +1,4 @@
--- `folds::more` meets its contract. Assumes nothing.
+-- `folds::more` meets its contract.
 use borrow.Author.Needs.{needs}
 use borrow.Author.Tests.{not-true, not-false}
 use Rattle.folds.specs.Tallies.{more}

@@ -2,7 +2,7 @@
 use mathlib.Core.Path.{_∙_}
 use native.Mathlib.Omega.{arith}
 use borrow.Author.Needs.{needs}
-use Rattle.folds.specs.Folds.{start-end, end-below}
+use Rattle.folds.specs.FoldLaws.{start-end, end-below}
 use Rattle.folds.proofs.Others.{passed-same}
 use Rattle.folds.proofs.pass_fold.Statement.{statement}
 use Rattle.folds.proofs.pass_fold.Tie as tie

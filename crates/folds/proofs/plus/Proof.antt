@@ -1,4 +1,4 @@
--- `folds::plus` meets its contract. Assumes nothing.
+-- `folds::plus` meets its contract.
 use Rattle.folds.specs.Tallies.{plus}
 use Rattle.folds.proofs.plus.Statement.{statement}
 use Rattle.folds.proofs.plus.Tie as tie

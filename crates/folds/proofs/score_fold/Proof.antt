@@ -1,15 +1,17 @@
--- `folds::score_fold` meets its contract. Assumes nothing.
+-- `folds::score_fold` meets its contract.
 use mathlib.Core.Path.{_≡_, sym, ap, _∙_}
 use mathlib.Core.Bool.{true}
 use Prim.Native.Nat.{ℕ, _-_}
 use native.Mathlib.Omega.{arith}
 use borrow.Author.Needs.{needs}
 use borrow.Author.Tests.{not-true, not-false}
-use Rattle.basis.specs.Counts.{countOf, curve-count}
+use Rattle.basis.specs.CountLaws.{curve-count}
 use Rattle.basis.specs.declared.Basis.the-variants.{Curve}
-use Rattle.monomial.specs.Rows.{rowsAt, length-rows-at}
+use Rattle.monomial.specs.Rows.{rowsAt}
+use Rattle.monomial.specs.RowLaws.{length-rows-at}
 use Rattle.solve.specs.Solve.{solve}
-use Rattle.fit.specs.Solved.{sizes-fine, scoredBy, scored-not, scored-is}
+use Rattle.fit.specs.Solved.{scoredBy}
+use Rattle.fit.specs.SolvedLaws.{sizes-fine, scored-not, scored-is}
 use Rattle.folds.specs.Folds.{ownOf}
 use Rattle.folds.proofs.Own.{length-own, own-fine, own-sizes}
 use Rattle.folds.proofs.score_fold.Statement.{statement}

@@ -1,8 +1,9 @@
--- `folds::start_of` meets its contract. Assumes nothing.
+-- `folds::start_of` meets its contract.
 use mathlib.Core.Path.{refl}
 use native.Mathlib.Omega.{arith}
 use borrow.Author.Needs.{needs}
-use Rattle.folds.specs.Folds.{startOf, product-below}
+use Rattle.folds.specs.Folds.{startOf}
+use Rattle.folds.specs.FoldLaws.{product-below}
 use Rattle.folds.proofs.start_of.Statement.{statement}
 use Rattle.folds.proofs.start_of.Tie as tie
 

@@ -1,9 +1,9 @@
--- `listing::put_c_line` meets its contract. Assumes nothing.
+-- `listing::put_c_line` meets its contract.
 use native.Mathlib.Omega.{arith}
 use borrow.Author.Needs.{needs}
 use Rattle.listing.specs.Text.{ascii, fields, line}
 use Rattle.listing.specs.Listing.{cLine}
-use Rattle.listing.specs.Writing.{then}
+use Rattle.listing.specs.WritingLaws.{then}
 use Rattle.listing.proofs.put_c_line.Statement.{statement}
 use Rattle.listing.proofs.put_c_line.Tie as tie
 

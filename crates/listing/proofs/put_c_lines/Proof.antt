@@ -1,11 +1,13 @@
--- `listing::put_c_lines` meets its contract. The loop's invariant: the first i lines were written. Assumes nothing.
+-- `listing::put_c_lines` meets its contract. The loop's invariant: the first i lines were written.
 use mathlib.Core.Path.{_≡_, refl, ap}
 use Prim.Native.Nat.{_-_, _≤_}
 use native.Mathlib.Omega.{arith}
 use borrow.Author.Needs.{needs}
 use lib.ListN.{length}
-use Rattle.listing.specs.Listing.{cLines, c-none, c-again}
-use Rattle.listing.specs.Writing.{Wrote, wrote-none, wrote-same, length-wrote, then}
+use Rattle.listing.specs.Listing.{cLines}
+use Rattle.listing.specs.ListingLaws.{c-none, c-again}
+use Rattle.listing.specs.Writing.{Wrote}
+use Rattle.listing.specs.WritingLaws.{wrote-none, wrote-same, length-wrote, then}
 use Rattle.listing.proofs.put_c_lines.Statement.{statement}
 use Rattle.listing.proofs.put_c_lines.Tie as tie
 

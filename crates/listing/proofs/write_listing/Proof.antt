@@ -1,11 +1,11 @@
--- `listing::write_listing` meets its contract. Assumes nothing.
+-- `listing::write_listing` meets its contract.
 use mathlib.Core.Path.{ap, _∙_}
 use Prim.Native.Nat.{_+_, min}
 use native.Mathlib.Omega.{arith}
 use borrow.Author.Needs.{needs}
 use Rattle.listing.specs.Text.{ascii}
 use Rattle.listing.specs.Listing.{cLines, listing}
-use Rattle.listing.specs.Writing.{then, wrote-same}
+use Rattle.listing.specs.WritingLaws.{then, wrote-same}
 use Rattle.listing.proofs.write_listing.Statement.{statement}
 use Rattle.listing.proofs.write_listing.Tie as tie
 

@@ -1,4 +1,4 @@
--- `listing::write_refused` meets its contract. Assumes nothing.
+-- `listing::write_refused` meets its contract.
 use borrow.Author.Needs.{needs}
 use Rattle.listing.specs.Text.{ascii}
 use Rattle.listing.specs.Listing.{refusedLine}

@@ -5,7 +5,7 @@ use native.Mathlib.Omega.{arith}
 use borrow.Author.Needs.{needs}
 use lib.ListN.{length, length-set}
 use lib.Ieee.{binary64, add}
-use Rattle.monomial.specs.Sums.{product-matrix, product-right}
+use Rattle.monomial.specs.SumLaws.{product-matrix, product-right}
 use Rattle.monomial.proofs.Lines.{gains, Cells, cells-none, cells-again, Lines, lines-none, lines-again, lines-done}
 use Rattle.monomial.proofs.add_lines.Statement.{statement}
 use Rattle.monomial.proofs.add_lines.Tie as tie

@@ -1,5 +1,5 @@
 -- `monomial::add_matrix` meets its contract. The invariants: the places of A that were passed, 16i in the outer loop and 16i + j in the inner one, have
--- their products. Assumes nothing.
+-- their products.
 use mathlib.Core.Path.{_≡_, refl, _∙_}
 use mathlib.Core.List.{List}
 use Prim.Native.Nat.{_+_, _-_, _*_, _≤_}

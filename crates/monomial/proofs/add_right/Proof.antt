@@ -1,4 +1,4 @@
--- `monomial::add_right` meets its contract. The loop's invariant: the places of g that were passed have their products. Assumes nothing.
+-- `monomial::add_right` meets its contract. The loop's invariant: the places of g that were passed have their products.
 use mathlib.Core.Path.{_≡_, refl, sym}
 use Prim.Native.Nat.{_-_, _≤_}
 use native.Mathlib.Omega.{arith}
@@ -6,7 +6,7 @@ use borrow.Author.Needs.{needs}
 use lib.ListN.{length, length-set}
 use lib.Ieee.{nan}
 use Rattle.loops.specs.Places.{each, each-again}
-use Rattle.monomial.specs.Sums.{product-right}
+use Rattle.monomial.specs.SumLaws.{product-right}
 use Rattle.monomial.proofs.Parts.{addedG}
 use Rattle.monomial.proofs.add_right.Statement.{statement}
 use Rattle.monomial.proofs.add_right.Tie as tie

@@ -1,4 +1,4 @@
--- `monomial::add_row` meets its contract: A is added, and then g in the tail that is lent. Assumes nothing.
+-- `monomial::add_row` meets its contract: A is added, and then g in the tail that is lent.
 use borrow.Author.Needs.{needs}
 use Rattle.monomial.proofs.Parts.{add-parts}
 use Rattle.monomial.proofs.add_row.Statement.{statement}

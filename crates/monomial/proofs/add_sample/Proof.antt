@@ -1,4 +1,4 @@
--- `monomial::add_sample` meets its contract: the row's term values are the powers. Assumes nothing.
+-- `monomial::add_sample` meets its contract: the row's term values are the powers.
 use mathlib.Core.Path.{ap, _∙_}
 use borrow.Author.Needs.{needs}
 use Rattle.monomial.specs.Rows.{rowOf}

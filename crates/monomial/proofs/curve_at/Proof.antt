@@ -1,4 +1,4 @@
--- `monomial::curve_at` meets its contract. Assumes nothing.
+-- `monomial::curve_at` meets its contract.
 use borrow.Author.Needs.{needs}
 use Rattle.monomial.proofs.curve_at.Statement.{statement}
 use Rattle.monomial.proofs.curve_at.Tie as tie

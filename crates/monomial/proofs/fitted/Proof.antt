@@ -1,4 +1,4 @@
--- `monomial::fitted` meets its contract. The loop's invariant: v is the fitted value of the coefficients passed. Assumes nothing.
+-- `monomial::fitted` meets its contract. The loop's invariant: v is the fitted value of the coefficients passed.
 use mathlib.Core.Path.{_≡_, refl, sym}
 use Prim.Native.Nat.{_-_, _≤_}
 use native.Mathlib.Omega.{arith}

@@ -1,4 +1,4 @@
--- `monomial::fitted_at` meets its contract. Assumes nothing.
+-- `monomial::fitted_at` meets its contract.
 use borrow.Author.Needs.{needs}
 use Rattle.monomial.specs.Terms.{termsAt}
 use Rattle.monomial.proofs.fitted_at.Statement.{statement}

@@ -1,4 +1,4 @@
--- `monomial::fitted_low` meets its contract. Assumes nothing.
+-- `monomial::fitted_low` meets its contract.
 use mathlib.Core.Path.{_≡_, sym, subst}
 use native.Mathlib.Omega.{arith}
 use borrow.Author.Needs.{needs}

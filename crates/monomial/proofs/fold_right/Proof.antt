@@ -1,5 +1,4 @@
 -- `monomial::fold_right` meets its contract. The invariants: the places passed are +0; what the rows of the samples passed add to g is added.
--- Assumes nothing.
 use mathlib.Core.Path.{_≡_, refl, sym, ap, _∙_}
 use Prim.Native.Nat.{_-_, _≤_}
 use native.Mathlib.Omega.{arith}
@@ -9,10 +8,11 @@ use lib.Ieee.{nan}
 use Rattle.value.specs.Numbers.{zeroF}
 use Rattle.loops.specs.Fold.{fold}
 use Rattle.loops.specs.Places.{each, each-again, table}
-use Rattle.monomial.specs.Samples.{samplesOf}
+use Rattle.samples.specs.Samples.{samplesOf}
 use Rattle.monomial.specs.Rows.{rowOf, rowsOf}
-use Rattle.monomial.specs.Adding.{addOne, addAll, length-add-one, sums-afresh}
-use Rattle.monomial.specs.Sums.{rightProduct, right-is}
+use Rattle.monomial.specs.Adding.{addOne, addAll}
+use Rattle.monomial.specs.AddingLaws.{length-add-one, sums-afresh}
+use Rattle.monomial.specs.SumLaws.{rightProduct, right-is}
 use Rattle.monomial.proofs.Parts.{fold-rows-again}
 use Rattle.monomial.proofs.fold_right.Statement.{statement}
 use Rattle.monomial.proofs.fold_right.Tie as tie

@@ -1,4 +1,4 @@
--- `monomial::fold_sums` meets its contract. The invariants: the places passed are +0; the rows of the samples passed are added. Assumes nothing.
+-- `monomial::fold_sums` meets its contract. The invariants: the places passed are +0; the rows of the samples passed are added.
 use mathlib.Core.Path.{_≡_, refl, sym, ap, _∙_}
 use Prim.Native.Nat.{_-_, _≤_}
 use native.Mathlib.Omega.{arith}
@@ -8,9 +8,10 @@ use lib.Ieee.{nan}
 use Rattle.value.specs.Numbers.{zeroF}
 use Rattle.loops.specs.Fold.{fold}
 use Rattle.loops.specs.Places.{each, each-again, table}
-use Rattle.monomial.specs.Samples.{samplesOf}
+use Rattle.samples.specs.Samples.{samplesOf}
 use Rattle.monomial.specs.Rows.{rowsOf}
-use Rattle.monomial.specs.Sums.{addRow, addRows, length-add-row, rows-afresh}
+use Rattle.monomial.specs.Sums.{addRow, addRows}
+use Rattle.monomial.specs.SumLaws.{length-add-row, rows-afresh}
 use Rattle.monomial.proofs.Parts.{fold-rows-again}
 use Rattle.monomial.proofs.fold_sums.Statement.{statement}
 use Rattle.monomial.proofs.fold_sums.Tie as tie

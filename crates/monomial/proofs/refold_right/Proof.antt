@@ -1,8 +1,8 @@
--- `monomial::refold_right` meets its contract: g is folded in the tail that is lent. Assumes nothing.
+-- `monomial::refold_right` meets its contract: g is folded in the tail that is lent.
 use borrow.Author.Needs.{needs}
 use lib.ListN.{drop}
 use Rattle.loops.specs.Places.{tail-back}
-use Rattle.monomial.specs.Samples.{samplesOf}
+use Rattle.samples.specs.Samples.{samplesOf}
 use Rattle.monomial.specs.Rows.{rowsOf}
 use Rattle.monomial.specs.Sums.{sumsOf}
 use Rattle.monomial.proofs.refold_right.Statement.{statement}

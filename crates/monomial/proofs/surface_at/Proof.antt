@@ -1,4 +1,4 @@
--- `monomial::surface_at` meets its contract. Assumes nothing.
+-- `monomial::surface_at` meets its contract.
 use borrow.Author.Needs.{needs}
 use Rattle.monomial.proofs.surface_at.Statement.{statement}
 use Rattle.monomial.proofs.surface_at.Tie as tie

@@ -1,4 +1,4 @@
--- `monomial::surface_terms` meets its contract. Assumes nothing.
+-- `monomial::surface_terms` meets its contract.
 use mathlib.Core.Path.{sym, subst}
 use lib.Dec.{T}
 use Rattle.monomial.proofs.Surface.{surface-is}

@@ -1,4 +1,4 @@
--- `monomial::terms_at` meets its contract. Assumes nothing.
+-- `monomial::terms_at` meets its contract.
 use borrow.Author.Needs.{needs}
 use Rattle.monomial.specs.Terms.{termsAt}
 use Rattle.monomial.proofs.terms_at.Statement.{statement}

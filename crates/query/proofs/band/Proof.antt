@@ -5,13 +5,13 @@ use native.Mathlib.Omega.{arith}
 use borrow.Author.Needs.{needs}
 use lib.ListN.{length}
 use lib.Seq.{length-take-le}
-use Rattle.basis.specs.Counts.{curve-count}
-use Rattle.basis.specs.declared.Basis.the-variants.{Curve}
-use Rattle.monomial.specs.Rows.{curve-rows}
-use Rattle.monomial.specs.Terms.{curve-terms}
-use Rattle.monomial.specs.Samples.{samplesOf, ys-of-samples}
+use Rattle.basis.specs.CountLaws.{curve-count}
+use Rattle.monomial.specs.RowLaws.{curve-rows}
+use Rattle.monomial.specs.TermLaws.{curve-terms}
+use Rattle.samples.specs.Samples.{samplesOf}
+use Rattle.samples.specs.SampleLaws.{ys-of-samples}
 use Rattle.statistics.specs.Variances.{stddevAndMean}
-use Rattle.lent.specs.Written.{over-cleared}
+use Rattle.lent.specs.WrittenLaws.{over-cleared}
 use Rattle.query.specs.RefusalLaws.{band-room}
 use Rattle.query.specs.Bands.{bandFor}
 use Rattle.query.proofs.Banding.{band-early, band-through, band-late, band-made}

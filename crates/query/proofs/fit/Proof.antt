@@ -2,7 +2,6 @@
 use mathlib.Core.Path.{sym, _∙_}
 use Prim.Native.Nat.{_-_}
 use borrow.Author.Needs.{needs}
-use lib.ListN.{length}
 use Rattle.query.specs.Fits.{fitOn}
 use Rattle.query.specs.RefusalLaws.{fit-room}
 use Rattle.query.proofs.Fitting.{refused-early, let-through}

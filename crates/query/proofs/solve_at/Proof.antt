@@ -1,18 +1,19 @@
--- `query::solve_at` meets its contract. Assumes nothing.
+-- `query::solve_at` meets its contract.
 use mathlib.Core.Path.{sym, ap, _∙_}
 use mathlib.Core.List.{_++_}
 use Prim.Native.Nat.{_+_, _-_}
 use native.Mathlib.Omega.{arith}
 use borrow.Author.Needs.{needs}
 use lib.ListN.{take, drop}
-use Rattle.basis.specs.Counts.{countOf, curve-count}
+use Rattle.basis.specs.Counts.{countOf}
+use Rattle.basis.specs.CountLaws.{curve-count}
 use Rattle.basis.specs.declared.Basis.the-variants.{Curve}
-use Rattle.monomial.specs.Rows.{curve-rows}
+use Rattle.monomial.specs.RowLaws.{curve-rows}
 use Rattle.solve.specs.Solve.{solve}
 use lib.Seq.{length-take-le}
 use borrow.Author.Tests.{not-true, not-false}
 use Rattle.solve.specs.Laws.{solve-within}
-use Rattle.lent.specs.Written.{over-by, over-cleared}
+use Rattle.lent.specs.WrittenLaws.{over-by, over-cleared}
 use Rattle.query.proofs.Fitting.{fit-unsolved, fit-solved}
 use Rattle.query.proofs.solve_at.Statement.{statement}
 use Rattle.query.proofs.solve_at.Tie as tie

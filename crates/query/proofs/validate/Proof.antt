@@ -4,15 +4,15 @@ use mathlib.Core.List.{List}
 use Prim.Native.Nat.{_+_, _-_}
 use native.Mathlib.Omega.{arith}
 use borrow.Author.Needs.{needs}
-use lib.ListN.{length}
-use Rattle.monomial.specs.Samples.{samplesOf}
+use Rattle.samples.specs.Samples.{samplesOf}
 use Rattle.basis.specs.Counts.{countOf}
 use Rattle.basis.specs.declared.Basis.the-variants.{Curve}
-use Rattle.monomial.specs.Rows.{Row, rowsOf, curve-rows}
+use Rattle.monomial.specs.Rows.{Row, rowsOf}
+use Rattle.monomial.specs.RowLaws.{curve-rows}
 use Rattle.choice.specs.Laws.{chosen}
 use Rattle.folds.specs.Folds.{validated, validatedChoice}
 use Rattle.query.specs.RefusalLaws.{validate-room}
-use Rattle.lent.specs.Written.{over-cleared}
+use Rattle.lent.specs.WrittenLaws.{over-cleared}
 use Rattle.query.specs.Fits.{validateOn}
 use Rattle.query.proofs.Fitting.{refused-early, let-through, none-validated, one-validated}
 use Rattle.query.proofs.validate.Statement.{statement}

@@ -4,7 +4,8 @@ use mathlib.Core.Bool.{true, _&&_}
 use Prim.Native.Nat.{_-_, _≤_}
 use native.Mathlib.Omega.{arith}
 use borrow.Author.Needs.{needs}
-use Rattle.loops.specs.Fold.{fold, fold-table}
+use Rattle.loops.specs.Fold.{fold}
+use Rattle.loops.specs.FoldLaws.{fold-table}
 use Rattle.loops.specs.Places.{table}
 use Rattle.replay.specs.Records.{placesAt, fitsIn, allFit}
 use Rattle.replay.proofs.all_fit.Statement.{statement}

@@ -3,10 +3,11 @@ use mathlib.Core.Path.{ap, _∙_}
 use mathlib.Core.List.{List}
 use native.Mathlib.Omega.{arith}
 use borrow.Author.Needs.{needs}
-use Rattle.basis.specs.Counts.{curve-count}
+use Rattle.basis.specs.CountLaws.{curve-count}
 use Rattle.basis.specs.declared.Basis.the-variants.{Curve}
-use Rattle.monomial.specs.Samples.{samplesOf}
-use Rattle.monomial.specs.Rows.{Row, curve-rows}
+use Rattle.samples.specs.Samples.{samplesOf}
+use Rattle.monomial.specs.Rows.{Row}
+use Rattle.monomial.specs.RowLaws.{curve-rows}
 use Rattle.fit.specs.Chosen.{choiceOf, countsOf}
 use Rattle.report.proofs.Choosing.{chosen-most, chooses-none, chooses-some}
 use Rattle.report.proofs.choose.Statement.{statement}

@@ -1,14 +1,11 @@
-use mathlib.Core.Path.{_≡_, refl, sym, ap, ap₂, subst, _∙_}
-use mathlib.Core.Bool.{Bool, true, false, cond, not, _&&_, _||_}
-use mathlib.Core.List.{List, [], _∷_, _++_, map}
-use Prim.Native.Nat.{ℕ, _+_, _-_, _*_, _/_, _%_, _≤_, _<_}
+use mathlib.Core.Path.{sym}
+use Prim.Native.Nat.{_-_}
 use native.Mathlib.Omega.{arith}
 use borrow.Author.Needs.{needs}
-use lib.ListN.{length, getD, set, take, drop, replicate, length-set}
-use lib.Ieee.{Float, nan, binary64, add, sub, mul, div}
+use lib.ListN.{length, set, take}
 use mathlib.Core.Path.{sym}
 use lib.Seq.{length-take-le}
-use Rattle.monomial.specs.Samples.{samplesOf}
+use Rattle.samples.specs.Samples.{samplesOf}
 use Rattle.report.proofs.Choosing.{chosen-below}
 use Rattle.report.proofs.Reporting.{has-room, report-refused, report-late, report-whole}
 use Rattle.report.proofs.report.Statement.{statement}

@@ -1,17 +1,16 @@
-use mathlib.Core.Path.{_≡_, refl, sym, ap, ap₂, subst, _∙_}
-use mathlib.Core.Bool.{Bool, true, false, cond, not, _&&_, _||_}
-use mathlib.Core.List.{List, [], _∷_, _++_, map}
-use Prim.Native.Nat.{ℕ, _+_, _-_, _*_, _/_, _%_, _≤_, _<_}
+use mathlib.Core.Path.{_≡_, sym, ap, _∙_}
+use Prim.Native.Nat.{_-_}
 use native.Mathlib.Omega.{arith}
 use borrow.Author.Needs.{needs}
-use lib.ListN.{length, getD, set, take, drop, replicate, length-set}
-use lib.Ieee.{Float, nan, binary64, add, sub, mul, div}
+use lib.ListN.{length, set}
+use lib.Ieee.{sub}
 use mathlib.Core.Path.{_≡_, sym, ap, _∙_}
 use Rattle.statistics.specs.Variances.{stddevAndMean}
-use Rattle.basis.specs.Counts.{curve-count}
+use Rattle.basis.specs.CountLaws.{curve-count}
 use Rattle.basis.specs.declared.Basis.the-variants.{Curve}
-use Rattle.monomial.specs.Samples.{samplesOf, ys-of-samples}
-use Rattle.monomial.specs.Rows.{curve-rows, length-rows-at}
+use Rattle.samples.specs.Samples.{samplesOf}
+use Rattle.samples.specs.SampleLaws.{ys-of-samples}
+use Rattle.monomial.specs.RowLaws.{curve-rows, length-rows-at}
 use Rattle.report.proofs.Writing.{writes-is}
 use Rattle.report.proofs.write.Statement.{statement}
 use Rattle.report.proofs.write.Tie as tie

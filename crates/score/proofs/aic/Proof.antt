@@ -1,8 +1,8 @@
--- `score::aic` meets its contract. Assumes nothing.
+-- `score::aic` meets its contract.
 use mathlib.Core.Path.{ap, _∙_}
 use Prim.Native.Nat.{_-_}
 use borrow.Author.Needs.{needs}
-use Rattle.score.specs.Score.{aic-few, aic-many}
+use Rattle.score.specs.ScoreLaws.{aic-few, aic-many}
 use Rattle.value.specs.Logarithm.{lnF}
 use Rattle.score.proofs.aic.Statement.{statement}
 use Rattle.score.proofs.aic.Tie as tie

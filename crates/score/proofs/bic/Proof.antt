@@ -1,8 +1,8 @@
--- `score::bic` meets its contract. Assumes nothing.
+-- `score::bic` meets its contract.
 use mathlib.Core.Path.{ap, _∙_}
 use Prim.Native.Nat.{_-_}
 use borrow.Author.Needs.{needs}
-use Rattle.score.specs.Score.{bic-is}
+use Rattle.score.specs.ScoreLaws.{bic-is}
 use Rattle.value.specs.Logarithm.{lnF}
 use Rattle.score.proofs.bic.Statement.{statement}
 use Rattle.score.proofs.bic.Tie as tie

@@ -1,4 +1,4 @@
--- `score::likelihood` meets its contract. Assumes nothing.
+-- `score::likelihood` meets its contract.
 use mathlib.Core.Path.{_∙_}
 use Prim.Native.Nat.{_-_}
 use borrow.Author.Needs.{needs}

@@ -1,4 +1,4 @@
--- `score::score` meets its contract. Assumes nothing.
+-- `score::score` meets its contract.
 use mathlib.Core.Path.{sym, ap, _∙_}
 use Prim.Native.Nat.{_-_}
 use borrow.Author.Needs.{needs}

@@ -1,4 +1,4 @@
--- `settings::bound` meets its contract. Assumes nothing.
+-- `settings::bound` meets its contract.
 use mathlib.Core.Path.{refl}
 use Prim.Native.Nat.{_-_}
 use borrow.Author.Tests.{eq-eqb, ne-eqb}

@@ -1,4 +1,4 @@
--- `settings::criterion` meets its contract. Assumes nothing.
+-- `settings::criterion` meets its contract.
 use mathlib.Core.Path.{refl}
 use Prim.Native.Nat.{_-_}
 use borrow.Author.Tests.{eq-eqb, ne-eqb}

@@ -1,4 +1,4 @@
--- `solve::back_substitution` meets its contract. The invariants: the definition from here on is the definition where the loop began. Assumes nothing.
+-- `solve::back_substitution` meets its contract. The invariants: the definition from here on is the definition where the loop began.
 use mathlib.Core.Path.{_≡_, refl, sym, _∙_}
 use native.Mathlib.Omega.{arith}
 use Prim.Native.Nat.{_-_}

@@ -1,5 +1,4 @@
 -- `solve::eliminate` meets its contract. The invariants of the three loops: the definition from here on is the definition where the loop began.
--- Assumes nothing.
 use mathlib.Core.Path.{_≡_, refl, sym, _∙_}
 use native.Mathlib.Omega.{arith}
 use Prim.Native.Nat.{_-_}

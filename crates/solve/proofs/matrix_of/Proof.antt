@@ -1,4 +1,4 @@
--- `solve::matrix_of` meets its contract. The loop's invariant: the places passed are copied. Assumes nothing.
+-- `solve::matrix_of` meets its contract. The loop's invariant: the places passed are copied.
 use mathlib.Core.Path.{_≡_, refl, _∙_}
 use Prim.Native.Nat.{_-_, _≤_}
 use native.Mathlib.Omega.{arith}

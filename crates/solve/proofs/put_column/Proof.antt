@@ -1,4 +1,4 @@
--- `solve::put_column` meets its contract. The loop's invariant: the definition from here on is the definition at the start. Assumes nothing.
+-- `solve::put_column` meets its contract. The loop's invariant: the definition from here on is the definition at the start.
 use mathlib.Core.Path.{_≡_, refl, sym, _∙_}
 use native.Mathlib.Omega.{arith}
 use Prim.Native.Nat.{_-_}

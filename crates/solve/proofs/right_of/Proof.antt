@@ -1,4 +1,4 @@
--- `solve::right_of` meets its contract. The loop's invariant: the places passed are copied. Assumes nothing.
+-- `solve::right_of` meets its contract. The loop's invariant: the places passed are copied.
 use mathlib.Core.Path.{_≡_, refl}
 use Prim.Native.Nat.{_+_, _-_, _≤_}
 use native.Mathlib.Omega.{arith}

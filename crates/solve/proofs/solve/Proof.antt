@@ -1,4 +1,4 @@
--- `solve::solve` meets its contract: what each callee ensures, put together. Assumes nothing.
+-- `solve::solve` meets its contract: what each callee ensures, put together.
 use mathlib.Core.Path.{sym, _∙_}
 use borrow.Author.Needs.{needs}
 use borrow.Author.Tests.{lt-ltb, le-ltb}

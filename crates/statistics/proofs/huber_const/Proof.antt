@@ -1,4 +1,4 @@
--- `statistics::huber_const` meets its contract. 1.345 is the double nearest to 1345 thousandths, which antt computes. Assumes nothing.
+-- `statistics::huber_const` meets its contract. 1.345 is the double nearest to 1345 thousandths, which antt computes.
 use mathlib.Core.Path.{refl}
 use lib.Ieee.{ofBits, round}
 use Rattle.statistics.specs.Scores.{milli}

@@ -1,4 +1,4 @@
--- `statistics::huber_loss` meets its contract. By the test on delta. Assumes nothing.
+-- `statistics::huber_loss` meets its contract. By the test on delta.
 use borrow.Author.Needs.{needs}
 use Rattle.statistics.specs.Losses.{huberLoss}
 use Rattle.statistics.proofs.huber_loss.Statement.{statement}

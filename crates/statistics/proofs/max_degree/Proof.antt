@@ -1,4 +1,4 @@
--- `statistics::max_degree` meets its contract. Arm by arm; the code takes the lesser of root and cap first. Assumes nothing.
+-- `statistics::max_degree` meets its contract. Arm by arm; the code takes the lesser of root and cap first.
 use mathlib.Core.Path.{_∙_}
 use Prim.Native.Nat.{_-_}
 use borrow.Author.Needs.{needs}

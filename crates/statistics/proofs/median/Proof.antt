@@ -1,4 +1,4 @@
--- `statistics::median` meets its contract. The deviations from +0 are the numbers themselves. Assumes nothing.
+-- `statistics::median` meets its contract. The deviations from +0 are the numbers themselves.
 use mathlib.Core.Path.{sym, ap, subst, _∙_}
 use lib.ListN.{take}
 use Rattle.loops.specs.All.{All}

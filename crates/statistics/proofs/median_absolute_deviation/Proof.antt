@@ -1,4 +1,4 @@
--- `statistics::median_absolute_deviation` meets its contract. A median of sizes has no sign, and neither have the deviations of finite sizes from it. Assumes nothing.
+-- `statistics::median_absolute_deviation` meets its contract. A median of sizes has no sign, and neither have the deviations of finite sizes from it.
 use mathlib.Core.Path.{sym, ap, subst, _∙_}
 use lib.ListN.{take}
 use lib.Ieee.{Float}

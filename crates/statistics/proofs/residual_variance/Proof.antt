@@ -1,4 +1,4 @@
--- `statistics::residual_variance` meets its contract. The contracts of the callees are put into the definition. Assumes nothing.
+-- `statistics::residual_variance` meets its contract. The contracts of the callees are put into the definition.
 use borrow.Author.Needs.{needs}
 use lib.Seq.{length-take-le}
 use Rattle.statistics.specs.Variances.{residualVariance}

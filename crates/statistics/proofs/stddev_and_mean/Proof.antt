@@ -1,4 +1,4 @@
--- `statistics::stddev_and_mean` meets its contract. The contracts of the callees are put into the definition. Assumes nothing.
+-- `statistics::stddev_and_mean` meets its contract. The contracts of the callees are put into the definition.
 use borrow.Author.Needs.{needs}
 use lib.Seq.{length-take-le}
 use Rattle.statistics.specs.Variances.{mean, stddevAndMean}

@@ -1,4 +1,4 @@
--- `statistics::t_score` meets its contract. By the two tests on df. Assumes nothing.
+-- `statistics::t_score` meets its contract. By the two tests on df.
 use native.Mathlib.Omega.{arith}
 use borrow.Author.Needs.{needs}
 use lib.Ieee.{nanBits}

@@ -1,4 +1,4 @@
--- `statistics::table_score` meets its contract. Arm by arm. Assumes nothing.
+-- `statistics::table_score` meets its contract. Arm by arm.
 use mathlib.Core.Path.{ap, _∙_}
 use borrow.Author.Needs.{needs}
 use Rattle.statistics.specs.Scores.{zScore, tableScore}

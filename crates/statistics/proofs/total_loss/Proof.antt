@@ -1,4 +1,4 @@
--- `statistics::total_loss` meets its contract. The invariant: v is the sum of the losses so far. Assumes nothing.
+-- `statistics::total_loss` meets its contract. The invariant: v is the sum of the losses so far.
 use mathlib.Core.Path.{_≡_, refl, sym}
 use mathlib.Core.List.{map}
 use Prim.Native.Nat.{_-_, _≤_}
@@ -6,7 +6,8 @@ use native.Mathlib.Omega.{arith}
 use borrow.Author.Needs.{needs}
 use lib.ListN.{take}
 use lib.Ieee.{nan, binary64, add}
-use Rattle.loops.specs.Fold.{fold, fold-map-again}
+use Rattle.loops.specs.Fold.{fold}
+use Rattle.loops.specs.FoldLaws.{fold-map-again}
 use Rattle.value.specs.Numbers.{zeroF}
 use Rattle.value.specs.Total.{totalF}
 use Rattle.statistics.specs.Losses.{huberLoss, losses}

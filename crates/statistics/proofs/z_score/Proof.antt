@@ -1,4 +1,4 @@
--- `statistics::z_score` meets its contract. Arm by arm; each literal is the double nearest to its thousandths, which antt computes. Assumes nothing.
+-- `statistics::z_score` meets its contract. Arm by arm; each literal is the double nearest to its thousandths, which antt computes.
 use borrow.Author.Needs.{needs}
 use lib.Ieee.{ofBits, round}
 use Rattle.statistics.specs.Table.{zThousandths}

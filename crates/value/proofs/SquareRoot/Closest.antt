@@ -1,4 +1,4 @@
--- `rootF x` is the double nearest to √x, for every double x above zero, and no other double is. Assumes nothing.
+-- `rootF x` is the double nearest to √x, for every double x above zero, and no other double is.
 use mathlib.Core.Path.{_≡_, refl, sym, ap, _∙_, subst}
 use mathlib.Core.Logic.{_⊎_, inl, inr}
 use mathlib.Core.Bool.{Bool, true, false, not, _&&_, cond, true≢false}
@@ -15,7 +15,7 @@ use lib.Ieee.Exact.{HasValue, units-val}
 use lib.Ieee.Positive.{positive}
 use lib.Ieee.Bits.{ofBits-toBits}
 use Rattle.value.specs.Root.{isqrt, closestRoot, rootOf, rootF}
-use Rattle.value.specs.Nearest.{grains, square, Nearest}
+use Rattle.value.specs.Nearest.{ulps, square, Nearest}
 use Rattle.value.proofs.SquareRoot.Numbers.{IsRoot, root-le, odd-square, even-square, isqrt-is, half, closestRoot-at}
 use Rattle.value.proofs.SquareRoot.Packing.{written, units-fit, below-all, bits-of-value, closest-low, closest-high, rootOf-is, even-shift, odd-shift}
 use Rattle.value.proofs.SquareRoot.Reading.{positive-value}
@@ -73,7 +73,7 @@ nothing = record { digits = 0; zeros = 0; is = refl; short = pow-pos 53 }
 zero-grains : (e : ℤ) → 0 * up e * 2 ^ 1074 / down e ≡ 0
 zero-grains e = ap (λ (x : ℕ). x * 2 ^ 1074 / down e) (zero-mul (up e)) ∙ ap (λ (x : ℕ). x / down e) (sym (zero-mul (down e))) ∙ mul-div-cancel 0 (down-pos e)
 
-grains-double : (y : Float) → T (fits binary64 y) → Double (grains y)
+grains-double : (y : Float) → T (fits binary64 y) → Double (ulps y)
 grains-double nan t = nothing
 grains-double (inf s) t = nothing
 grains-double (fin s zero e) t = subst Double (sym (zero-grains e)) nothing
@@ -269,10 +269,10 @@ scaled c j a b h =
     left s j h = omega arith
 
 -- ---- values and their sizes
-grains-of-value : (v : Float) (n : ℕ) → HasValue v false n (2 ^ 1074) → grains v ≡ n
-grains-of-value nan n h = absurd h
-grains-of-value (inf s) n h = absurd h
-grains-of-value (fin s m e) n h = ap (λ (x : ℕ). x / down e) (h .1) ∙ mul-div-cancel n (down-pos e)
+ulps-of-value : (v : Float) (n : ℕ) → HasValue v false n (2 ^ 1074) → ulps v ≡ n
+ulps-of-value nan n h = absurd h
+ulps-of-value (inf s) n h = absurd h
+ulps-of-value (fin s m e) n h = ap (λ (x : ℕ). x / down e) (h .1) ∙ mul-div-cancel n (down-pos e)
 
 positive-of-value : (v : Float) (n : ℕ) → HasValue v false n (2 ^ 1074) → 0 < n → T (positive v)
 positive-of-value nan n h p = absurd h
@@ -287,9 +287,9 @@ record Grains (x : Float) : Type 0 where
   i : ℕ
   pos' : 0 < c
   short : c < 2 ^ 53
-  is : grains x ≡ c * 2 ^ i
+  is : ulps x ≡ c * 2 ^ i
   bound : c * 2 ^ i < 2 ^ 2098
-  value : HasValue x false (grains x) (2 ^ 1074)
+  value : HasValue x false (ulps x) (2 ^ 1074)
 
 grains-is : (x : Float) → T (fits binary64 x) → T (positive x) → Grains x
 grains-is nan f t = absurd t
@@ -318,18 +318,18 @@ few m k n a e h = far k (pow-lt-back (104 + (k + k)) 3172 (lt-of-le-of-lt (le-tr
     far : (k : ℕ) → 104 + (k + k) < 3172 → k ≤ 2000
     far k h = omega arith
 
-nearest-units : (x : Float) (n m k : ℕ) → n ≡ grains x * 2 ^ 1074 → 2 ^ 104 ≤ m → m < 2 ^ 106 → n ≡ m * (2 ^ k * 2 ^ k) → k ≤ 2000 → Nearest x (units binary64 false (closestRoot m) k)
+nearest-units : (x : Float) (n m k : ℕ) → n ≡ ulps x * 2 ^ 1074 → 2 ^ 104 ≤ m → m < 2 ^ 106 → n ≡ m * (2 ^ k * 2 ^ k) → k ≤ 2000 → Nearest x (units binary64 false (closestRoot m) k)
 nearest-units x n m k g a b e h =
     let q = closestRoot m in
     let r = units binary64 false q k in
     let w : HasValue r false (q * 2 ^ k) (2 ^ 1074) = units-val binary64 false q k (below-all q k (closest-high m b) h) in
-    let s : grains r ≡ q * 2 ^ k = grains-of-value r (q * 2 ^ k) w in
-    let t : m * (2 ^ k * 2 ^ k) ≡ grains x * 2 ^ 1074 = sym e ∙ g in
+    let s : ulps r ≡ q * 2 ^ k = ulps-of-value r (q * 2 ^ k) w in
+    let t : m * (2 ^ k * 2 ^ k) ≡ ulps x * 2 ^ 1074 = sym e ∙ g in
     record {
       held = units-fit q k (closest-high m b) h;
       above = positive-of-value r (q * 2 ^ k) w (mul-pos (lt-of-lt-of-le (pow-pos 52) (closest-low m b a)) (pow-pos k));
-      over = λ y f. rw s (subst (λ (z : ℕ). grains y < q * 2 ^ k → square (grains y + q * 2 ^ k) < 4 * z) t (both m k (grains y) q (sides m k (grains y) a b (grains-double y f)) .0));
-      under = λ y f. rw s (subst (λ (z : ℕ). q * 2 ^ k < grains y → 4 * z < square (grains y + q * 2 ^ k)) t (both m k (grains y) q (sides m k (grains y) a b (grains-double y f)) .1));
+      over = λ y f. rw s (subst (λ (z : ℕ). ulps y < q * 2 ^ k → square (ulps y + q * 2 ^ k) < 4 * z) t (both m k (ulps y) q (sides m k (ulps y) a b (grains-double y f)) .0));
+      under = λ y f. rw s (subst (λ (z : ℕ). q * 2 ^ k < ulps y → 4 * z < square (ulps y + q * 2 ^ k)) t (both m k (ulps y) q (sides m k (ulps y) a b (grains-double y f)) .1));
     }
   where
     both : (m k v w : ℕ) → Sides m k v w → (v < w * 2 ^ k → square (v + w * 2 ^ k) < 4 * (m * (2 ^ k * 2 ^ k))) × (w * 2 ^ k < v → 4 * (m * (2 ^ k * 2 ^ k)) < square (v + w * 2 ^ k))
@@ -339,11 +339,11 @@ pub rootF-nearest : (x : Float) → T (fits binary64 x) → T (positive x) → N
 rootF-nearest x f t =
     let g = grains-is x f t in
     let n = g .c * 2 ^ (g .i + 1074) in
-    let e : n ≡ grains x * 2 ^ 1074 = ap (λ (z : ℕ). g .c * z) (pow-add 2 (g .i) 1074) ∙ sym (mul-assoc (g .c) (2 ^ g .i) (2 ^ 1074)) ∙ ap (λ (z : ℕ). z * 2 ^ 1074) (sym (g .is)) in
+    let e : n ≡ ulps x * 2 ^ 1074 = ap (λ (z : ℕ). g .c * z) (pow-add 2 (g .i) 1074) ∙ sym (mul-assoc (g .c) (2 ^ g .i) (2 ^ 1074)) ∙ ap (λ (z : ℕ). z * 2 ^ 1074) (sym (g .is)) in
     let s = scaled (g .c) (g .i + 1074) (g .pos') (g .short) (more (g .i)) in
     let big : n < 2 ^ 3172 = lt-of-le-of-lt (le-of-eq (e ∙ ap (λ (z : ℕ). z * 2 ^ 1074) (g .is))) (mul-lt-mul-of-pos-right (g .bound) (pow-pos 1074)) in
-    let p : 0 < grains x = subst (λ (z : ℕ). 0 < z) (sym (g .is)) (mul-pos (g .pos') (pow-pos (g .i))) in
-    let r : rootF x ≡ units binary64 false (closestRoot (s .m)) (s .k) = positive-value x (grains x) (g .value) p ∙ ap rootOf (sym e ∙ s .is) ∙ rootOf-is (s .m) (s .k) (s .lo) (s .hi) in
+    let p : 0 < ulps x = subst (λ (z : ℕ). 0 < z) (sym (g .is)) (mul-pos (g .pos') (pow-pos (g .i))) in
+    let r : rootF x ≡ units binary64 false (closestRoot (s .m)) (s .k) = positive-value x (ulps x) (g .value) p ∙ ap rootOf (sym e ∙ s .is) ∙ rootOf-is (s .m) (s .k) (s .lo) (s .hi) in
     subst (λ (z : Float). Nearest x z) (sym r) (nearest-units x n (s .m) (s .k) e (s .lo) (s .hi) (s .is) (few (s .m) (s .k) n (s .lo) (s .is) big))
   where
     more : (i : ℕ) → 1074 ≤ i + 1074
@@ -353,18 +353,18 @@ rootF-nearest x f t =
 clash : (a b c d : ℕ) → a < c → c < b → a ≡ b → ⊥
 clash a b c d h k e = omega arith
 
-same-grains : (x r s : Float) → Nearest x r → Nearest x s → grains r < grains s → ⊥
+same-grains : (x r s : Float) → Nearest x r → Nearest x s → ulps r < ulps s → ⊥
 same-grains x r s a b l =
-    clash (square (grains r + grains s)) (square (grains s + grains r)) (4 * (grains x * 2 ^ 1074)) 0 (b .over r (a .held) l) (a .under s (b .held) l) (ap square (add-comm (grains r) (grains s)))
+    clash (square (ulps r + ulps s)) (square (ulps s + ulps r)) (4 * (ulps x * 2 ^ 1074)) 0 (b .over r (a .held) l) (a .under s (b .held) l) (ap square (add-comm (ulps r) (ulps s)))
 
-by-grains : (r s : Float) → T (fits binary64 r) → T (fits binary64 s) → T (positive r) → T (positive s) → grains r ≡ grains s → r ≡ s
+by-grains : (r s : Float) → T (fits binary64 r) → T (fits binary64 s) → T (positive r) → T (positive s) → ulps r ≡ ulps s → r ≡ s
 by-grains r s f g p q e =
     sym (ofBits-toBits binary64 r f)
-    ∙ ap (ofBits binary64) (bits-of-value r (grains r) (grains-is r f p .value) ∙ ap (λ (n : ℕ). written n (size n)) e ∙ sym (bits-of-value s (grains s) (grains-is s g q .value)))
+    ∙ ap (ofBits binary64) (bits-of-value r (ulps r) (grains-is r f p .value) ∙ ap (λ (n : ℕ). written n (size n)) e ∙ sym (bits-of-value s (ulps s) (grains-is s g q .value)))
     ∙ ofBits-toBits binary64 s g
 
 pub nearest-unique : (x r s : Float) → Nearest x r → Nearest x s → r ≡ s
-nearest-unique x r s a b = by-grains r s (a .held) (b .held) (a .above) (b .above) (meet (grains r) (grains s) (same-grains x r s a b) (same-grains x s r b a))
+nearest-unique x r s a b = by-grains r s (a .held) (b .held) (a .above) (b .above) (meet (ulps r) (ulps s) (same-grains x r s a b) (same-grains x s r b a))
   where
     meet : (m n : ℕ) → (m < n → ⊥) → (n < m → ⊥) → m ≡ n
     meet m n h k = omega arith

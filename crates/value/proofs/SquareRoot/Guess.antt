@@ -1,4 +1,4 @@
--- A guessed root held against the squares: what `distance` measures, and that the guess or a neighbour is then the closest. Assumes nothing.
+-- A guessed root held against the squares: what `distance` measures, and that the guess or a neighbour is then the closest.
 use mathlib.Core.Path.{_≡_, refl, sym, ap, _∙_}
 use mathlib.Core.Bool.{Bool, true, false, cond, _&&_}
 use mathlib.Core.Logic.{_⊎_, ⊎-elim}

@@ -1,4 +1,4 @@
--- Square roots of whole numbers: what `isqrt` and `closestRoot` are, and one turn of the loop of `root_by_digits`. Assumes nothing.
+-- Square roots of whole numbers: what `isqrt` and `closestRoot` are, and one turn of the loop of `root_by_digits`.
 use mathlib.Core.Path.{_≡_, refl, sym, ap, _∙_, subst}
 use mathlib.Core.Bool.{Bool, true, false, not, cond}
 use Prim.Native.Nat.{ℕ, zero, suc, _+_, _-_, _*_, _/_, _%_, _^_, _≤_, _<_}

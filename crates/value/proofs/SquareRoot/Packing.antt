@@ -1,4 +1,4 @@
--- From whole numbers to doubles: q * 2 ^ k smallest values, q of 53 digits, have the bits k * 2 ^ 52 + q. So a root is packed by one sum. Assumes nothing.
+-- From whole numbers to doubles: q * 2 ^ k smallest values, q of 53 digits, have the bits k * 2 ^ 52 + q. So a root is packed by one sum.
 use mathlib.Core.Path.{_≡_, refl, sym, ap, _∙_, subst}
 use mathlib.Core.Logic.{_⊎_, inl, inr}
 use mathlib.Core.Bool.{Bool, true, false, cond, true≢false}

@@ -1,4 +1,4 @@
--- From a double's bits to `rootF` of it: by the exponent's field and the digits, as the code of `sqrt` takes them apart. Assumes nothing.
+-- From a double's bits to `rootF` of it: by the exponent's field and the digits, as the code of `sqrt` takes them apart.
 use mathlib.Core.Path.{_≡_, refl, sym, ap, _∙_, subst}
 use mathlib.Core.Bool.{Bool, true, false, not, cond, true≢false, false≢true}
 use Prim.Native.Nat.{ℕ, zero, suc, _+_, _-_, _*_, _/_, _%_, _^_, _≤_, _<_}

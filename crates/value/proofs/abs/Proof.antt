@@ -1,8 +1,8 @@
--- `value::abs` meets its contract. Assumes nothing.
+-- `value::abs` meets its contract.
 use mathlib.Core.Path.{sym, subst}
 use lib.Dec.{T}
 use lib.Ieee.{ofBits}
-use Rattle.value.specs.Absolute.{abs-below, abs-zero, abs-above}
+use Rattle.value.specs.AbsoluteLaws.{abs-below, abs-zero, abs-above}
 use Rattle.value.proofs.abs.Statement.{statement}
 use Rattle.value.proofs.abs.Tie as tie
 

@@ -1,4 +1,4 @@
--- `value::is_finite` meets its contract. Assumes nothing.
+-- `value::is_finite` meets its contract.
 use lib.Ieee.{nanBits, ofBits, neg}
 use Rattle.value.specs.Finite.{high-tells, low-fails}
 use Rattle.value.proofs.is_finite.Statement.{statement}

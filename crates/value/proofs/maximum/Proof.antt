@@ -1,4 +1,4 @@
--- `value::maximum` meets its contract. Assumes nothing.
+-- `value::maximum` meets its contract.
 use Rattle.value.specs.Maximum.{maximumF}
 use Rattle.value.specs.Nan.{is-nan, not-nan}
 use Rattle.value.proofs.maximum.Statement.{statement}

@@ -1,4 +1,4 @@
--- `value::powers` meets its contract. Assumes nothing.
+-- `value::powers` meets its contract.
 use mathlib.Core.Path.{sym, subst}
 use lib.Dec.{T}
 use lib.Ieee.{binary64, mul}

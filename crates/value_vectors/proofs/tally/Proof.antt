@@ -1,4 +1,4 @@
--- `value_vectors::tally` meets its contract. Assumes nothing.
+-- `value_vectors::tally` meets its contract.
 use mathlib.Core.Path.{_≡_}
 use Prim.Native.Nat.{_-_, _/_, _≤_}
 use borrow.Author.Needs.{needs}

@@ -1,4 +1,4 @@
--- `value_vectors::word` meets its contract. Assumes nothing.
+-- `value_vectors::word` meets its contract.
 use Prim.Native.Nat.{_-_, _≤_}
 use borrow.Author.Needs.{needs}
 use Rattle.value_vectors.proofs.word.Statement.{statement}

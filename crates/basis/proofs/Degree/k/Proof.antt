@@ -1,4 +1,4 @@
--- `basis::Degree::k` meets its contract. Assumes nothing.
+-- `basis::Degree::k` meets its contract.
 use Prim.Native.Nat.{_+_, _≤_}
 use native.Mathlib.Nat.{mul-le-mul}
 use native.Mathlib.Omega.{arith}

@@ -1,4 +1,4 @@
--- `listing::writing::glyph` meets its contract. Assumes nothing.
+-- `listing::writing::glyph` meets its contract.
 use borrow.Author.Needs.{needs}
 use borrow.Author.Tests.{lt-ltb, le-ltb}
 use Rattle.listing.proofs.writing.glyph.Statement.{statement}

@@ -1,4 +1,4 @@
--- `listing::writing::put_byte` meets its contract. Assumes nothing.
+-- `listing::writing::put_byte` meets its contract.
 use mathlib.Core.Path.{sym}
 use native.Mathlib.Omega.{arith}
 use borrow.Author.Needs.{needs}

@@ -1,7 +1,7 @@
--- `listing::writing::put_decimal` meets its contract. Assumes nothing.
+-- `listing::writing::put_decimal` meets its contract.
 use mathlib.Core.Path.{_∙_}
 use borrow.Author.Needs.{needs}
-use Rattle.listing.specs.Writing.{wrote-same}
+use Rattle.listing.specs.WritingLaws.{wrote-same}
 use Rattle.listing.proofs.Spelled.{decimal-spelled}
 use Rattle.listing.proofs.writing.put_decimal.Statement.{statement}
 use Rattle.listing.proofs.writing.put_decimal.Tie as tie

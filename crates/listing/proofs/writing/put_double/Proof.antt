@@ -1,10 +1,10 @@
--- `listing::writing::put_double` meets its contract. Assumes nothing.
+-- `listing::writing::put_double` meets its contract.
 use mathlib.Core.Path.{ap}
 use mathlib.Core.List.{_∷_}
 use native.Mathlib.Omega.{arith}
 use borrow.Author.Needs.{needs}
 use Rattle.listing.specs.Text.{hexadecimal, bitsOf}
-use Rattle.listing.specs.Writing.{then, wrote-same}
+use Rattle.listing.specs.WritingLaws.{then, wrote-same}
 use Rattle.listing.proofs.writing.put_double.Statement.{statement}
 use Rattle.listing.proofs.writing.put_double.Tie as tie
 

@@ -1,4 +1,4 @@
--- `listing::writing::put_hex` meets its contract. The loop's invariant: the first i digits were written. Assumes nothing.
+-- `listing::writing::put_hex` meets its contract. The loop's invariant: the first i digits were written.
 use mathlib.Core.Path.{_≡_, refl, sym, ap, _∙_}
 use mathlib.Core.List.{[], _∷_, _++_}
 use Prim.Native.Nat.{_-_, _≤_}
@@ -6,8 +6,10 @@ use native.Mathlib.Omega.{arith}
 use borrow.Author.Needs.{needs}
 use lib.ListN.{length, take}
 use lib.Seq.{take-all}
-use Rattle.listing.specs.Text.{hexadecimal, glyph, length-hexadecimal}
-use Rattle.listing.specs.Writing.{Wrote, wrote-none, wrote-same, length-wrote, then}
+use Rattle.listing.specs.Text.{hexadecimal, glyph}
+use Rattle.listing.specs.TextLaws.{length-hexadecimal}
+use Rattle.listing.specs.Writing.{Wrote}
+use Rattle.listing.specs.WritingLaws.{wrote-none, wrote-same, length-wrote, then}
 use Rattle.listing.proofs.Parts.{take-again, hex-at}
 use Rattle.listing.proofs.writing.put_hex.Statement.{statement}
 use Rattle.listing.proofs.writing.put_hex.Tie as tie

@@ -1,8 +1,8 @@
--- `listing::writing::put_line` meets its contract. Assumes nothing.
+-- `listing::writing::put_line` meets its contract.
 use native.Mathlib.Omega.{arith}
 use borrow.Author.Needs.{needs}
 use Rattle.listing.specs.Text.{fields, line}
-use Rattle.listing.specs.Writing.{then}
+use Rattle.listing.specs.WritingLaws.{then}
 use Rattle.listing.proofs.writing.put_line.Statement.{statement}
 use Rattle.listing.proofs.writing.put_line.Tie as tie
 

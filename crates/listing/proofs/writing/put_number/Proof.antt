@@ -1,7 +1,7 @@
--- `listing::writing::put_number` meets its contract. Assumes nothing.
+-- `listing::writing::put_number` meets its contract.
 use native.Mathlib.Omega.{arith}
 use borrow.Author.Needs.{needs}
-use Rattle.listing.specs.Writing.{then}
+use Rattle.listing.specs.WritingLaws.{then}
 use Rattle.listing.proofs.writing.put_number.Statement.{statement}
 use Rattle.listing.proofs.writing.put_number.Tie as tie
 

@@ -1,11 +1,12 @@
--- `listing::writing::put_text` meets its contract. The loop's invariant: the first i bytes were written. Assumes nothing.
+-- `listing::writing::put_text` meets its contract. The loop's invariant: the first i bytes were written.
 use mathlib.Core.Path.{_≡_, refl}
 use Prim.Native.Nat.{_-_, _≤_}
 use native.Mathlib.Omega.{arith}
 use borrow.Author.Needs.{needs}
 use lib.ListN.{length, take}
 use lib.Seq.{take-all}
-use Rattle.listing.specs.Writing.{Wrote, wrote-none, wrote-same, length-wrote, then}
+use Rattle.listing.specs.Writing.{Wrote}
+use Rattle.listing.specs.WritingLaws.{wrote-none, wrote-same, length-wrote, then}
 use Rattle.listing.proofs.Parts.{take-again}
 use Rattle.listing.proofs.writing.put_text.Statement.{statement}
 use Rattle.listing.proofs.writing.put_text.Tie as tie

@@ -1,15 +1,12 @@
-use mathlib.Core.Path.{_≡_, refl, sym, ap, ap₂, subst, _∙_}
-use mathlib.Core.Bool.{Bool, true, false, cond, not, _&&_, _||_}
-use mathlib.Core.List.{List, [], _∷_, _++_, map}
-use Prim.Native.Nat.{ℕ, _+_, _-_, _*_, _/_, _%_, _≤_, _<_}
-use native.Mathlib.Omega.{arith}
+use mathlib.Core.Path.{refl, sym, ap, ap₂, _∙_}
+use mathlib.Core.Bool.{not, _&&_}
+use Prim.Native.Nat.{_-_}
 use borrow.Author.Needs.{needs}
-use lib.ListN.{length, getD, set, take, drop, replicate, length-set}
-use lib.Ieee.{Float, nan, binary64, add, sub, mul, div}
+use lib.ListN.{take}
 use mathlib.Core.Path.{refl, sym, ap, ap₂, _∙_}
 use mathlib.Core.Bool.{not, _&&_}
 use lib.Dec.{eqb}
-use Rattle.monomial.specs.Samples.{xs-of-samples}
+use Rattle.samples.specs.SampleLaws.{xs-of-samples}
 use Rattle.refusal.specs.Laws.{first-of, first-end, first-holds, first-fails}
 use Rattle.refusal.specs.Rooms.{room}
 use Rattle.refusal.specs.Tests.{outside}

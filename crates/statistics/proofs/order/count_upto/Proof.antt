@@ -1,4 +1,4 @@
--- `statistics::order::count_upto` meets its contract. The invariant: found is the count so far. Assumes nothing.
+-- `statistics::order::count_upto` meets its contract. The invariant: found is the count so far.
 use mathlib.Core.Path.{_≡_, refl}
 use Prim.Native.Nat.{_-_, _≤_}
 use native.Mathlib.Omega.{arith}

@@ -1,4 +1,4 @@
--- `statistics::order::farther` meets its contract. By the test. Assumes nothing.
+-- `statistics::order::farther` meets its contract. By the test.
 use Rattle.statistics.specs.Counting.{farther}
 use Rattle.statistics.proofs.order.farther.Statement.{statement}
 use Rattle.statistics.proofs.order.farther.Tie as tie

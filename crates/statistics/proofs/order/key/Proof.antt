@@ -1,4 +1,4 @@
--- `statistics::order::key` meets its contract. The bits of a size are those of the number without the sign. Assumes nothing.
+-- `statistics::order::key` meets its contract. The bits of a size are those of the number without the sign.
 use Rattle.value.specs.Keys.{bits-le}
 use Rattle.statistics.proofs.Deviations.{abs-bits, abs-some}
 use Rattle.statistics.proofs.order.key.Statement.{statement}

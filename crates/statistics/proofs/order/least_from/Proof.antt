@@ -1,4 +1,4 @@
--- `statistics::order::least_from` meets its contract. The invariant: v is the least so far. Assumes nothing.
+-- `statistics::order::least_from` meets its contract. The invariant: v is the least so far.
 use mathlib.Core.Path.{_≡_, refl}
 use Prim.Native.Nat.{_-_, _≤_}
 use native.Mathlib.Omega.{arith}

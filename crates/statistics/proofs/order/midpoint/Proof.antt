@@ -1,4 +1,4 @@
--- `statistics::order::midpoint` meets its contract. The body is the definition. Assumes nothing.
+-- `statistics::order::midpoint` meets its contract. The body is the definition.
 use mathlib.Core.Path.{refl}
 use Rattle.statistics.specs.Medians.{midpoint}
 use Rattle.statistics.proofs.order.midpoint.Statement.{statement}

@@ -1,4 +1,4 @@
--- `statistics::order::midpoint_at` meets its contract. The invariant: low is the greatest under b and high the least from b on, so far. Assumes nothing.
+-- `statistics::order::midpoint_at` meets its contract. The invariant: low is the greatest under b and high the least from b on, so far.
 use mathlib.Core.Path.{_≡_, refl, sym, ap₂, subst, _∙_}
 use Prim.Native.Nat.{_+_, _-_, _≤_, _<_}
 use native.Mathlib.Omega.{arith}

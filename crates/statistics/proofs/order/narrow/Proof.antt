@@ -1,4 +1,4 @@
--- `statistics::order::narrow` meets its contract. The invariant: the bits at place m lie from lo to hi, and `below` are under lo. Assumes nothing.
+-- `statistics::order::narrow` meets its contract. The invariant: the bits at place m lie from lo to hi, and `below` are under lo.
 use mathlib.Core.Path.{_≡_, sym, _∙_}
 use mathlib.Core.Logic.{inl, inr}
 use Prim.Native.Nat.{_-_, _≤_, _<_}

@@ -1,4 +1,4 @@
--- `statistics::order::nearer` meets its contract. By the test. Assumes nothing.
+-- `statistics::order::nearer` meets its contract. By the test.
 use Rattle.statistics.specs.Counting.{nearer}
 use Rattle.statistics.proofs.order.nearer.Statement.{statement}
 use Rattle.statistics.proofs.order.nearer.Tie as tie

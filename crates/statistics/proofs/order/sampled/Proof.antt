@@ -1,4 +1,4 @@
--- `statistics::order::sampled` reads in bounds; nothing is promised of its answer. Assumes nothing.
+-- `statistics::order::sampled` reads in bounds; nothing is promised of its answer.
 use Prim.Native.Nat.{_-_, _/_}
 use native.Mathlib.Omega.{arith}
 use Rattle.statistics.proofs.Deviations.{plain-at}

@@ -1,4 +1,4 @@
--- `statistics::order::select` meets its contract. Assumes nothing.
+-- `statistics::order::select` meets its contract.
 use mathlib.Core.Path.{sym, subst}
 use borrow.Author.Needs.{needs}
 use Prim.Native.Nat.{_<_}

@@ -1,4 +1,4 @@
--- `statistics::order::select_midpoint` meets its contract. Assumes nothing.
+-- `statistics::order::select_midpoint` meets its contract.
 use mathlib.Core.Path.{sym, ap₂, _∙_}
 use Prim.Native.Nat.{_+_, _<_}
 use native.Mathlib.Omega.{arith}

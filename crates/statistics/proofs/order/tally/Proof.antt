@@ -1,4 +1,4 @@
--- `statistics::order::tally` meets its contract. By the test. Assumes nothing.
+-- `statistics::order::tally` meets its contract. By the test.
 use mathlib.Core.Path.{refl, sym, _∙_}
 use borrow.Author.Needs.{needs}
 use Rattle.statistics.proofs.Deviations.{bits-some, bits-order}

@@ -1,11 +1,12 @@
--- `statistics::sums::total` meets its contract. The invariant: v is the sum so far. Assumes nothing.
+-- `statistics::sums::total` meets its contract. The invariant: v is the sum so far.
 use mathlib.Core.Path.{_≡_, refl, sym}
 use Prim.Native.Nat.{_-_, _≤_}
 use native.Mathlib.Omega.{arith}
 use borrow.Author.Needs.{needs}
 use lib.ListN.{take}
 use lib.Ieee.{nan, binary64, add}
-use Rattle.loops.specs.Fold.{fold, fold-again}
+use Rattle.loops.specs.Fold.{fold}
+use Rattle.loops.specs.FoldLaws.{fold-again}
 use Rattle.value.specs.Numbers.{zeroF}
 use Rattle.value.specs.Total.{totalF}
 use Rattle.statistics.proofs.sums.total.Statement.{statement}

@@ -1,4 +1,4 @@
--- `statistics::table::entry` meets its contract. The table of the code is `map milli thousandths`, which antt computes. Assumes nothing.
+-- `statistics::table::entry` meets its contract. The table of the code is `map milli thousandths`, which antt computes.
 use Prim.Native.Nat.{_+_, _-_, _*_}
 use native.Mathlib.Omega.{arith}
 use borrow.Author.Needs.{needs}

@@ -1,4 +1,4 @@
--- `statistics::whole::power` meets its contract. The invariant: r is the power so far, at most 15 to the power 5. Assumes nothing.
+-- `statistics::whole::power` meets its contract. The invariant: r is the power so far, at most 15 to the power 5.
 use mathlib.Core.Path.{_≡_, sym, ap, _∙_}
 use Prim.Native.Nat.{ℕ, _-_, _≤_, _^_}
 use native.Mathlib.Omega.{arith}

@@ -1,4 +1,4 @@
--- `statistics::whole::root_to` meets its contract. The invariant: r is at most the cap, and its power at most n. Assumes nothing.
+-- `statistics::whole::root_to` meets its contract. The invariant: r is at most the cap, and its power at most n.
 use mathlib.Core.Path.{_≡_, _∙_}
 use Prim.Native.Nat.{_-_, _≤_, _^_}
 use native.Mathlib.Omega.{arith}

@@ -1,4 +1,4 @@
--- `value::from_bits` meets its contract. Assumes nothing.
+-- `value::from_bits` meets its contract.
 use mathlib.Core.Path.{sym, _∙_}
 use native.Mathlib.Omega.{arith}
 use borrow.Author.Needs.{needs}

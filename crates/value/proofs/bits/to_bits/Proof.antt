@@ -1,4 +1,4 @@
--- `value::to_bits` meets its contract. Assumes nothing.
+-- `value::to_bits` meets its contract.
 use mathlib.Core.Path.{sym, ap, _∙_}
 use borrow.Author.Needs.{needs}
 use lib.Ieee.{binary64, toBits}

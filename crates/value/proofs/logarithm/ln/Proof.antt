@@ -1,4 +1,4 @@
--- `value::ln` meets its contract. Assumes nothing.
+-- `value::ln` meets its contract.
 use mathlib.Core.Path.{_∙_}
 use lib.Ieee.{ofBits, div, neg}
 use Rattle.value.proofs.Positive.{above, top, none, below, positive-ln}

@@ -1,9 +1,10 @@
--- `value::ln_bits` meets its contract: the m and the k without a branch are those of the definition. Assumes nothing.
+-- `value::ln_bits` meets its contract: the m and the k without a branch are those of the definition.
 use mathlib.Core.Path.{_∙_}
 use Prim.Native.Nat.{_+_, _/_, _^_}
 use native.Mathlib.Omega.{arith}
 use borrow.Author.Needs.{needs}
-use Rattle.value.specs.Logarithm.{lnBits, moved, m-moved, k-moved}
+use Rattle.value.specs.Logarithm.{lnBits}
+use Rattle.value.specs.LogarithmLaws.{moved, m-moved, k-moved}
 use Rattle.value.specs.Nan.{bits-some}
 use Rattle.value.proofs.Positive.{num-sub}
 use Rattle.value.proofs.logarithm.ln_bits.Statement.{statement}

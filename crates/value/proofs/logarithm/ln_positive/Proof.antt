@@ -1,4 +1,4 @@
--- `value::ln_positive` meets its contract. Assumes nothing.
+-- `value::ln_positive` meets its contract.
 use mathlib.Core.Path.{sym, subst, _∙_}
 use native.Mathlib.Omega.{arith}
 use borrow.Author.Tests.{lt-ltb, le-ltb}

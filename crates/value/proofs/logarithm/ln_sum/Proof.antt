@@ -1,4 +1,4 @@
--- `value::ln_sum` meets its contract, step by step. Assumes nothing.
+-- `value::ln_sum` meets its contract, step by step.
 use mathlib.Core.Path.{refl}
 use Rattle.value.specs.Logarithm.{lnSum}
 use Rattle.value.proofs.logarithm.ln_sum.Statement.{statement}

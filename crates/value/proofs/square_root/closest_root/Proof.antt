@@ -1,4 +1,4 @@
--- `value::closest_root` meets its contract. The laws are in `proofs/SquareRoot/Guess.antt`. Assumes nothing.
+-- `value::closest_root` meets its contract. The laws are in `proofs/SquareRoot/Guess.antt`.
 use native.Mathlib.Omega.{arith}
 use Rattle.value.proofs.SquareRoot.Guess.{settled}
 use borrow.Author.Needs.{needs}

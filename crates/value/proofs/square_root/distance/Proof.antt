@@ -1,4 +1,4 @@
--- `value::distance` meets its contract. Assumes nothing.
+-- `value::distance` meets its contract.
 use Prim.Native.Nat.{_+_, _-_, _*_, _/_, _%_}
 use mathlib.Core.Path.{refl}
 use mathlib.Core.Logic.{inl, inr}

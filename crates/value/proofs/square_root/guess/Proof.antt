@@ -1,4 +1,4 @@
--- `value::guess` meets its contract. Assumes nothing.
+-- `value::guess` meets its contract.
 use mathlib.Core.Logic.{⊎-elim}
 use native.Mathlib.Omega.{arith}
 use borrow.Author.Needs.{needs}

@@ -1,4 +1,4 @@
--- `value::root_by_digits` meets its contract. The invariant and one turn of the loop are in `proofs/SquareRoot/Numbers.antt`. Assumes nothing.
+-- `value::root_by_digits` meets its contract. The invariant and one turn of the loop are in `proofs/SquareRoot/Numbers.antt`.
 use Prim.Native.Nat.{_-_, _^_, _<_}
 use mathlib.Core.Logic.{⊎-elim}
 use native.Mathlib.Omega.{arith}

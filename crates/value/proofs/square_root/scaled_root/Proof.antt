@@ -1,4 +1,4 @@
--- `value::scaled_root` meets its contract. Assumes nothing.
+-- `value::scaled_root` meets its contract.
 use Prim.Native.Nat.{ℕ, _+_, _-_, _*_, _/_, _^_, _≤_, _<_}
 use mathlib.Core.Path.{_≡_, ap, _∙_}
 use mathlib.Core.Logic.{⊎-elim}

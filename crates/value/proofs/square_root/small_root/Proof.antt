@@ -1,4 +1,4 @@
--- `value::small_root` meets its contract. Assumes nothing.
+-- `value::small_root` meets its contract.
 use Prim.Native.Nat.{_-_, _^_, _<_}
 use mathlib.Core.Path.{ap, _∙_}
 use native.Mathlib.Omega.{arith}

@@ -1,4 +1,4 @@
--- `value::sqrt` meets its contract. Assumes nothing.
+-- `value::sqrt` meets its contract.
 use Prim.Native.Nat.{_%_, _^_, _≤_}
 use mathlib.Core.Path.{refl, sym, _∙_, subst}
 use native.Mathlib.Omega.{arith}

@@ -14,11 +14,11 @@ use Rattle.ledger.specs.Ledger.{Reading}
 
 -- a call that reads, with its arguments, then the lengths of the memory lent to it alone: of scratch and coefficients, of scratch, or of all that a
 -- report writes
-pub data Question : Type 0 where
-  fits : ℕ → ℕ → ℕ → Question
-  validates : ℕ → DegreeBound → Criterion → ℕ → ℕ → Question
-  bands : Float → ℕ → Confidence → Tolerance → ℕ → Question
-  reports : Settings → Places → Question
+pub data ReadCall : Type 0 where
+  fits : ℕ → ℕ → ℕ → ReadCall
+  validates : ℕ → DegreeBound → Criterion → ℕ → ℕ → ReadCall
+  bands : Float → ℕ → Confidence → Tolerance → ℕ → ReadCall
+  reports : Settings → Places → ReadCall
 
 -- the answer and every value written
 pub data Told : Type 0 where
@@ -28,7 +28,7 @@ pub data Told : Type 0 where
 
 -- what each answers and writes, from the count, the samples, the 272 sums, and the lengths of the columns and of the sums: the definitions that the
 -- contracts of `fit`, `validate`, `band` and `report` promise
-unfoldable pub readOn : Reading Question Told
+unfoldable pub readOn : Reading ReadCall Told
 readOn (fits degree scratch coefficients) n samples sums columns places = fitted (fitOn n degree samples sums columns places scratch coefficients)
 readOn (validates folds bound criterion scratch coefficients) n samples sums columns places =
     fitted (validateOn n folds bound criterion samples sums columns places scratch coefficients)

@@ -1,14 +1,14 @@
--- `solve::lift` meets its contract. The loop's invariant: the definition from here on is the definition at the start. Assumes nothing.
+-- `solve::ridge` meets its contract. The loop's invariant: the definition from here on is the definition at the start.
 use mathlib.Core.Path.{_≡_, refl, sym, _∙_}
 use native.Mathlib.Omega.{arith}
 use Prim.Native.Nat.{_-_}
 use Rattle.loops.specs.Loop.{from, again, done}
-use Rattle.solve.specs.Solve.{liftCell, lift}
-use Rattle.solve.proofs.lift.Statement.{statement}
-use Rattle.solve.proofs.lift.Tie as tie
+use Rattle.solve.specs.Solve.{ridgeCell, ridge}
+use Rattle.solve.proofs.ridge.Statement.{statement}
+use Rattle.solve.proofs.ridge.Tie as tie
 
 abbrev Inv-loop : tie.InvT-loop
-Inv-loop m₀ n i₀ m i = from liftCell i n m ≡ from liftCell i₀ n m₀
+Inv-loop m₀ n i₀ m i = from ridgeCell i n m ≡ from ridgeCell i₀ n m₀
 
 abbrev μ-loop : tie.MeasureT-loop
 μ-loop m₀ n i₀ m i = n - i
@@ -17,11 +17,11 @@ loop-again : tie.Need-loop-again Inv-loop μ-loop
 loop-again c = again _ _ _ _ (c .before .loop-test .taken) ∙ c .before .before .loop .inv
 
 returns : tie.Need-returns Inv-loop μ-loop
-unfolding lift
+unfolding ridge
 returns c = sym (done _ _ _ _ (c .loop-test .left)) ∙ c .before .loop .inv
 
-pub lift-spec : {M : Type 1} → statement M
-lift-spec =
+pub ridge-spec : {M : Type 1} → statement M
+ridge-spec =
     tie.close
     (tie.spec
     Inv-loop

@@ -1,31 +1,11 @@
--- Samples, and the columns that they are read from.
+-- Laws of Samples.antt.
 use mathlib.Core.Path.{_≡_, sym, ap, _∙_}
 use mathlib.Core.List.{List, [], _∷_, _++_, map}
 use Prim.Native.Nat.{ℕ, _+_, _≤_}
-use lib.ListN.{length, getD, take, drop}
+use lib.ListN.{length, take, drop}
 use lib.Ieee.{Float, nan}
 use Rattle.loops.specs.Places.{each, table, table-again, length-table, map-table, table-take, each-write}
-
--- A sample is x and y.
-pub record Sample : Type 0 where
-  pub x : Float
-  pub y : Float
-
--- the sample of place t of two columns
-abbrev pub sampleAt : List Float → List Float → ℕ → Sample
-sampleAt xs ys t = record { x = getD xs t nan; y = getD ys t nan }
-
--- the samples of the first n places of two columns
-unfoldable pub samplesOf : ℕ → List Float → List Float → List Sample
-samplesOf n xs ys = table (sampleAt xs ys) n
-
-abbrev pub xsOf : List Sample → List Float
-xsOf ps = map (λ (p : Sample). p .x) ps
-
-abbrev pub ysOf : List Sample → List Float
-ysOf ps = map (λ (p : Sample). p .y) ps
-
--- ---- laws
+use Rattle.samples.specs.Samples.{Sample, sampleAt, samplesOf, xsOf, ysOf}
 
 pub length-samples : (n : ℕ) (xs ys : List Float) → length (samplesOf n xs ys) ≡ n
 unfolding samplesOf

@@ -1,0 +1,18 @@
+-- Laws of Chosen.antt.
+use mathlib.Core.Path.{_≡_}
+use mathlib.Core.Bool.{Bool, false}
+use mathlib.Core.List.{List}
+use Prim.Native.Nat.{ℕ, _≤_, _<_}
+use native.Mathlib.Omega.{arith}
+use lib.ListN.{replicate}
+use lib.Ieee.{Float, nan}
+use Rattle.loops.specs.Places.{each, each-at}
+use Rattle.value.specs.Numbers.{zeroF}
+use Rattle.choice.specs.Choice.{scoredAt}
+use Rattle.choice.specs.declared.Scored.{Scored}
+
+-- two arrays that hold what is known of the degrees below b
+pub scores-at : (S : ℕ → Scored) (b : ℕ) (u : List Bool) (v : List Float) → b ≤ 16 → u ≡ each (λ e _. S e .solved) b (replicate 16 false)
+    → v ≡ each (λ e _. S e .score) b (replicate 16 zeroF) → (d : ℕ) → d < b → scoredAt u v d ≡ S d
+scores-at S b u v l p q d h =
+    rw (p, q, each-at (λ e _. S e .solved) b (replicate 16 false) d false h (omega arith), each-at (λ e _. S e .score) b (replicate 16 zeroF) d nan h (omega arith))

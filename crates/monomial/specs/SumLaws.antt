@@ -1,0 +1,144 @@
+-- Laws of Sums.antt.
+use mathlib.Core.Path.{_≡_, sym, ap, fun-ext, _∙_}
+use mathlib.Core.List.{List, [], _∷_, _++_, map, map-map, map-append}
+use Prim.Native.Nat.{ℕ, _+_, _-_, _*_, _/_, _%_, _≤_, _<_}
+use native.Mathlib.Omega.{arith}
+use borrow.Author.Tests.{lt-ltb, le-ltb}
+use lib.Dec.{ltb, lit≤}
+use lib.ListN.{length, getD, take, drop, replicate, take-append-drop, length-map}
+use lib.Ieee.{Float, nan, binary64, add, mul}
+use Rattle.loops.specs.FoldLaws.{fold-snoc, fold-append}
+use Rattle.loops.specs.Places.{each, table, table-at}
+use Rattle.value.specs.Numbers.{zeroF}
+use Rattle.value.specs.Power.{powerF}
+use Rattle.value.specs.Total.{totalF}
+use Rattle.samples.specs.Samples.{Sample, samplesOf, xsOf}
+use Rattle.samples.specs.SampleLaws.{length-samples}
+use Rattle.monomial.specs.Rows.{Row, rowOf, rowsOf}
+use Rattle.monomial.specs.Adding.{addOne, sums}
+use Rattle.monomial.specs.AddingLaws.{length-add-one, add-one-append, sums-afresh, sums-length, sums-place, sums-same, sums-take, sums-drop}
+use Rattle.monomial.specs.Sums.{productOf, addRow, addRows, sumsOf}
+
+-- the 272 sums are a case of n sums at once
+abbrev rowProduct : Row → ℕ → Float
+rowProduct r k = productOf (r .terms) (r .y) k
+
+pub length-sums : (rs : List Row) → length (sumsOf rs) ≡ 272
+unfolding sumsOf addRow sums addOne
+length-sums rs = sums-length rowProduct 272 rs
+
+pub length-add-row : (s : List Float) (r : Row) → length (addRow s r) ≡ length s
+unfolding addRow addOne
+length-add-row s r = length-add-one rowProduct 272 s r
+
+-- an add leaves what stands behind the 272 places alone
+pub add-row-append : (s t : List Float) (r : Row) → length s ≡ 272 → addRow (s ++ t) r ≡ addRow s r ++ t
+unfolding addRow addOne
+add-row-append s t r h = add-one-append rowProduct 272 s t r h
+
+-- rows added to 272 places that were set to +0
+pub rows-afresh : (s : List Float) (rs : List Row) → 272 ≤ length s → addRows (each (λ _ _. zeroF) 272 s) rs ≡ sumsOf rs ++ drop 272 s
+unfolding sumsOf addRow sums addOne
+rows-afresh s rs h = sums-afresh rowProduct 272 s rs h
+
+-- one row more at the end is an add
+pub sums-again : (rs : List Row) (r : Row) → sumsOf (rs ++ (r ∷ [])) ≡ addRow (sumsOf rs) r
+unfolding sumsOf
+sums-again rs r = fold-snoc addRow (replicate 272 zeroF) rs r
+
+-- one list of rows behind another
+pub sums-append : (rs qs : List Row) → sumsOf (rs ++ qs) ≡ addRows (sumsOf rs) qs
+unfolding sumsOf
+sums-append rs qs = fold-append addRow (replicate 272 zeroF) rs qs
+
+-- place k is the sum, in index order from +0, of what each row adds there
+pub sums-at : (rs : List Row) (k : ℕ) → k < 272 → getD (sumsOf rs) k nan ≡ totalF (map (λ (r : Row). productOf (r .terms) (r .y) k) rs)
+unfolding sumsOf addRow sums addOne
+sums-at rs k h = sums-place rowProduct 272 rs k h
+
+-- ---- the two parts, A and g
+
+module _ (terms : List Float) (y : Float) where
+  pub product-matrix : (i j : ℕ) → i < 16 → j < 16 → productOf terms y (16 * i + j) ≡ mul binary64 (getD terms i nan) (getD terms j nan)
+  unfolding productOf
+  product-matrix i j h g =
+      let d : (16 * i + j) / 16 ≡ i = omega arith in
+      let m : (16 * i + j) % 16 ≡ j = omega arith in
+      rw (lt-ltb (16 * i + j) 256 (omega arith), d, m)
+
+  pub product-right : (i : ℕ) → productOf terms y (256 + i) ≡ mul binary64 (getD terms i nan) y
+  unfolding productOf
+  product-right i =
+      let d : 256 + i - 256 ≡ i = omega arith in
+      rw (le-ltb (256 + i) 256 (omega arith), d)
+
+  -- at a place of A, y is not read
+  pub product-no-y : (k : ℕ) → k < 256 → productOf terms y k ≡ productOf terms zeroF k
+  unfolding productOf
+  product-no-y k h = rw (lt-ltb k 256 h)
+
+-- A is made from the term values alone, so that samples with equal term values have one A
+abbrev pub termsOf : List Row → List (List Float)
+termsOf rs = map (λ (r : Row). r .terms) rs
+
+abbrev matrixProduct : List Float → ℕ → Float
+matrixProduct terms k = productOf terms zeroF k
+
+matrix-is : (rs : List Row) → take 256 (sumsOf rs) ≡ sums matrixProduct 256 (termsOf rs)
+unfolding sumsOf addRow sums addOne
+matrix-is rs =
+    sums-take rowProduct 272 256 rs (lit≤ tt)
+    ∙ sums-same rowProduct matrixProduct 256 rs (termsOf rs)
+    (λ k h. ap (λ f. map f rs) (fun-ext (λ (r : Row). product-no-y (r .terms) (r .y) k h)) ∙ sym (map-map (λ t. matrixProduct t k) (λ (r : Row). r .terms) rs))
+
+pub matrix-same : (rs qs : List Row) → termsOf rs ≡ termsOf qs → take 256 (sumsOf rs) ≡ take 256 (sumsOf qs)
+matrix-same rs qs e = matrix-is rs ∙ ap (λ l. sums matrixProduct 256 l) e ∙ sym (matrix-is qs)
+
+-- so after a correction, which leaves A and folds g afresh, the sums are those of the corrected list
+pub corrected : (rs qs : List Row) → termsOf rs ≡ termsOf qs → take 256 (sumsOf rs) ++ drop 256 (sumsOf qs) ≡ sumsOf qs
+corrected rs qs e = rw (matrix-same rs qs e) (take-append-drop 256 (sumsOf qs))
+
+-- g is the last 16 of the 272: what each row adds from place 256 on
+abbrev pub rightProduct : Row → ℕ → Float
+rightProduct r i = productOf (r .terms) (r .y) (256 + i)
+
+pub right-is : (rs : List Row) → drop 256 (sumsOf rs) ≡ sums rightProduct 16 rs
+unfolding sumsOf addRow sums addOne
+right-is rs = sums-drop rowProduct 272 256 rs (lit≤ tt)
+
+-- ---- the curve
+
+-- equal x's have equal term values
+pub terms-same : (ps qs : List Sample) → xsOf ps ≡ xsOf qs → termsOf (rowsOf ps) ≡ termsOf (rowsOf qs)
+unfolding rowOf
+terms-same ps qs e = powers-of ps ∙ ap (λ l. map (λ x. table (powerF x) 16) l) e ∙ sym (powers-of qs)
+  where
+    powers-of : (ps : List Sample) → termsOf (rowsOf ps) ≡ map (λ x. table (powerF x) 16) (xsOf ps)
+    powers-of ps = map-map (λ (r : Row). r .terms) rowOf ps ∙ sym (map-map (λ x. table (powerF x) 16) (λ (p : Sample). p .x) ps)
+
+pub length-rows : (n : ℕ) (xs ys : List Float) → length (rowsOf (samplesOf n xs ys)) ≡ n
+length-rows n xs ys = length-map (samplesOf n xs ys) rowOf ∙ length-samples n xs ys
+
+-- one sample more at the end
+pub rows-again : (ps : List Sample) (p : Sample) → rowsOf (ps ++ (p ∷ [])) ≡ rowsOf ps ++ (rowOf p ∷ [])
+rows-again ps p = map-append rowOf ps (p ∷ [])
+
+-- place k over samples, where g says what each adds there
+samples-at : (ps : List Sample) (k : ℕ) (g : Sample → Float) → k < 272 → ((p : Sample) → productOf (rowOf p .terms) (rowOf p .y) k ≡ g p)
+    → getD (sumsOf (rowsOf ps)) k nan ≡ totalF (map g ps)
+samples-at ps k g h e = sums-at (rowsOf ps) k h ∙ ap totalF (map-map (λ (r : Row). rowProduct r k) rowOf ps ∙ ap (λ f. map f ps) (fun-ext e))
+
+-- A[i][j] at 16i + j: the sum over samples of xⁱ × xʲ
+pub matrix-at : (ps : List Sample) (i j : ℕ) → i < 16 → j < 16
+    → getD (sumsOf (rowsOf ps)) (16 * i + j) nan ≡ totalF (map (λ (p : Sample). mul binary64 (powerF (p .x) i) (powerF (p .x) j)) ps)
+unfolding rowOf
+matrix-at ps i j h g =
+    samples-at ps (16 * i + j) (λ (p : Sample). mul binary64 (powerF (p .x) i) (powerF (p .x) j)) (omega arith)
+    (λ p. product-matrix (table (powerF (p .x)) 16) (p .y) i j h g ∙ (rw (table-at (powerF (p .x)) 16 i nan h, table-at (powerF (p .x)) 16 j nan g)))
+
+-- g[i] at 256 + i: the sum of xⁱ × y
+pub right-at : (ps : List Sample) (i : ℕ) → i < 16 → getD (sumsOf (rowsOf ps)) (256 + i) nan ≡ totalF (map (λ (p : Sample). mul binary64 (powerF (p .x) i) (p .y)) ps)
+unfolding rowOf
+right-at ps i h =
+    samples-at ps (256 + i) (λ (p : Sample). mul binary64 (powerF (p .x) i) (p .y)) (omega arith)
+    (λ p. product-right (table (powerF (p .x)) 16) (p .y) i ∙ (rw (table-at (powerF (p .x)) 16 i nan h)))

@@ -1,0 +1,1 @@
+// Samples and the columns that they stand in: definitions and laws only.
