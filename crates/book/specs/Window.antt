@@ -9,7 +9,7 @@ use Rattle.samples.specs.Samples.{Sample}
 use Rattle.refusal.specs.Refusals.{Refusal, by, firstOf, settle}
 use Rattle.refusal.specs.Tests.{capacity, bookShort, sampleFinite}
 use Rattle.samples.specs.Columns.{Columns, lengths}
-use Rattle.book.specs.Calls.{Out, State, after, refused, withdrawOut, addNext, bookAnswered}
+use Rattle.book.specs.Calls.{Out, State, stateAfter, refused, withdrawOut, addNext, bookAnswered}
 
 -- 5's condition for single adds there is that capacity is zero
 abbrev pub windowTests : ℕ → Sample → List ℕ → ℕ → List Refusal
@@ -21,7 +21,7 @@ windowRefusal n p columns sums = firstOf (windowTests n p columns sums)
 -- a full book without sample 0, any other as it is
 unfoldable pub withPlace : State → State
 withPlace s =
-    cond (eqb (s .count) (capacity (lengths (s .columns)))) (after (s .count) (withdrawOut (s .count) 0 (s .columns) (s .sums))) s
+    cond (eqb (s .count) (capacity (lengths (s .columns)))) (stateAfter (s .count) (withdrawOut (s .count) 0 (s .columns) (s .sums))) s
 
 unfoldable pub windowOut : ℕ → Sample → Columns → List Float → Out
 windowOut n p columns sums =

@@ -15,7 +15,7 @@ use Rattle.query.specs.Fits.{FitOut, FitIs}
 use Rattle.query.specs.Bands.{BandOut, BandIs}
 use Rattle.report.specs.declared.ReportAnswer.{ReportAnswer}
 use Rattle.report.specs.Reports.{ReportOut, Does}
-use Rattle.report.specs.Outputs.{Lent}
+use Rattle.report.specs.Outputs.{LentOutputs}
 use Rattle.lent.specs.Slices.{Slice, before, after}
 use Rattle.lent.specs.Written.{over}
 use Rattle.capi.specs.Packed.{packedRefusal, packedBook, packedFit, packedBand, packedReport, bandNumbers, bandInto, BookPacked, FitPacked, BandPacked, ReportPacked}
@@ -28,7 +28,7 @@ pub fit-packed : {o : FitOut} {a : FitAnswer} {r : ℕ} (s c : Slice Float) → 
 fit-packed s c i e =
     record { answer = e ∙ ap packedFit (i .answer); lent = record { answer = refl; scratch = i .scratch; coefficients = i .coefficients } }
 
-pub report-packed : {o : ReportOut} {a : ReportAnswer} {r : ℕ} {w : Lent} → Does o a w → r ≡ packedReport a → ReportPacked o r w
+pub report-packed : {o : ReportOut} {a : ReportAnswer} {r : ℕ} {w : LentOutputs} → Does o a w → r ≡ packedReport a → ReportPacked o r w
 report-packed i q = record { answer = q ∙ ap packedReport (i .answer); lent = record { answer = refl; outputs = i .outputs } }
 
 -- three places are written

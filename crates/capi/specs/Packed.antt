@@ -18,7 +18,7 @@ use Rattle.query.specs.Bands.{BandOut, BandIs, bandRefused}
 use Rattle.report.specs.declared.ReportAnswer.{ReportAnswer}
 use Rattle.report.specs.declared.ReportAnswer.the-variants as reports
 use Rattle.report.specs.Reports.{ReportOut, reportOut, Does}
-use Rattle.report.specs.Outputs.{Lent, placesOf}
+use Rattle.report.specs.Outputs.{LentOutputs, placesOf}
 use Rattle.settings.specs.declared.Settings.{Settings}
 use Rattle.lent.specs.Slices.{Slice, before, after}
 use Rattle.lent.specs.Written.{over}
@@ -99,10 +99,10 @@ pub record BandPacked (o : BandOut) (r : ℕ) (s v : Slice Float) : Type 0 where
   pub lent : BandIs o (o .answer) (before s) (after s)
   pub numbers : after v ≡ over (bandNumbers (o .answer)) (before v)
 
-pub record ReportPacked (o : ReportOut) (r : ℕ) (w : Lent) : Type 0 where
+pub record ReportPacked (o : ReportOut) (r : ℕ) (w : LentOutputs) : Type 0 where
   pub answer : r ≡ packedReport (o .answer)
   pub lent : Does o (o .answer) w
 
 -- of a report of the columns xs and ys and these sums
-abbrev pub ReportPackedIs : ℕ → Settings → List Float → List Float → List Float → ℕ → Lent → Type 0
+abbrev pub ReportPackedIs : ℕ → Settings → List Float → List Float → List Float → ℕ → LentOutputs → Type 0
 ReportPackedIs n settings xs ys sums r w = ReportPacked (reportOut n settings xs ys sums (placesOf (w .found))) r w

@@ -23,7 +23,7 @@ use Rattle.monomial.specs.Rows.{Row, rowOf, rowsOf, fitted}
 use Rattle.monomial.specs.Sums.{productOf, addRow, sumsOf}
 use Rattle.solve.specs.Solve.{clearRow, clearBelow, pivotHolds, eliminate, backRow, back, rightOf, solved, solve}
 use Rattle.solve.specs.declared.Solved.{Solved}
-use Rattle.score.specs.Score.{aicOf, scoreOf}
+use Rattle.score.specs.Score.{aicOf, scoreOf, scoreBy}
 use Rattle.score.specs.declared.Criterion.the-variants.{Aic}
 use Rattle.choice.specs.declared.Scored.{Scored}
 use Rattle.fit.specs.Residuals.{residual, residuals}
@@ -66,28 +66,28 @@ scoredFrom : List Row → ℕ → Solved → Scored
 scoredFrom rows k s =
     let rs = residuals k (s .c) rows in
     let t = eqb (s .held) k && allOf finite rs in
-    record { solved = t; score = cond t (aicOf (length rows) k (totalF (losses rs))) zeroF }
+    record { solved = t; score = cond t (scoreOf Aic (length rows) k (totalF (losses rs))) zeroF }
 
 scored-from : (rows : List Row) (k : ℕ) (s : Solved) → solve (sumsOf rows) k ≡ s → scoredBy Aic (sumsOf rows) rows rows k ≡ scoredFrom rows k s
-unfolding scoredBy isSolved scoreOn scoreOf scoredFrom
+unfolding scoredBy isSolved scoreOn scoredFrom
 scored-from rows k s e = rw e
 
 line-from-0 : scoredFrom (rowsOf line) 1 (record { held = 1; c = num 3 ∷ replicate 15 zeroF }) ≡ record { solved = true; score = aicOf 3 1 zeroF }
-unfolding scoredFrom residuals residual fitted fold table rowOf powerTurns powerFrom powerF losses huberLoss huberConst milli medianAbsoluteDeviation medianOf deviations sort insert midpoint absF finite ofInt ofBits round size span climb odd units sum add sub mul div neg lt le eq trailingZeros
+unfolding scoredFrom scoreOf scoreBy residuals residual fitted fold table rowOf powerTurns powerFrom powerF losses huberLoss huberConst milli medianAbsoluteDeviation medianOf deviations sort insert midpoint absF finite ofInt ofBits round size span climb odd units sum add sub mul div neg lt le eq trailingZeros
 line-from-0 = refl
 
 pub line-score-0 : scoredBy Aic (sumsOf (rowsOf line)) (rowsOf line) (rowsOf line) 1 ≡ record { solved = true; score = aicOf 3 1 zeroF }
 line-score-0 = scored-from (rowsOf line) 1 _ line-degree-0 ∙ line-from-0
 
 line-from-1 : scoredFrom (rowsOf line) 2 (record { held = 2; c = num 1 ∷ num 2 ∷ replicate 14 zeroF }) ≡ record { solved = true; score = aicOf 3 2 zeroF }
-unfolding scoredFrom residuals residual fitted fold table rowOf powerTurns powerFrom powerF losses huberLoss huberConst milli medianAbsoluteDeviation medianOf deviations sort insert midpoint absF finite ofInt ofBits round size span climb odd units sum add sub mul div neg lt le eq trailingZeros
+unfolding scoredFrom scoreOf scoreBy residuals residual fitted fold table rowOf powerTurns powerFrom powerF losses huberLoss huberConst milli medianAbsoluteDeviation medianOf deviations sort insert midpoint absF finite ofInt ofBits round size span climb odd units sum add sub mul div neg lt le eq trailingZeros
 line-from-1 = refl
 
 pub line-score-1 : scoredBy Aic (sumsOf (rowsOf line)) (rowsOf line) (rowsOf line) 2 ≡ record { solved = true; score = aicOf 3 2 zeroF }
 line-score-1 = scored-from (rowsOf line) 2 _ line-degree-1 ∙ line-from-1
 
 twice-from-0 : scoredFrom (rowsOf twice) 1 (record { held = 1; c = num 3 ∷ replicate 15 zeroF }) ≡ record { solved = true; score = aicOf 2 1 zeroF }
-unfolding scoredFrom residuals residual fitted fold table rowOf powerTurns powerFrom powerF losses huberLoss huberConst milli medianAbsoluteDeviation medianOf deviations sort insert midpoint absF finite ofInt ofBits round size span climb odd units sum add sub mul div neg lt le eq trailingZeros
+unfolding scoredFrom scoreOf scoreBy residuals residual fitted fold table rowOf powerTurns powerFrom powerF losses huberLoss huberConst milli medianAbsoluteDeviation medianOf deviations sort insert midpoint absF finite ofInt ofBits round size span climb odd units sum add sub mul div neg lt le eq trailingZeros
 twice-from-0 = refl
 
 pub twice-score-0 : scoredBy Aic (sumsOf (rowsOf twice)) (rowsOf twice) (rowsOf twice) 1 ≡ record { solved = true; score = aicOf 2 1 zeroF }

@@ -24,7 +24,7 @@ use Rattle.refusal.specs.Laws.{first-none}
 use Rattle.refusal.specs.Rooms.{Room, room, room-of, long-enough}
 use Rattle.refusal.specs.Tests.{capacity, sampleFinite}
 use Rattle.samples.specs.Columns.{lengths, Column, ofX, ofY, value, samplesAt, withY}
-use Rattle.book.specs.Calls.{Out, State, after, bookOf, bookAnswered, refused, addOut, correctOut, withdrawOut, withoutAt, addNext, addMany, addFrameOut}
+use Rattle.book.specs.Calls.{Out, State, stateAfter, bookOf, bookAnswered, refused, addOut, correctOut, withdrawOut, withoutAt, addNext, addMany, addFrameOut}
 use Rattle.book.specs.Many.{added, RoomFor}
 use Rattle.book.specs.ManyLaws.{room-one, room-rest, one-added, many-added, added-is}
 use Rattle.book.specs.Window.{windowRefusal, withPlace, windowOut}
@@ -192,7 +192,7 @@ module _ (s : State) (p : Sample) (e : windowRefusal (s .count) p (lentBy s .col
       positive (suc c) z = omega arith
 
 withdraw-taken : (s : State) (i : ℕ) → 272 ≤ length (s .sums) → s .count ≤ capacity (lentBy s .columns) → i < s .count
-    → after (s .count) (withdrawOut (s .count) i (s .columns) (s .sums)) ≡ withdrawnState s i
+    → stateAfter (s .count) (withdrawOut (s .count) i (s .columns) (s .sums)) ≡ withdrawnState s i
 unfolding withdrawOut withdrawRefusal firstOf
 withdraw-taken s i t h r =
     rw (long-enough (s .count) (lengths (s .columns)) (sumsLent (length (s .sums))) (roomy s (s .count) h t), lt-leb (s .count) i r)
@@ -206,7 +206,7 @@ module _ (m : Lent) (rest : List Float) where
       subst (λ (b : Bool). Leaves m rest s (cond b (without 0 l) l ++ (p ∷ [])) (addNext (withPlace s) p)) same (go (eqb (s .count) (capacity (lentBy s .columns))) refl)
     where
       go : (b : Bool) → eqb (s .count) (capacity (lentBy s .columns)) ≡ b
-          → Leaves m rest s (cond b (without 0 l) l ++ (p ∷ [])) (addNext (cond b (after (s .count) (withdrawOut (s .count) 0 (s .columns) (s .sums))) s) p)
+          → Leaves m rest s (cond b (without 0 l) l ++ (p ∷ [])) (addNext (cond b (stateAfter (s .count) (withdrawOut (s .count) 0 (s .columns) (s .sums))) s) p)
       go false q =
           let w = window-tests s p e in
           let z = eqb-false (s .count) (capacity (lentBy s .columns)) q in
@@ -242,7 +242,7 @@ module _ (m : Lent) (rest : List Float) where
   leaves l s h (windows p) e = leaves-window l s p h e
 
   pub record Stepped (s : State) (o : Out) (l : List Sample) (a : Answer) : Type 0 where
-    pub leaves : Leaves m rest s l (after (s .count) o)
+    pub leaves : Leaves m rest s l (stateAfter (s .count) o)
     pub answer : o .answer ≡ a
 
   -- a refusal changes nothing on either side; so it is enough to know what a call that is not refused leaves

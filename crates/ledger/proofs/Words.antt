@@ -16,7 +16,7 @@ use Rattle.monomial.specs.Rows.{rowsOf}
 use Rattle.solve.specs.Solve.{solve}
 use Rattle.choice.specs.Choice.{degree, chosenOf, solvedCount}
 use Rattle.choice.specs.ChoiceLaws.{chosen-same, count-same}
-use Rattle.choice.specs.Laws.{none-below, chosen, chosen-is, none-such, none-such-only}
+use Rattle.choice.specs.Laws.{none-below, attained, chosen, chosen-is, none-such, none-such-only}
 use Rattle.choice.specs.declared.Scored.{Scored}
 use Rattle.fit.specs.Solved.{scoredBy}
 use Rattle.fit.specs.Chosen.{countsOf, tried, choiceOf}
@@ -132,6 +132,7 @@ module _ (settings : Settings) (l : List Sample) (o : ReportOut) (e : o ≡ repo
   words-of =
       record {
         none-below = none-below S b;
+        attained = attained S b;
         one-chosen = one-chosen;
         none-if-11 = none-if-11;
         11-if-none = 11-if-none;

@@ -18,7 +18,7 @@ use Rattle.book.specs.declared.Answer.{Answer}
 use Rattle.book.specs.declared.Answer.the-variants as answers
 use Rattle.book.specs.Refusals.{addRefusal, correctRefusal, withdrawRefusal, frameAddRefusal}
 use Rattle.refusal.specs.Tests.{capacity}
-use Rattle.book.specs.Calls.{Out, State, stateOf, after, bookOf, bookAfter, openOut, addOut, correctOut, withdrawOut, addFrameOut}
+use Rattle.book.specs.Calls.{Out, State, stateOf, stateAfter, bookOf, bookAfter, openOut, addOut, correctOut, withdrawOut, addFrameOut}
 use Rattle.samples.specs.Columns.{Column, value, lengths, columnsOf, samplesAt}
 use Rattle.refusal.specs.Refusals.{settle}
 use Rattle.book.specs.Window.{windowRefusal, windowOut}
@@ -70,7 +70,7 @@ outOf s (frames f) = addFrameOut (s .count) f (s .columns) (s .sums)
 outOf s (windows p) = windowOut (s .count) p (s .columns) (s .sums)
 
 unfoldable pub next : {R : Type 0} → State → Call R → State
-next s (changes c) = after (s .count) (outOf s c)
+next s (changes c) = stateAfter (s .count) (outOf s c)
 next s (reads q) = s
 
 unfoldable pub reply : {R W : Type 0} → Reading R W → State → Call R → Reply W

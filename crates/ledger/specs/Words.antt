@@ -2,9 +2,11 @@
 use mathlib.Core.Path.{_≡_}
 use mathlib.Core.Bool.{true, false}
 use mathlib.Core.List.{List}
+use mathlib.Core.Logic.{_⊎_}
 use Prim.Native.Nat.{ℕ, _+_, _<_}
 use lib.ListN.{length}
 use lib.Ieee.{Float, lt}
+use Rattle.value.specs.Numbers.{infinityF}
 use Rattle.statistics.specs.Degrees.{maxDegree}
 use Rattle.basis.specs.Counts.{countOf}
 use Rattle.basis.specs.declared.Basis.the-variants.{Curve}
@@ -13,7 +15,7 @@ use Rattle.monomial.specs.Rows.{rowsOf}
 use Rattle.monomial.specs.Sums.{sumsOf}
 use Rattle.solve.specs.Solve.{solve}
 use Rattle.choice.specs.Choice.{leastOf, solvedCount}
-use Rattle.choice.specs.Laws.{Chosen}
+use Rattle.choice.specs.Laws.{Attained, Chosen}
 use Rattle.choice.specs.declared.Scored.{Scored}
 use Rattle.fit.specs.Solved.{scoredBy}
 use Rattle.measure.specs.Measures.{inverseFails, covarianceAt}
@@ -45,6 +47,8 @@ module _ (settings : Settings) (samples : List Sample) where
   pub record Words (o : ReportOut) : Type 0 where
     -- No solved degree within that bound scores below this least.
     pub none-below : (d : ℕ) → d < degrees → scored d .solved ≡ true → lt (scored d .score) least ≡ false
+    -- It is a solved degree's score, or +infinity.
+    pub attained : (least ≡ infinityF) ⊎ Attained scored degrees least
     -- No two degrees are chosen.
     pub one-chosen : (d e : ℕ) → IsChosen d → IsChosen e → d ≡ e
     -- The report answers 11 exactly when none is chosen,

@@ -15,7 +15,7 @@ use Rattle.samples.specs.Samples.{Sample}
 use Rattle.refusal.specs.Refusals.{numbersOf, InOrder, those, isAmong}
 use Rattle.refusal.specs.Laws.{numbered, first-none}
 use Rattle.refusal.specs.Rooms.{Room, room}
-use Rattle.query.specs.Refusals.{fitMemory, bandMemory, fitTests, validateTests, bandTests, fitRefusal, validateRefusal, bandRefusal}
+use Rattle.query.specs.Refusals.{fitNeeds, bandNeeds, fitTests, validateTests, bandTests, fitRefusal, validateRefusal, bandRefusal}
 
 module _ (n : ℕ) (samples : List Sample) (columns : List ℕ) (sums scratch : ℕ) where
   -- ---- the numbers of each, of 1 to 9: these and no others
@@ -46,7 +46,7 @@ module _ (n : ℕ) (samples : List Sample) (columns : List ℕ) (sums scratch : 
   -- ---- what each may count on
 
   pub fit-room : (degree coefficients : ℕ) → fitRefusal n degree samples columns sums scratch coefficients ≡ 0
-      → Room n columns (fitMemory n sums scratch coefficients) × (degree ≤ highestDegree)
+      → Room n columns (fitNeeds n sums scratch coefficients) × (degree ≤ highestDegree)
   unfolding fitRefusal
   fit-room degree coefficients e =
       let p1 = first-none _ 0 _ e in
@@ -56,7 +56,7 @@ module _ (n : ℕ) (samples : List Sample) (columns : List ℕ) (sums scratch : 
       (room n columns _ (p1 .0), ltb-false _ _ (or-false (leb n degree) _ (p8 .0) .1))
 
   pub validate-room : (folds : ℕ) (bound : DegreeBound) (coefficients : ℕ) → validateRefusal n folds bound samples columns sums scratch coefficients ≡ 0
-      → Room n columns (fitMemory n sums scratch coefficients) × (maxDegree bound n ≤ highestDegree)
+      → Room n columns (fitNeeds n sums scratch coefficients) × (maxDegree bound n ≤ highestDegree)
   unfolding validateRefusal
   validate-room folds bound coefficients e =
       let p1 = first-none _ 0 _ e in
@@ -66,7 +66,7 @@ module _ (n : ℕ) (samples : List Sample) (columns : List ℕ) (sums scratch : 
       (room n columns _ (p1 .0), ltb-false _ _ (p8 .0))
 
   pub band-room : (x : Float) (degree : ℕ) (confidence : Confidence) (tolerance : Tolerance)
-      → bandRefusal n x degree confidence tolerance samples columns sums scratch ≡ 0 → Room n columns (bandMemory n sums scratch) × (degree ≤ highestDegree)
+      → bandRefusal n x degree confidence tolerance samples columns sums scratch ≡ 0 → Room n columns (bandNeeds n sums scratch) × (degree ≤ highestDegree)
   unfolding bandRefusal
   band-room x degree confidence tolerance e =
       let p1 = first-none _ 0 _ e in

@@ -11,27 +11,27 @@ use Rattle.statistics.specs.declared.DegreeBound.{DegreeBound}
 use Rattle.statistics.specs.declared.Tolerance.{Tolerance}
 use Rattle.samples.specs.Samples.{Sample, xsOf}
 use Rattle.refusal.specs.Refusals.{Refusal, by, firstOf}
-use Rattle.refusal.specs.Tests.{Memory, memory, tooShort, allFinite, scoreFinite, toleranceFinite, noSamples, wrongFolds, degreeTooHigh, boundTooHigh, outside}
+use Rattle.refusal.specs.Tests.{Needed, needed, tooShort, allFinite, scoreFinite, toleranceFinite, noSamples, wrongFolds, degreeTooHigh, boundTooHigh, outside}
 
 -- what 1 judges of a fit or a validation, and of a band
-abbrev pub fitMemory : ℕ → ℕ → ℕ → ℕ → List Memory
-fitMemory n sums scratch coefficients = memory sumPlaces sums ∷ memory n scratch ∷ memory maxTerms coefficients ∷ []
+abbrev pub fitNeeds : ℕ → ℕ → ℕ → ℕ → List Needed
+fitNeeds n sums scratch coefficients = needed sumPlaces sums ∷ needed n scratch ∷ needed maxTerms coefficients ∷ []
 
-abbrev pub bandMemory : ℕ → ℕ → ℕ → List Memory
-bandMemory n sums scratch = memory sumPlaces sums ∷ memory n scratch ∷ []
+abbrev pub bandNeeds : ℕ → ℕ → ℕ → List Needed
+bandNeeds n sums scratch = needed sumPlaces sums ∷ needed n scratch ∷ []
 
 module _ (n : ℕ) (samples : List Sample) (columns : List ℕ) (sums scratch : ℕ) where
   abbrev pub fitTests : ℕ → ℕ → List Refusal
   fitTests degree coefficients =
-      by (tooShort n columns (fitMemory n sums scratch coefficients)) 1 ∷ by (not (allFinite samples)) 4 ∷ by (noSamples n) 7 ∷ by (degreeTooHigh n degree) 8 ∷ []
+      by (tooShort n columns (fitNeeds n sums scratch coefficients)) 1 ∷ by (not (allFinite samples)) 4 ∷ by (noSamples n) 7 ∷ by (degreeTooHigh n degree) 8 ∷ []
 
   abbrev pub validateTests : ℕ → DegreeBound → ℕ → List Refusal
   validateTests folds bound coefficients =
-      by (tooShort n columns (fitMemory n sums scratch coefficients)) 1 ∷ by (not (allFinite samples)) 4 ∷ by (wrongFolds n folds) 7 ∷ by (boundTooHigh bound n) 8 ∷ []
+      by (tooShort n columns (fitNeeds n sums scratch coefficients)) 1 ∷ by (not (allFinite samples)) 4 ∷ by (wrongFolds n folds) 7 ∷ by (boundTooHigh bound n) 8 ∷ []
 
   abbrev pub bandTests : Float → ℕ → Confidence → Tolerance → List Refusal
   bandTests x degree confidence tolerance =
-      by (tooShort n columns (bandMemory n sums scratch)) 1
+      by (tooShort n columns (bandNeeds n sums scratch)) 1
       ∷ by (not (finite x && scoreFinite confidence && toleranceFinite tolerance && allFinite samples)) 4 ∷ by (noSamples n) 7 ∷ by (degreeTooHigh n degree) 8
       ∷ by (outside x (xsOf samples)) 9 ∷ []
 

@@ -10,7 +10,7 @@ ghost use mathlib.Core.List.{[], _∷_};
 ghost use lib.ListN.{length};
 ghost use Rattle.samples.specs.Samples.{samplesOf};
 ghost use Rattle.refusal.specs.Tests.{tooShort};
-ghost use Rattle.query.specs.Refusals.{fitMemory, bandMemory, fitRefusal, validateRefusal, bandRefusal};
+ghost use Rattle.query.specs.Refusals.{fitNeeds, bandNeeds, fitRefusal, validateRefusal, bandRefusal};
 
 // 1, of a fit or a validation.
 fn fit_short(
@@ -21,7 +21,7 @@ fn fit_short(
     scratch: usize,
     coefficients: usize,
 ) -> bool
-    ensures { λ r. ⌜ r ≡ tooShort n (xs ∷ ys ∷ []) (fitMemory n sums scratch coefficients) ⌝ }
+    ensures { λ r. ⌜ r ≡ tooShort n (xs ∷ ys ∷ []) (fitNeeds n sums scratch coefficients) ⌝ }
 {
     let written = refusal::short(n, scratch, refusal::short(TERMS, coefficients, false));
     refusal::too_short(n, xs, ys, refusal::short(SUMS, sums, written))
@@ -29,7 +29,7 @@ fn fit_short(
 
 // 1, of a band.
 fn band_short(n: usize, xs: usize, ys: usize, sums: usize, scratch: usize) -> bool
-    ensures { λ r. ⌜ r ≡ tooShort n (xs ∷ ys ∷ []) (bandMemory n sums scratch) ⌝ }
+    ensures { λ r. ⌜ r ≡ tooShort n (xs ∷ ys ∷ []) (bandNeeds n sums scratch) ⌝ }
 {
     let written = refusal::short(n, scratch, false);
     refusal::too_short(n, xs, ys, refusal::short(SUMS, sums, written))

@@ -10,12 +10,12 @@ use Rattle.loops.specs.All.{All}
 use Rattle.loops.specs.Cases.{or-false}
 use Rattle.loops.specs.Fold.{fold}
 use Rattle.basis.specs.Sizes.{maxSamples}
-use Rattle.refusal.specs.Tests.{Memory, memory, anyShort, capacity, tooShort, noRoom}
+use Rattle.refusal.specs.Tests.{Needed, needed, anyShort, capacity, tooShort, noRoom}
 
 -- ---- the code's tests
 
 -- one memory more in front
-pub short-of : (needs lent : ℕ) (ms : List Memory) {t others : Bool} → t ≡ (ltb lent needs || others) → others ≡ anyShort ms → t ≡ anyShort (memory needs lent ∷ ms)
+pub short-of : (needs lent : ℕ) (ms : List Needed) {t others : Bool} → t ≡ (ltb lent needs || others) → others ≡ anyShort ms → t ≡ anyShort (needed needs lent ∷ ms)
 unfolding anyShort
 short-of needs lent ms e q = e ∙ ap (λ b. ltb lent needs || b) q
 
@@ -24,7 +24,7 @@ pub short-end : false ≡ anyShort []
 unfolding anyShort
 short-end = refl
 
-pub short-is : (n : ℕ) (columns : List ℕ) (ms : List Memory) {t m : Bool} → t ≡ (m || ltb (capacity columns) n) → m ≡ anyShort ms → t ≡ tooShort n columns ms
+pub short-is : (n : ℕ) (columns : List ℕ) (ms : List Needed) {t m : Bool} → t ≡ (m || ltb (capacity columns) n) → m ≡ anyShort ms → t ≡ tooShort n columns ms
 short-is n columns ms e q = e ∙ ap (λ b. b || ltb (capacity columns) n) q
 
 -- 5, where the count is at most the room
@@ -63,33 +63,33 @@ all-within n b (l ∷ columns) h a =
 
 -- ---- the room
 
-abbrev pub Enough : Memory → Type 0
+abbrev pub Enough : Needed → Type 0
 Enough m = m .needs ≤ m .lent
 
 -- n samples are within the columns, and each memory has the places that the call needs
-pub record Room (n : ℕ) (columns : List ℕ) (memories : List Memory) : Type 0 where
+pub record Room (n : ℕ) (columns : List ℕ) (memories : List Needed) : Type 0 where
   pub count : n ≤ capacity columns
   pub within : All (λ l. n ≤ l) columns
   pub most : n ≤ maxSamples
   pub enough : All Enough memories
 
-all-enough : (ms : List Memory) → anyShort ms ≡ false → All Enough ms
+all-enough : (ms : List Needed) → anyShort ms ≡ false → All Enough ms
 unfolding anyShort
 all-enough [] h = tt
 all-enough (m ∷ ms) h =
     let q = or-false (ltb (m .lent) (m .needs)) (anyShort ms) h in
     (ltb-false _ _ (q .0), all-enough ms (q .1))
 
-none-short : (ms : List Memory) → All Enough ms → anyShort ms ≡ false
+none-short : (ms : List Needed) → All Enough ms → anyShort ms ≡ false
 unfolding anyShort
 none-short [] a = refl
 none-short (m ∷ ms) a = ap₂ _||_ (le-ltb (m .lent) (m .needs) (a .0)) (none-short ms (a .1))
 
-pub room-of : (n : ℕ) (columns : List ℕ) (memories : List Memory) → n ≤ capacity columns → All Enough memories → Room n columns memories
+pub room-of : (n : ℕ) (columns : List ℕ) (memories : List Needed) → n ≤ capacity columns → All Enough memories → Room n columns memories
 unfolding capacity
 room-of n columns memories h e = record { count = h; within = within-all n maxSamples columns h; most = omega (arith, h, least-first maxSamples columns); enough = e }
 
-module _ (n : ℕ) (columns : List ℕ) (memories : List Memory) where
+module _ (n : ℕ) (columns : List ℕ) (memories : List Needed) where
   -- 1 does not hold
   pub room : tooShort n columns memories ≡ false → Room n columns memories
   room e =

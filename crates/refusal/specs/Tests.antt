@@ -19,14 +19,14 @@ use Rattle.samples.specs.Samples.{Sample}
 -- ---- 1: a lent memory other than a book column is shorter than this call's places, or the count is above capacity
 
 -- of one lent memory, how many places the call needs and how many are lent
-pub record Memory : Type 0 where
+pub record Needed : Type 0 where
   pub needs : ℕ
   pub lent : ℕ
 
-abbrev pub memory : ℕ → ℕ → Memory
-memory needs lent = record { needs = needs; lent = lent }
+abbrev pub needed : ℕ → ℕ → Needed
+needed needs lent = record { needs = needs; lent = lent }
 
-unfoldable pub anyShort : List Memory → Bool
+unfoldable pub anyShort : List Needed → Bool
 anyShort [] = false
 anyShort (m ∷ ms) = ltb (m .lent) (m .needs) || anyShort ms
 
@@ -34,12 +34,12 @@ anyShort (m ∷ ms) = ltb (m .lent) (m .needs) || anyShort ms
 unfoldable pub capacity : List ℕ → ℕ
 capacity columns = fold min maxSamples columns
 
-abbrev pub tooShort : ℕ → List ℕ → List Memory → Bool
+abbrev pub tooShort : ℕ → List ℕ → List Needed → Bool
 tooShort n columns memories = anyShort memories || ltb (capacity columns) n
 
 -- of a call that is lent the columns and the sums
 abbrev pub bookShort : ℕ → List ℕ → ℕ → Bool
-bookShort n columns sums = tooShort n columns (memory sumPlaces sums ∷ [])
+bookShort n columns sums = tooShort n columns (needed sumPlaces sums ∷ [])
 
 -- ---- 4: a given x, y, Custom score or tolerance is not finite; or, in a call that reads, a column value below the count
 

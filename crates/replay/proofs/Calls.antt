@@ -21,46 +21,46 @@ use Rattle.ledger.specs.ReadCalls.{reports, readOn}
 use Rattle.replay.specs.declared.Done.{Done}
 use Rattle.replay.specs.Records.{callOf}
 use Rattle.replay.specs.Replay.{resultsOf, reportResults, writtenOf, overAllAt}
-use Rattle.replay.specs.Steps.{resultsIn, settled, toldOf, Changed, Reported, Windows}
+use Rattle.replay.specs.Steps.{resultsIn, changeRecord, reportRecord, Changed, Reported, Windows}
 use Rattle.replay.proofs.Laws.{window-over, window-length, over-nothing}
 
--- what settle and tell record
-pub settled-count : (n : ℕ) (a : Answer) → settled n a .count ≡ bookAfter n a
-unfolding settled
-settled-count n (answers.Book b) = refl
-settled-count n (answers.Refused r) = refl
+-- what is recorded of an answer
+pub change-count : (n : ℕ) (a : Answer) → changeRecord n a .count ≡ bookAfter n a
+unfolding changeRecord
+change-count n (answers.Book b) = refl
+change-count n (answers.Refused r) = refl
 
-settled-results : (n : ℕ) (a : Answer) → resultsIn (settled n a) ≡ resultsOf (said a)
-unfolding settled resultsOf
-settled-results n (answers.Book b) = refl
-settled-results n (answers.Refused r) = refl
+change-results : (n : ℕ) (a : Answer) → resultsIn (changeRecord n a) ≡ resultsOf (said a)
+unfolding changeRecord resultsOf
+change-results n (answers.Book b) = refl
+change-results n (answers.Refused r) = refl
 
-pub told-count : (n : ℕ) (a : ReportAnswer) → toldOf n a .count ≡ n
-unfolding toldOf
-told-count n (tells.Report d s o p) = refl
-told-count n (tells.Refused r) = refl
+pub report-count : (n : ℕ) (a : ReportAnswer) → reportRecord n a .count ≡ n
+unfolding reportRecord
+report-count n (tells.Report d s o p) = refl
+report-count n (tells.Refused r) = refl
 
-pub told-results : (n : ℕ) (a : ReportAnswer) → resultsIn (toldOf n a) ≡ reportResults a
-unfolding toldOf
-told-results n (tells.Report d s o p) = refl
-told-results n (tells.Refused r) = refl
+pub report-results : (n : ℕ) (a : ReportAnswer) → resultsIn (reportRecord n a) ≡ reportResults a
+unfolding reportRecord
+report-results n (tells.Report d s o p) = refl
+report-results n (tells.Refused r) = refl
 
 -- a call that changes a book
 module _ (s : State) (c : Change) (r : Answer) (d : Done) (a b t : List Float) where
-  pub changed : Is (outOf s c) r a b t → d ≡ settled (s .count) r → Changed s (changes c) d a b t
+  pub changed : Is (outOf s c) r a b t → d ≡ changeRecord (s .count) r → Changed s (changes c) d a b t
   unfolding next reply
   changed h e =
-      let n = ap (λ (z : Done). z .count) e ∙ settled-count (s .count) r ∙ ap (bookAfter (s .count)) (h .answer) in
+      let n = ap (λ (z : Done). z .count) e ∙ change-count (s .count) r ∙ ap (bookAfter (s .count)) (h .answer) in
       record {
         state =
             (λ i. stateOf (n i) (h .xs i) (h .ys i) (h .sums i))
             ∙ (λ i. record { count = bookAfter (s .count) (outOf s c .answer); columns = columns-are (outOf s c .columns) i; sums = outOf s c .sums });
-        results = ap resultsIn e ∙ settled-results (s .count) r ∙ ap (λ z. resultsOf (said z)) (h .answer);
+        results = ap resultsIn e ∙ change-results (s .count) r ∙ ap (λ z. resultsOf (said z)) (h .answer);
       }
 
 -- by its kind
 module _ (kind i : ℕ) (x y : Float) (settings : Settings) (places : Places) (n : ℕ) (xs ys sums : List Float) where
-  module _ (r : Answer) (d : Done) (a b t : List Float) (e : d ≡ settled n r) where
+  module _ (r : Answer) (d : Done) (a b t : List Float) (e : d ≡ changeRecord n r) where
     pub change-adds : kind ≡ 0 → Is (addOut n (record { x = x; y = y }) (columnsOf xs ys) sums) r a b t
         → Changed (stateOf n xs ys sums) (callOf kind i x y settings places) d a b t
     unfolding callOf outOf
@@ -151,14 +151,14 @@ module _ (n at : ℕ) (p : Places) (w : Outputs) (room : Windows at p w) where
 
     pub report-into : Does (g (placesOf cut)) r (record { found = cut; left = v }) → length (v .scratch) ≡ length (cut .scratch)
         → length (v .coefficients) ≡ length (cut .coefficients) → length (v .errors) ≡ length (cut .errors) → length (v .pruned) ≡ length (cut .pruned)
-        → length (v .lower) ≡ length (cut .lower) → length (v .upper) ≡ length (cut .upper) → length (v .outliers) ≡ length (cut .outliers) → d ≡ toldOf n r
+        → length (v .lower) ≡ length (cut .lower) → length (v .upper) ≡ length (cut .upper) → length (v .outliers) ≡ length (cut .outliers) → d ≡ reportRecord n r
         → Reported n at (g p) d (record { found = w; left = filled })
     report-into h ls lc le lb ll lu lo q =
         let o = g (placesOf cut) .written in
         let e = h .outputs in
         subst (λ (z : ReportOut). Reported n at z d (record { found = w; left = filled })) (ap g cut-is)
         (record {
-          done = q ∙ ap (toldOf n) (h .answer);
+          done = q ∙ ap (reportRecord n) (h .answer);
           wrote = λ i. record {
             scratch = window-over at (at + p .scratch - at) (o .scratch) (w .scratch) (v .scratch) (ap (λ (z : Outputs). z .scratch) e) ls i;
             coefficients = window-over at (at + p .coefficients - at) (o .coefficients) (w .coefficients) (v .coefficients) (ap (λ (z : Outputs). z .coefficients) e) lc i;

@@ -30,9 +30,9 @@ use Rattle.replay.specs.declared.Done.{Done}
 use Rattle.replay.specs.declared.Replayed.the-variants as replays
 use Rattle.replay.specs.Records.{settingsAt, placesAt, callOf, callAt, callCount, callsOf, wellFormed}
 use Rattle.replay.specs.Replay.{Memory, Ran, ReplayIs, buffersIn, resultsOf, writtenOf, overAt, writeAll, putResults, putOutputs}
-use Rattle.replay.specs.Steps.{resultsIn, settled, Changed, Reported, Turned}
+use Rattle.replay.specs.Steps.{resultsIn, changeRecord, Changed, Reported, Turned}
 use Rattle.replay.proofs.Laws.{window-over, write-snoc}
-use Rattle.replay.proofs.Calls.{settled-count, told-count, told-results, nothing-else, is-report}
+use Rattle.replay.proofs.Calls.{change-count, report-count, report-results, nothing-else, is-report}
 use Rattle.replay.proofs.Rooms.{Formed, formed}
 
 -- ---- one call
@@ -68,11 +68,11 @@ module _ (kinds words : List ℕ) (numbers : List Float) (width k n : ℕ) (m : 
     turned-report w h r =
         let o = reportOut n settings (m .xs) (m .ys) (m .sums) places in
         let q = is-report (getD kinds (5 * k) 0) (getD words (9 * k) 0) (getD numbers (4 * k) nan) (getD numbers (4 * k + 1) nan) settings places h in
-        let e = ap (λ (z : Done). z .count) (r .done) ∙ told-count n (o .answer) in
+        let e = ap (λ (z : Done). z .count) (r .done) ∙ report-count n (o .answer) in
         rw (← is, ← ip, q)
         (record {
           state = λ i. stateOf (e i) (m .xs) (m .ys) (m .sums);
-          results = back-is ∙ ap (λ v. overAt (5 * k) v (m .results)) (ap resultsIn (r .done) ∙ told-results n (o .answer));
+          results = back-is ∙ ap (λ v. overAt (5 * k) v (m .results)) (ap resultsIn (r .done) ∙ report-results n (o .answer));
           outputs = r .wrote;
         })
 
@@ -167,11 +167,11 @@ module _ (kinds words : List ℕ) (numbers : List Float) (width : ℕ) (m : Memo
       }
 
   -- r is what open answers, and t what it leaves of the sums
-  pub all : (r : Answer) (t : List Float) → Is (openOut (m .sums)) r [] [] t → (n₀ : ℕ) → n₀ ≡ settled 0 r .count → (n : ℕ) (m′ : Memory) (k : ℕ)
+  pub all : (r : Answer) (t : List Float) → Is (openOut (m .sums)) r [] [] t → (n₀ : ℕ) → n₀ ≡ changeRecord 0 r .count → (n : ℕ) (m′ : Memory) (k : ℕ)
       → Upto kinds words numbers width (stateOf n₀ (m .xs) (m .ys) t) (withSums m t) n m′ k → k ≡ callCount kinds → 272 ≤ length (m .sums)
       → Ran (callsOf kinds words numbers) width n m m′
   all r t o n₀ e n m′ k u q h =
-      let c = e ∙ settled-count 0 r ∙ ap (bookAfter 0) (o .answer) in
+      let c = e ∙ change-count 0 r ∙ ap (bookAfter 0) (o .answer) in
       let s : stateOf n₀ (m .xs) (m .ys) t ≡ opened (m .xs) (m .ys) (m .sums) = λ i. stateOf (c i) (m .xs) (m .ys) (o .sums i) in
       from-opened n t m′
       (subst (λ z. Upto kinds words numbers width z (withSums m t) n m′ (callCount kinds)) s (subst (λ j. Upto kinds words numbers width (stateOf n₀ (m .xs) (m .ys) t) (withSums m t) n m′ j) q u)) h

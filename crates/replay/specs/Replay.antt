@@ -10,7 +10,7 @@ use Rattle.samples.specs.Columns.{ofX, ofY}
 use Rattle.lent.specs.Written.{over}
 use Rattle.report.specs.declared.ReportAnswer.{ReportAnswer}
 use Rattle.report.specs.declared.ReportAnswer.the-variants as reports
-use Rattle.report.specs.Outputs.{nothing, Outputs, Lent, placesOf}
+use Rattle.report.specs.Outputs.{nothing, Outputs, LentOutputs, placesOf}
 use Rattle.ledger.specs.Ledger.{Call, Reply, said, told, lentOf, final, opened, ledgerEnd, ledgerReplies}
 use Rattle.ledger.specs.ReadCalls.{ReadCall, Told, fitted, banded, reported, readOn}
 use Rattle.ledger.specs.Whole.{WholeBook}
@@ -86,7 +86,7 @@ pub record LentMemory : Type 0 where
   pub found : Memory
   pub left : Memory
 
-abbrev pub memory : Slice Float → Slice Float → Slice Float → Slice ℕ → Lent → LentMemory
+abbrev pub memory : Slice Float → Slice Float → Slice Float → Slice ℕ → LentOutputs → LentMemory
 memory xs ys sums results w =
     record {
       found = record { xs = before xs; ys = before ys; sums = before sums; results = before results; outputs = w .found };

@@ -14,7 +14,7 @@ use Rattle.report.specs.Reports.{ReportOut}
 use Rattle.ledger.specs.Ledger.{Call, next, reply}
 use Rattle.ledger.specs.ReadCalls.{ReadCall, readOn}
 use Rattle.replay.specs.declared.Done.{Done}
-use Rattle.report.specs.Outputs.{Outputs, Lent}
+use Rattle.report.specs.Outputs.{Outputs, LentOutputs}
 use Rattle.replay.specs.Replay.{Memory, LentMemory, Ran, resultsOf, overAllAt, putResults, putOutputs}
 
 -- the five results
@@ -22,14 +22,14 @@ abbrev pub resultsIn : Done → List ℕ
 resultsIn d = d .number ∷ d .size ∷ d .solved ∷ d .outliers ∷ d .pruned ∷ []
 
 -- after the answer of a call that changes a book of n samples
-unfoldable pub settled : ℕ → Answer → Done
-settled n (answers.Book b) = record { count = b .count; number = 0; size = b .count; solved = 0; outliers = 0; pruned = 0 }
-settled n (answers.Refused r) = record { count = n; number = r; size = 0; solved = 0; outliers = 0; pruned = 0 }
+unfoldable pub changeRecord : ℕ → Answer → Done
+changeRecord n (answers.Book b) = record { count = b .count; number = 0; size = b .count; solved = 0; outliers = 0; pruned = 0 }
+changeRecord n (answers.Refused r) = record { count = n; number = r; size = 0; solved = 0; outliers = 0; pruned = 0 }
 
 -- after a report's
-unfoldable pub toldOf : ℕ → ReportAnswer → Done
-toldOf n (reports.Report d s o p) = record { count = n; number = 0; size = d .0; solved = s; outliers = o; pruned = p }
-toldOf n (reports.Refused r) = record { count = n; number = r; size = 0; solved = 0; outliers = 0; pruned = 0 }
+unfoldable pub reportRecord : ℕ → ReportAnswer → Done
+reportRecord n (reports.Report d s o p) = record { count = n; number = 0; size = d .0; solved = s; outliers = o; pruned = p }
+reportRecord n (reports.Refused r) = record { count = n; number = r; size = 0; solved = 0; outliers = 0; pruned = 0 }
 
 -- a call that changes a book
 pub record Changed (s : State) (c : Call ReadCall) (d : Done) (a b t : List Float) : Type 0 where
@@ -37,8 +37,8 @@ pub record Changed (s : State) (c : Call ReadCall) (d : Done) (a b t : List Floa
   pub results : resultsIn d ≡ resultsOf (reply readOn s c)
 
 -- a report into windows that are cut from this place on
-pub record Reported (n at : ℕ) (o : ReportOut) (d : Done) (w : Lent) : Type 0 where
-  pub done : d ≡ toldOf n (o .answer)
+pub record Reported (n at : ℕ) (o : ReportOut) (d : Done) (w : LentOutputs) : Type 0 where
+  pub done : d ≡ reportRecord n (o .answer)
   pub wrote : w .left ≡ overAllAt at (o .written) (w .found)
 
 -- the call c, the k-th, from the book n and the memory m: n′ and m′ are left

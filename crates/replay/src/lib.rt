@@ -16,7 +16,7 @@ ghost use Rattle.lent.specs.Written.{over};
 ghost use Rattle.report.specs.Outputs.{outputs, outputsNow};
 ghost use Rattle.replay.specs.Records.{settingsAt, placesAt, callOf, callAt, callsOf, holds, holdsAll, fitsIn, allFit, hasRoom, wellFormed};
 ghost use Rattle.replay.specs.Replay.{ReplayIs, memory, buffersOf};
-ghost use Rattle.replay.specs.Steps.{resultsIn, settled, toldOf, Changed, Reported, TurnIs, RunIs, Stands, Windows};
+ghost use Rattle.replay.specs.Steps.{resultsIn, changeRecord, reportRecord, Changed, Reported, TurnIs, RunIs, Stands, Windows};
 
 // How a replay ends: with the book after the last call, or because the buffers do not hold a list of calls.
 pub enum Replayed {
@@ -150,8 +150,8 @@ fn well_formed(kinds: &[u32], words: &[usize], numbers: &[f64], width: usize, b:
 }
 
 // After the answer of a call that changes a book.
-fn settle(old: Book, a: Answer) -> Done
-    ensures { λ r. ⌜ r ≡ settled (old .count) a ⌝ }
+fn record_change(old: Book, a: Answer) -> Done
+    ensures { λ r. ⌜ r ≡ changeRecord (old .count) a ⌝ }
 {
     match a {
         Answer::Book(b) => {
@@ -181,8 +181,8 @@ fn settle(old: Book, a: Answer) -> Done
 }
 
 // After a report's.
-fn tell(old: Book, a: ReportAnswer) -> Done
-    ensures { λ r. ⌜ r ≡ toldOf (old .count) a ⌝ }
+fn record_report(old: Book, a: ReportAnswer) -> Done
+    ensures { λ r. ⌜ r ≡ reportRecord (old .count) a ⌝ }
 {
     let n = old.count;
     match a {
@@ -246,14 +246,14 @@ fn change(
 {
     if kind == 0 {
         let a = book::add(book, x, y, xs, ys, sums);
-        return settle(book, a);
+        return record_change(book, a);
     }
     if kind == 1 {
         let a = book::correct(book, index, y, xs, ys, sums);
-        return settle(book, a);
+        return record_change(book, a);
     }
     let a = book::withdraw(book, index, xs, ys, sums);
-    settle(book, a)
+    record_change(book, a)
 }
 
 // A report into windows that are cut from place `at` on.
@@ -297,7 +297,7 @@ fn report_at(
         &mut upper[at..u],
         &mut outliers[at..o],
     );
-    tell(book, a)
+    record_report(book, a)
 }
 
 // The k-th call. The book goes on.
@@ -379,7 +379,7 @@ fn run(
     ensures { λ r. ⌜ RunIs (callsOf (before kinds) (before words) (before numbers)) width (r .count) (memory xs ys sums results (outputs scratch coefficients errors pruned lower upper outliers)) ⌝ }
 {
     let a = book::open(sums);
-    let first = settle(Book { count: 0 }, a);
+    let first = record_change(Book { count: 0 }, a);
     let mut count = first.count;
     let m = kinds.len() / 5;
     let mut k = 0;

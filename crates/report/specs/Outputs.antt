@@ -49,11 +49,11 @@ placesOf w =
     }
 
 -- the memory lent to a call, as it finds it and as it leaves it
-pub record Lent : Type 0 where
+pub record LentOutputs : Type 0 where
   pub found : Outputs
   pub left : Outputs
 
-abbrev pub outputs : Slice Float → Slice Float → Slice Float → Slice ℕ → Slice Float → Slice Float → Slice ℕ → Lent
+abbrev pub outputs : Slice Float → Slice Float → Slice Float → Slice ℕ → Slice Float → Slice Float → Slice ℕ → LentOutputs
 outputs s c e p l u o =
     record {
       found =

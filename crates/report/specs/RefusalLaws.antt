@@ -12,7 +12,7 @@ use Rattle.refusal.specs.Laws.{numbered, first-none}
 use Rattle.refusal.specs.Rooms.{Room, room}
 use Rattle.settings.specs.declared.Settings.{Settings}
 use Rattle.report.specs.declared.Places.{Places}
-use Rattle.report.specs.Refusals.{reportMemory, reportTests, reportRefusal}
+use Rattle.report.specs.Refusals.{reportNeeds, reportTests, reportRefusal}
 
 module _ (n : ℕ) (settings : Settings) (samples : List Sample) (columns : List ℕ) (sums : ℕ) (places : Places) where
   pub report-numbers : List·Memᴰ (reportRefusal n settings samples columns sums places) (0 ∷ 1 ∷ 4 ∷ 7 ∷ 8 ∷ [])
@@ -25,7 +25,7 @@ module _ (n : ℕ) (settings : Settings) (samples : List Sample) (columns : List
 
 -- what a report that 1 to 9 let through may count on
 pub record ReportRoom (n : ℕ) (settings : Settings) (columns : List ℕ) (sums : ℕ) (places : Places) : Type 0 where
-  pub room : Room n columns (reportMemory n sums places)
+  pub room : Room n columns (reportNeeds n sums places)
   pub some : 0 < n
   pub most : maxDegree (settings .bound) n ≤ highestDegree
 

@@ -28,7 +28,7 @@ use Rattle.report.specs.declared.ReportAnswer.{ReportAnswer}
 use Rattle.report.specs.declared.ReportAnswer.the-variants as answers
 use Rattle.report.specs.Refusals.{reportRefusal}
 use Rattle.report.specs.Chosen.{reportChoice}
-use Rattle.report.specs.Outputs.{Outputs, Lent, nothing, scratchAlone, overAll, placesOf}
+use Rattle.report.specs.Outputs.{Outputs, LentOutputs, nothing, scratchAlone, overAll, placesOf}
 
 -- the answer, and the values written
 pub record ReportOut : Type 0 where
@@ -99,10 +99,10 @@ reportOut n settings xs ys sums places =
 -- ---- the promise
 
 -- o is what the call does: its answer, and every memory that it may write
-pub record Does (o : ReportOut) (r : ReportAnswer) (w : Lent) : Type 0 where
+pub record Does (o : ReportOut) (r : ReportAnswer) (w : LentOutputs) : Type 0 where
   pub answer : r ≡ o .answer
   pub outputs : w .left ≡ overAll (o .written) (w .found)
 
 -- a report of the columns xs and ys and these sums
-abbrev pub ReportIs : ℕ → Settings → List Float → List Float → List Float → ReportAnswer → Lent → Type 0
+abbrev pub ReportIs : ℕ → Settings → List Float → List Float → List Float → ReportAnswer → LentOutputs → Type 0
 ReportIs n settings xs ys sums r w = Does (reportOut n settings xs ys sums (placesOf (w .found))) r w

@@ -6,13 +6,13 @@ ghost use mathlib.Core.List.{[], _∷_};
 ghost use lib.ListN.{length};
 ghost use Rattle.samples.specs.Samples.{samplesOf};
 ghost use Rattle.refusal.specs.Tests.{tooShort};
-ghost use Rattle.report.specs.Refusals.{reportMemory, reportRefusal};
+ghost use Rattle.report.specs.Refusals.{reportNeeds, reportRefusal};
 use crate::Places;
 use settings::Settings;
 
 // 1, of a report: the sums, and all that it writes.
 fn report_short(n: usize, xs: usize, ys: usize, sums: usize, p: Places) -> bool
-    ensures { λ r. ⌜ r ≡ tooShort n (xs ∷ ys ∷ []) (reportMemory n sums p) ⌝ }
+    ensures { λ r. ⌜ r ≡ tooShort n (xs ∷ ys ∷ []) (reportNeeds n sums p) ⌝ }
 {
     let bands = refusal::short(
         n,

@@ -1,7 +1,8 @@
 -- AIC and BIC as in polyfit's `score/basic.rs`, from the total of the losses. Definitions only.
 use mathlib.Core.Bool.{cond, _&&_}
 use Prim.Native.Nat.{ℕ}
-use lib.Ieee.{Float, binary64, add, sub, mul, div, lt}
+use lib.Dec.{eqb}
+use lib.Ieee.{Float, nan, binary64, add, sub, mul, div, lt}
 use Rattle.value.specs.Logarithm.{lnF}
 use Rattle.value.specs.Maximum.{maximumF}
 use Rattle.value.specs.Numbers.{oneF, twoF, fourF, epsilon, num}
@@ -26,7 +27,10 @@ aicOf n k total =
 unfoldable pub bicOf : ℕ → ℕ → Float → Float
 bicOf n k total = add binary64 (mul binary64 (num n) (lnF (likelihoodOf n total))) (mul binary64 (num k) (lnF (num n)))
 
--- the score, with the number n of samples scored and k coefficients
+unfoldable pub scoreBy : Criterion → ℕ → ℕ → Float → Float
+scoreBy Aic n k total = aicOf n k total
+scoreBy Bic n k total = bicOf n k total
+
+-- the score, with the number n of samples scored and k coefficients; of no samples it is NaN, as polyfit has it
 unfoldable pub scoreOf : Criterion → ℕ → ℕ → Float → Float
-scoreOf Aic n k total = aicOf n k total
-scoreOf Bic n k total = bicOf n k total
+scoreOf criterion n k total = cond (eqb n 0) nan (scoreBy criterion n k total)

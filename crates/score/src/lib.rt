@@ -38,10 +38,13 @@ fn bic(n: u64, k: u64, total: f64) -> f64
     nf * value::ln(likelihood(n, total)) + kf * value::ln(nf)
 }
 
-// The score of a fit of k coefficients whose losses on n samples add up to total: the smaller, the better.
+// The score of a fit of k coefficients whose losses on n samples add up to total: the smaller, the better. Of no samples it is NaN.
 pub fn score(criterion: Criterion, n: usize, k: CoefficientCount, total: f64) -> f64
     ensures { λ r. ⌜ r ≡ scoreOf criterion n (k .0) total ⌝ }
 {
+    if n == 0 {
+        return 0.0 / 0.0;
+    }
     let count = k.0;
     match criterion {
         Criterion::Aic => aic(n as u64, count as u64, total),

@@ -1,8 +1,7 @@
+-- `capi::stakebook_band` meets its contract.
 use mathlib.Core.Path.{refl}
 use Prim.Native.Nat.{_-_}
 use borrow.Author.Needs.{needs}
-use lib.ListN.{take}
-use mathlib.Core.Path.{refl}
 use borrow.Author.Tests.{lt-ltb, le-ltb}
 use Rattle.capi.proofs.Promises.{band-short, band-packed}
 use Rattle.capi.proofs.stakebook_band.Statement.{statement}

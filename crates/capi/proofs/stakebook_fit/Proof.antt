@@ -1,6 +1,6 @@
+-- `capi::stakebook_fit` meets its contract.
 use Prim.Native.Nat.{_-_}
 use borrow.Author.Needs.{needs}
-use lib.ListN.{take}
 use Rattle.capi.proofs.Promises.{fit-packed}
 use Rattle.capi.proofs.stakebook_fit.Statement.{statement}
 use Rattle.capi.proofs.stakebook_fit.Tie as tie

@@ -1,6 +1,6 @@
+-- `capi::stakebook_report` meets its contract.
 use Prim.Native.Nat.{_-_}
 use borrow.Author.Needs.{needs}
-use lib.ListN.{take}
 use Rattle.capi.specs.Fitting.{report-fits}
 use Rattle.capi.proofs.Promises.{report-packed}
 use Rattle.capi.proofs.stakebook_report.Statement.{statement}

@@ -1,3 +1,4 @@
+-- `replay::has_room` meets its contract.
 use Prim.Native.Nat.{_-_}
 use borrow.Author.Needs.{needs}
 use Rattle.replay.specs.Records.{hasRoom}

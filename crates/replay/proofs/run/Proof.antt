@@ -1,14 +1,9 @@
+-- `replay::run` meets its contract.
 use mathlib.Core.Path.{ap, _∙_}
 use Prim.Native.Nat.{_-_, _<_}
 use native.Mathlib.Omega.{arith}
 use borrow.Author.Needs.{needs}
-use lib.ListN.{length, set, take}
-use lib.Ieee.{add}
 use Rattle.report.specs.declared.Places.{Places}
-use mathlib.Core.Path.{ap, _∙_}
-use Prim.Native.Nat.{_-_, _<_}
-use native.Mathlib.Omega.{arith}
-use borrow.Author.Needs.{needs}
 use Rattle.book.specs.Calls.{stateOf}
 use Rattle.replay.specs.Records.{callCount}
 use Rattle.replay.specs.Replay.{Memory, buffersIn}
@@ -100,7 +95,7 @@ returns c =
     let at-open = c .before .before .before .before .before .«open» in
     let at-pre = c .before .before .before .before .before .before .before .before .before .before .before .before .before .before .before .before .before .before .before .before .before .pre in
     let m : Memory = (record { xs = at-args .xs .now; ys = at-args .ys .now; sums = at-args .sums .now; results = at-args .results .now; outputs = (record { scratch = at-args .scratch .now; coefficients = at-args .coefficients .now; errors = at-args .errors .now; pruned = at-args .pruned .now; lower = at-args .lower .now; upper = at-args .upper .now; outliers = at-args .outliers .now }) }) in
-    all (at-args .kinds .now) (at-args .words .now) (at-args .numbers .now) (at-args .width) m (at-open .result) _ (at-open .ensures) _ (ap (λ z. z .count) (c .before .before .settle .ensures)) _ (record { xs = c .before .loop .xs; ys = c .before .loop .ys; sums = c .before .loop .sums; results = c .before .loop .results; outputs = (record { scratch = c .before .loop .scratch; coefficients = c .before .loop .coefficients; errors = c .before .loop .errors; pruned = c .before .loop .pruned; lower = c .before .loop .lower; upper = c .before .loop .upper; outliers = c .before .loop .outliers }) }) (c .before .loop .k) (c .before .loop .inv) (omega (arith, c .before .loop .inv .upto, c .loop-test .left)) (sums-room (at-args .kinds .now) (at-args .words .now) (at-args .numbers .now) (at-args .width) (buffersIn m) (at-pre))
+    all (at-args .kinds .now) (at-args .words .now) (at-args .numbers .now) (at-args .width) m (at-open .result) _ (at-open .ensures) _ (ap (λ z. z .count) (c .before .before .record-change .ensures)) _ (record { xs = c .before .loop .xs; ys = c .before .loop .ys; sums = c .before .loop .sums; results = c .before .loop .results; outputs = (record { scratch = c .before .loop .scratch; coefficients = c .before .loop .coefficients; errors = c .before .loop .errors; pruned = c .before .loop .pruned; lower = c .before .loop .lower; upper = c .before .loop .upper; outliers = c .before .loop .outliers }) }) (c .before .loop .k) (c .before .loop .inv) (omega (arith, c .before .loop .inv .upto, c .loop-test .left)) (sums-room (at-args .kinds .now) (at-args .words .now) (at-args .numbers .now) (at-args .width) (buffersIn m) (at-pre))
 
 pub run-spec : {M : Type 1} → statement M
 run-spec =

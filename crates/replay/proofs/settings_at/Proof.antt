@@ -1,6 +1,6 @@
+-- `replay::settings_at` meets its contract.
 use Prim.Native.Nat.{_-_}
 use borrow.Author.Needs.{needs}
-use lib.ListN.{set}
 use Rattle.replay.specs.Records.{settingsAt}
 use Rattle.replay.proofs.settings_at.Statement.{statement}
 use Rattle.replay.proofs.settings_at.Tie as tie

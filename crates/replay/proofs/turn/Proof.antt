@@ -1,11 +1,6 @@
+-- `replay::turn` meets its contract.
 use mathlib.Core.Path.{refl, sym, subst}
 use Prim.Native.Nat.{_-_, _*_}
-use native.Mathlib.Omega.{arith}
-use borrow.Author.Needs.{needs}
-use lib.ListN.{length, set, take, drop}
-use lib.Ieee.{add, sub, mul}
-use mathlib.Core.Path.{refl, sym, subst}
-use Prim.Native.Nat.{_*_}
 use native.Mathlib.Omega.{arith}
 use borrow.Author.Needs.{needs}
 use lib.ListN.{length-take, length-drop}
@@ -119,12 +114,6 @@ mul-put c =
     let at-good = c .before .before .before .before .before .before .before .before .before .before .before .before .before .before .before .before .before .before .before .before .before .before .before .before .before .before .before .before .before .before .before .good in
     omega (arith, at-pre .1, at-good .1 .1 .1 .1 .1 .1 .1 .1 .1 .0)
 
-sub-put : tie.Need-sub-put
-sub-put c = search needs
-
-part-put-start : tie.Need-part-put-start
-part-put-start c = search needs
-
 part-put-end : tie.Need-part-put-end
 part-put-end c =
     let at-pre = c .before .before .before .before .before .before .before .before .before .before .before .before .before .before .before .before .before .before .before .before .before .before .before .before .before .before .before .before .before .before .before .pre in
@@ -150,9 +139,6 @@ same-length-3 : tie.Need-same-length-3
 same-length-3 c =
     let at-change = c .before .before .before .before .before .before .before .before .before .before .change in
     at-change .kept .1 .1 .1 .1 .1 .1 .1 .1 .1 .0
-
-same-length-4 : tie.Need-same-length-4
-same-length-4 c = search needs
 
 returns : tie.Need-returns
 returns c =
@@ -182,12 +168,6 @@ mul-put-2 c =
     let at-good = c .before .before .before .before .before .before .before .before .before .before .before .before .before .before .before .before .before .before .before .before .before .before .before .before .before .before .before .before .before .before .before .before .before .before .before .before .before .before .before .before .before .before .before .good in
     omega (arith, at-pre .1, at-good .1 .1 .1 .1 .1 .1 .1 .1 .1 .0)
 
-sub-put-2 : tie.Need-sub-put-2
-sub-put-2 c = search needs
-
-part-put-start-2 : tie.Need-part-put-start-2
-part-put-start-2 c = search needs
-
 part-put-end-2 : tie.Need-part-put-end-2
 part-put-end-2 c =
     let at-pre = c .before .before .before .before .before .before .before .before .before .before .before .before .before .before .before .before .before .before .before .before .before .before .before .before .before .before .before .before .before .before .before .before .before .before .before .before .before .before .before .before .before .before .before .pre in
@@ -207,9 +187,6 @@ same-length-6 c = refl
 
 same-length-7 : tie.Need-same-length-7
 same-length-7 c = refl
-
-same-length-8 : tie.Need-same-length-8
-same-length-8 c = search needs
 
 same-length-9 : tie.Need-same-length-9
 same-length-9 c =
@@ -277,26 +254,26 @@ turn-spec =
     shared-slice-read-y
     change-requires
     mul-put
-    sub-put
-    part-put-start
+    (λ c. search needs)
+    (λ c. search needs)
     part-put-end
     put-requires
     same-length
     same-length-2
     same-length-3
-    same-length-4
+    (λ c. search needs)
     returns
     mul-report-at
     report-at-requires
     mul-put-2
-    sub-put-2
-    part-put-start-2
+    (λ c. search needs)
+    (λ c. search needs)
     part-put-end-2
     put-requires-2
     same-length-5
     same-length-6
     same-length-7
-    same-length-8
+    (λ c. search needs)
     same-length-9
     same-length-10
     same-length-11

@@ -1,9 +1,9 @@
+-- `report::report` meets its contract.
 use mathlib.Core.Path.{sym}
 use Prim.Native.Nat.{_-_}
 use native.Mathlib.Omega.{arith}
 use borrow.Author.Needs.{needs}
-use lib.ListN.{length, set, take}
-use mathlib.Core.Path.{sym}
+use lib.ListN.{take}
 use lib.Seq.{length-take-le}
 use Rattle.samples.specs.Samples.{samplesOf}
 use Rattle.report.proofs.Choosing.{chosen-below}

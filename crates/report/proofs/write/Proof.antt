@@ -1,10 +1,9 @@
+-- `report::write` meets its contract.
 use mathlib.Core.Path.{_≡_, sym, ap, _∙_}
 use Prim.Native.Nat.{_-_}
 use native.Mathlib.Omega.{arith}
 use borrow.Author.Needs.{needs}
-use lib.ListN.{length, set}
-use lib.Ieee.{sub}
-use mathlib.Core.Path.{_≡_, sym, ap, _∙_}
+use lib.ListN.{length}
 use Rattle.statistics.specs.Variances.{stddevAndMean}
 use Rattle.basis.specs.CountLaws.{curve-count}
 use Rattle.basis.specs.declared.Basis.the-variants.{Curve}

@@ -1,6 +1,6 @@
+-- `settings::numbered` meets its contract.
 use Prim.Native.Nat.{_-_}
 use borrow.Author.Needs.{needs}
-use lib.ListN.{set}
 use Rattle.settings.specs.Numbers.{settingsOf}
 use Rattle.settings.proofs.numbered.Statement.{statement}
 use Rattle.settings.proofs.numbered.Tie as tie

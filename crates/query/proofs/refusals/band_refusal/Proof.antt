@@ -1,10 +1,8 @@
+-- `query::refusals::band_refusal` meets its contract.
 use mathlib.Core.Path.{refl, sym, ap, ap₂, _∙_}
 use mathlib.Core.Bool.{not, _&&_}
 use Prim.Native.Nat.{_-_}
 use borrow.Author.Needs.{needs}
-use lib.ListN.{take}
-use mathlib.Core.Path.{refl, sym, ap, ap₂, _∙_}
-use mathlib.Core.Bool.{not, _&&_}
 use lib.Dec.{eqb}
 use Rattle.samples.specs.SampleLaws.{xs-of-samples}
 use Rattle.refusal.specs.Laws.{first-of, first-end, first-holds, first-fails}

@@ -1,3 +1,4 @@
+-- `query::refusals::band_short` meets its contract.
 use Prim.Native.Nat.{_-_}
 use borrow.Author.Needs.{needs}
 use Rattle.refusal.specs.Rooms.{short-of, short-end, short-is}

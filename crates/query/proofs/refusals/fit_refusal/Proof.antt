@@ -1,10 +1,8 @@
+-- `query::refusals::fit_refusal` meets its contract.
 use mathlib.Core.Path.{refl, sym, ap, _∙_}
 use mathlib.Core.Bool.{not}
 use Prim.Native.Nat.{_-_}
 use borrow.Author.Needs.{needs}
-use lib.ListN.{take}
-use mathlib.Core.Path.{refl, sym, ap, _∙_}
-use mathlib.Core.Bool.{not}
 use lib.Dec.{eqb}
 use Rattle.refusal.specs.Laws.{first-of, first-end, first-holds, first-fails}
 use Rattle.refusal.specs.Rooms.{room}

@@ -1,10 +1,8 @@
+-- `query::refusals::validate_refusal` meets its contract.
 use mathlib.Core.Path.{sym, ap, _∙_}
 use mathlib.Core.Bool.{not}
 use Prim.Native.Nat.{_-_}
 use borrow.Author.Needs.{needs}
-use lib.ListN.{take}
-use mathlib.Core.Path.{sym, ap, _∙_}
-use mathlib.Core.Bool.{not}
 use Rattle.refusal.specs.Laws.{first-of, first-end, first-holds, first-fails}
 use Rattle.refusal.specs.Rooms.{room}
 use Rattle.query.specs.Refusals.{validateRefusal}

@@ -1,10 +1,8 @@
+-- `report::refusals::report_refusal` meets its contract.
 use mathlib.Core.Path.{refl, sym, ap, ap₂, _∙_}
 use mathlib.Core.Bool.{Bool, not, _&&_}
 use Prim.Native.Nat.{_-_}
 use borrow.Author.Needs.{needs}
-use lib.ListN.{take}
-use mathlib.Core.Path.{refl, sym, ap, ap₂, _∙_}
-use mathlib.Core.Bool.{Bool, not, _&&_}
 use lib.Dec.{eqb}
 use Rattle.refusal.specs.Laws.{first-of, first-end, first-holds, first-fails}
 use Rattle.refusal.specs.Rooms.{room}

@@ -1,3 +1,4 @@
+-- `report::refusals::report_short` meets its contract.
 use Prim.Native.Nat.{_-_}
 use borrow.Author.Needs.{needs}
 use Rattle.refusal.specs.Rooms.{short-of, short-end, short-is}
