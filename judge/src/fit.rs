@@ -70,6 +70,9 @@ pub fn losses(residuals: &[f64]) -> Vec<f64> {
 
 /// AIC or BIC, with k and the number n of samples scored.
 pub fn score(criterion: Criterion, residuals: &[f64], k: usize) -> f64 {
+    if residuals.is_empty() {
+        return f64::NAN;
+    }
     let mut total = 0.0;
     for loss in losses(residuals) {
         total += loss;

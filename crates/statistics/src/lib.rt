@@ -104,7 +104,7 @@ pub fn max_degree(bound: DegreeBound, n: usize) -> Degree
 }
 
 // The median of the first n numbers, of which none is a NaN and none has a sign.
-pub fn median(a: &[f64], n: usize) -> f64
+fn median(a: &[f64], n: usize) -> f64
     requires { ⌜ (n ≤ length (now a)) × All Plain (take n (now a)) ⌝ }
     ensures { λ r. ⌜ r ≡ medianOf (take n (now (a .entry))) ⌝ }
 {
