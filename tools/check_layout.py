@@ -1,0 +1,165 @@
+#!/usr/bin/env python3
+"""Checks what a proof does not see: crates.txt, the must-fail edits, the layer table of docs/DESIGN.md, long contracts. Run in the repository's root.
+
+crates.txt: every crate folder is on it and the other way round, each crate after those it rests on. A line lists the crates that the crate's own files
+name, and may list those that declare the types which its code reaches, and no others: the prover finds what these rest on by itself.
+Edits: the first line is a comment that names an input; each `old:` text stands exactly once in its file.
+docs/DESIGN.md: the table of layers has every crate, in the order of crates.txt.
+Files: no contract line is longer than 300 characters; no comment of specs/ or proofs/ says that nothing is assumed, which the prover sees to.
+
+With --lines it prints crates.txt's lines as they should be, and checks nothing."""
+import re
+import sys
+from pathlib import Path
+
+KIT = {'check', 'libc', 'io', 'os', 'bytes'}
+LONGEST = 300
+CRATES = Path('crates')
+DESIGN = Path('docs/DESIGN.md')
+wrong = []
+
+
+def files(crate, parts):
+    return sorted(f for part in parts for f in (CRATES / crate / part).rglob('*') if f.suffix in ('.rt', '.antt'))
+
+
+def without_comments(path):
+    mark = r'//.*' if path.suffix == '.rt' else r'(^|\s)--.*'
+    return re.sub(mark, '', path.read_text(encoding='utf-8'), flags=re.M)
+
+
+def listed_crates():
+    crates = {}
+    for number, line in enumerate(Path('crates.txt').read_text(encoding='utf-8').splitlines(), 1):
+        line = line.split('#')[0].strip()
+        if not line:
+            continue
+        name, _, deps = line.partition(':')
+        for dep in deps.split():
+            if dep not in crates and dep not in KIT:
+                wrong.append(f'crates.txt:{number}: {name} stands before {dep}, on which it rests, or there is no {dep}')
+        crates[name.strip()] = deps.split()
+    return crates
+
+
+def code_of(crate):
+    return '\n'.join(without_comments(f) for f in files(crate, ['src']))
+
+
+# The libraries that a crate names: `NAME::` in its code, where no module of its own has that name, and `Rattle.NAME` in contracts, definitions and proofs.
+def named_by(crate, libraries):
+    code = code_of(crate)
+    paths = set(re.findall(r'(?<![\w:])(\w+)::', code)) - set(re.findall(r'\bmod (\w+);', code))
+    logic = {name for f in files(crate, ['src', 'specs', 'proofs']) for name in re.findall(r'Rattle·(\w+)', without_comments(f))}
+    return (paths & libraries | logic) - {crate, 'std'}
+
+
+# What a crate's code uses of others: (NAME, item) for `NAME::item`.
+def items_of(code, crates):
+    return {(name, item) for name, item in re.findall(r'(?<![\w:])(\w+)::(\w+)', code) if name in crates}
+
+
+# The crates that declare the types which a crate's code reaches without naming them: in the signatures of the functions that it calls, and in the fields
+# of the types there. The prover asks for some of these on the crate's line.
+def reached_by(crate, crates):
+    todo, seen = items_of(code_of(crate), crates), set()
+    while todo:
+        name, item = todo.pop()
+        seen.add((name, item))
+        code = code_of(name)
+        types = {**{item: name for item in re.findall(r'\bpub (?:struct|enum) (\w+)', code)}, **{item: of for of, item in items_of(code, crates)}}
+        for text in re.findall(rf'\bpub (?:fn {item}\b.*?(?=\bensures\b|\brequires\b|{{)|struct {item}\b.*?[;}}]|enum {item}\b.*?^}})', code, re.S | re.M):
+            todo |= {(types[word], word) for word in re.findall(r'\b[A-Z]\w*', text) if word in types} - seen
+    return {name for name, item in seen if item[0].isupper()} - {crate}
+
+
+def check_crates(crates):
+    folders = {d.name for d in CRATES.iterdir() if d.is_dir()}
+    wrong.extend(f'crates.txt: crates/{name} is not on it' for name in sorted(folders - crates.keys()))
+    wrong.extend(f'crates.txt: there is no crates/{name}' for name in sorted(crates.keys() - folders))
+    for crate in (name for name in crates if name in folders):
+        deps, named, reached = crates[crate], named_by(crate, crates.keys() | KIT), reached_by(crate, crates)
+        wrong.extend(f'crates.txt: {crate} lists {dep}, and neither names it nor reaches a type of it' for dep in deps if dep not in named | reached)
+        wrong.extend(f'crates.txt: {crate} names {dep}, and does not list it' for dep in sorted(named - set(deps)))
+        wrong.extend(f'crates.txt: {crate} lists {dep} twice' for dep in sorted({d for d in deps if deps.count(d) > 1}))
+
+
+def check_edit(path):
+    crate, texts, pairs, file, old = path.parent.parent, {}, 0, None, None
+    lines = path.read_text(encoding='utf-8').splitlines()
+    if not lines or not re.match(r'# .*\d', lines[0]):
+        wrong.append(f'{path}: the first line is no comment that names an input, with its numbers')
+    for line in lines:
+        if line.startswith('file: '):
+            file = crate / line[len('file: '):]
+        elif line.startswith('old: '):
+            old = line[len('old: '):]
+        elif line.startswith('new:'):
+            if file is None or not file.is_file() or file.relative_to(crate).parts[0] not in ('src', 'specs'):
+                wrong.append(f'{path}: no file of src/ or specs/ is named')
+                return
+            text = texts.get(file) or file.read_text(encoding='utf-8')
+            count = text.count(old) if old else 0
+            if count != 1:
+                wrong.append(f'{path}: the old text stands {count} times in {file}, and not once')
+                return
+            texts[file] = text.replace(old, re.sub('^new: ?', '', line))
+            old, pairs = None, pairs + 1
+    if pairs == 0:
+        wrong.append(f'{path}: it changes nothing')
+
+
+def check_edits(crates):
+    edits = 0
+    for crate in crates:
+        for path in sorted((CRATES / crate / 'must-fail').glob('*')):
+            if path.suffix == '.edit':
+                check_edit(path)
+                edits += 1
+            else:
+                wrong.append(f'{path}: not NAME.edit, so nothing tries it')
+    return edits
+
+
+def check_design(crates):
+    part = DESIGN.read_text(encoding='utf-8').split('## Layers')[-1].split('\n## ')[0]
+    rows = re.findall(r'^\| `(\w+)` \|', part, re.M)
+    wrong.extend(f'{DESIGN}: the layers have no row for {name}' for name in crates if name not in rows)
+    wrong.extend(f'{DESIGN}: the layers have a row for {name}, which is no crate' for name in rows if name not in crates)
+    for ours, theirs in zip(rows, crates):
+        if sorted(rows) == sorted(crates) and ours != theirs:
+            wrong.append(f'{DESIGN}: the layers have {ours} where crates.txt has {theirs}')
+            break
+
+
+def check_files(crates):
+    for crate in crates:
+        for path in files(crate, ['src']):
+            for number, line in enumerate(path.read_text(encoding='utf-8').splitlines(), 1):
+                if '⌜' in line and len(line) > LONGEST:
+                    wrong.append(f'{path}:{number}: a contract line of {len(line)} characters, where {LONGEST} is the most')
+        for path in files(crate, ['specs', 'proofs']):
+            if 'Assumes nothing.' in path.read_text(encoding='utf-8'):
+                wrong.append(f'{path}: it says `Assumes nothing.`, which holds of every file')
+
+
+def main():
+    crates = listed_crates()
+    if sys.argv[1:] == ['--lines']:
+        for crate in crates:
+            named = named_by(crate, crates.keys() | KIT) | reached_by(crate, crates)
+            print(f'{crate}:', *[name for name in [*crates, *sorted(KIT)] if name in named])
+        return 0
+    check_crates(crates)
+    edits = check_edits(crates)
+    check_design(crates)
+    check_files(crates)
+    for line in wrong:
+        print('layout:', line)
+    if wrong:
+        return 1
+    print(f'layout: {len(crates)} crates and {edits} edits: dependencies, old texts, table of layers and contract lines are in order')
+    return 0
+
+
+sys.exit(main())
