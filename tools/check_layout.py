@@ -1,8 +1,8 @@
 #!/usr/bin/env python3
 """Checks what a proof does not see: crates.txt, the must-fail edits, the layer table of docs/DESIGN.md, long contracts. Run in the repository's root.
 
-crates.txt: every crate folder is on it and the other way round, each crate after those it rests on. A line lists the crates that the crate's own files
-name, and may list those that declare the types which its code reaches, and no others: the prover finds what these rest on by itself.
+crates.txt: every crate folder is on it and the other way round, each crate after those it rests on. A line lists the libraries that the crate's own
+files name, may list those that declare the types which its code reaches, and no others: the prover finds what these rest on by itself.
 Edits: the first line is a comment that names an input; each `old:` text stands exactly once in its file.
 docs/DESIGN.md: the table of layers has every crate, in the order of crates.txt.
 Files: no contract line is longer than 300 characters; no comment of specs/ or proofs/ says that nothing is assumed, which the prover sees to.
@@ -10,6 +10,7 @@ Files: no contract line is longer than 300 characters; no comment of specs/ or p
 With --lines it prints crates.txt's lines as they should be, and checks nothing."""
 import re
 import sys
+from itertools import zip_longest
 from pathlib import Path
 
 KIT = {'check', 'libc', 'io', 'os', 'bytes'}
@@ -46,7 +47,8 @@ def code_of(crate):
     return '\n'.join(without_comments(f) for f in files(crate, ['src']))
 
 
-# The libraries that a crate names: `NAME::` in its code, where no module of its own has that name, and `Rattle.NAME` in contracts, definitions and proofs.
+# The libraries that a crate names: `NAME::` in its code, where no module of its own has that name, and `Rattle.NAME` in contracts, definitions and
+# proofs.
 def named_by(crate, libraries):
     code = code_of(crate)
     paths = set(re.findall(r'(?<![\w:])(\w+)::', code)) - set(re.findall(r'\bmod (\w+);', code))
@@ -54,22 +56,30 @@ def named_by(crate, libraries):
     return (paths & libraries | logic) - {crate, 'std'}
 
 
-# What a crate's code uses of others: (NAME, item) for `NAME::item`.
-def items_of(code, crates):
+# What code uses of the crates: (NAME, item) for `NAME::item`.
+def items_in(code, crates):
     return {(name, item) for name, item in re.findall(r'(?<![\w:])(\w+)::(\w+)', code) if name in crates}
 
 
-# The crates that declare the types which a crate's code reaches without naming them: in the signatures of the functions that it calls, and in the fields
-# of the types there. The prover asks for some of these on the crate's line.
+# The types in a function's signature, or in a type's fields and methods: (NAME, type), NAME the crate that declares it.
+def types_of(crate, item, crates):
+    code = code_of(crate)
+    owner = {name: crate for name in re.findall(r'\bpub (?:struct|enum) (\w+)', code)}
+    owner.update({name: of for of, name in items_in(code, crates)})
+    function = rf'\bpub fn {item}\b.*?(?=\brequires\b|\bensures\b|{{)'
+    fields = rf'\bpub (?:struct|enum) {item}\b.*?(?:^}}|\);$)'
+    methods = rf'^impl {item}\b.*?^}}'
+    texts = re.findall(f'{function}|{fields}|{methods}', code, re.S | re.M)
+    return {(owner[word], word) for text in texts for word in re.findall(r'\b[A-Z]\w*', text) if word in owner}
+
+
+# The crates that declare the types which a crate's code reaches, named or not: the prover asks for some of these on the crate's line.
 def reached_by(crate, crates):
-    todo, seen = items_of(code_of(crate), crates), set()
+    todo, seen = items_in(code_of(crate), crates), set()
     while todo:
         name, item = todo.pop()
         seen.add((name, item))
-        code = code_of(name)
-        types = {**{item: name for item in re.findall(r'\bpub (?:struct|enum) (\w+)', code)}, **{item: of for of, item in items_of(code, crates)}}
-        for text in re.findall(rf'\bpub (?:fn {item}\b.*?(?=\bensures\b|\brequires\b|{{)|struct {item}\b.*?[;}}]|enum {item}\b.*?^}})', code, re.S | re.M):
-            todo |= {(types[word], word) for word in re.findall(r'\b[A-Z]\w*', text) if word in types} - seen
+        todo |= types_of(name, item, crates) - seen
     return {name for name, item in seen if item[0].isupper()} - {crate}
 
 
@@ -126,10 +136,9 @@ def check_design(crates):
     rows = re.findall(r'^\| `(\w+)` \|', part, re.M)
     wrong.extend(f'{DESIGN}: the layers have no row for {name}' for name in crates if name not in rows)
     wrong.extend(f'{DESIGN}: the layers have a row for {name}, which is no crate' for name in rows if name not in crates)
-    for ours, theirs in zip(rows, crates):
-        if sorted(rows) == sorted(crates) and ours != theirs:
-            wrong.append(f'{DESIGN}: the layers have {ours} where crates.txt has {theirs}')
-            break
+    if set(rows) == crates.keys() and rows != [*crates]:
+        ours, theirs = next(pair for pair in zip_longest(rows, crates, fillvalue='no more') if pair[0] != pair[1])
+        wrong.append(f'{DESIGN}: the layers have {ours} where crates.txt has {theirs}')
 
 
 def check_files(crates):
