@@ -2,7 +2,7 @@
 use mathlib.Core.Path.{_≡_, refl, ap, _∙_}
 use mathlib.Core.List.{List, []}
 use lib.ListN.{length}
-use Rattle.runs.specs.Runs.{replies-at}
+use Rattle.runs.specs.RunLaws.{replies-at}
 use Rattle.samples.specs.Samples.{Sample}
 use Rattle.settings.specs.declared.Settings.{Settings}
 use Rattle.report.specs.declared.Places.{Places}

@@ -6,7 +6,7 @@ use Prim.Native.Nat.{ℕ, zero, suc, _≤_}
 use native.Mathlib.Omega.{arith}
 use lib.ListN.{length, getD, take, drop, length-map, length-append, length-drop}
 use lib.Ieee.{Float, nan}
-use Rattle.runs.specs.Runs.{agree, remembered}
+use Rattle.runs.specs.RunLaws.{agree, remembered}
 use Rattle.samples.specs.Samples.{Sample}
 use Rattle.monomial.specs.Sums.{sumsOf}
 use Rattle.monomial.specs.SumLaws.{length-sums}

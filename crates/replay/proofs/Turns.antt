@@ -11,7 +11,8 @@ use lib.Ieee.{Float, nan}
 use Rattle.loops.specs.Fold.{fold}
 use Rattle.loops.specs.FoldLaws.{fold-table}
 use Rattle.loops.specs.Places.{table, length-table}
-use Rattle.runs.specs.Runs.{replies as repliesOf, length-replies, replies-table}
+use Rattle.runs.specs.Runs.{replies as repliesOf}
+use Rattle.runs.specs.RunLaws.{length-replies, replies-table}
 use Rattle.lent.specs.Written.{over}
 use Rattle.book.specs.declared.Answer.{Answer}
 use Rattle.book.specs.Refusals.{openRefusal}

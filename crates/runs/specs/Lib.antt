@@ -1,2 +1,3 @@
 -- Machines over lists of calls.
 pub mod Runs
+pub mod RunLaws
