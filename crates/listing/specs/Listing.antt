@@ -3,6 +3,8 @@ use mathlib.Core.List.{List, [], _∷_, _++_, flatten}
 use Prim.Native.Nat.{ℕ, _+_, min}
 use lib.Ieee.{Float, nan}
 use lib.ListN.{length, getD}
+use Rattle.basis.specs.Counts.{countOf}
+use Rattle.basis.specs.declared.Basis.the-variants.{Curve}
 use Rattle.loops.specs.Places.{table}
 use Rattle.listing.specs.Text.{ascii, decimal, bitsOf, line}
 
@@ -16,7 +18,7 @@ cLines k cs es = flatten (table (λ i. cLine i (getD cs i nan) (getD es i nan)) 
 
 -- how many: 0 to the chosen degree, where there are as many coefficients and errors
 abbrev pub cCount : ℕ → List Float → List Float → ℕ
-cCount degree cs es = min (degree + 1) (min (length cs) (length es))
+cCount degree cs es = min (countOf Curve degree) (min (length cs) (length es))
 
 -- samples, chosen degree, c lines, outliers, pruned terms
 unfoldable pub listing : ℕ → ℕ → List Float → List Float → ℕ → ℕ → List ℕ

@@ -5,6 +5,8 @@ use Prim.Native.Nat.{ℕ, zero, suc, _+_, _*_, _≤_, _<_}
 use native.Mathlib.Omega.{arith}
 use lib.Ieee.{Float, nan, ofBits, toBits}
 use lib.ListN.{length, getD, replicate, length-append}
+use Rattle.basis.specs.Counts.{countOf}
+use Rattle.basis.specs.CountLaws.{curve-count}
 use Rattle.loops.specs.Digits.{digits}
 use Rattle.loops.specs.Places.{table}
 use Rattle.value.specs.Numbers.{zeroF, oneF}
@@ -24,7 +26,7 @@ c-again i cs es = flatten-again (λ j. cLine j (getD cs j nan) (getD es j nan)) 
 
 -- a c line for each coefficient up to the degree, where the lists have one
 pub c-count : (degree : ℕ) (cs es : List Float) → degree < length cs → degree < length es → cCount degree cs es ≡ degree + 1
-c-count degree cs es h g = omega arith
+c-count degree cs es h g = omega (arith, curve-count degree)
 
 -- a c line has at most 57 bytes, the listing of a degree up to 15 at most 1,021, and a refusal's at most 29
 length-c : (i : ℕ) (c e : Float) → length (cLine i c e) ≤ 57
@@ -64,6 +66,7 @@ listing-short n degree cs es outliers pruned h =
       length-decimal outliers,
       length-decimal pruned,
       length-cs (cCount degree cs es) cs es,
+      curve-count degree,
     )
 
 pub refused-short : (r : ℕ) → length (refusedLine r) ≤ 29
@@ -73,7 +76,7 @@ refused-short r = omega (arith, length-line (ascii "refused") (decimal r), lengt
 -- 01's example, x = y = 0, 1, 2, 3, 4: the report writes 16 coefficients and 16 errors
 pub example : listing 5 1 (zeroF ∷ oneF ∷ replicate 14 zeroF) (replicate 16 zeroF) 0 0
     ≡ ascii "n 5\ndegree 1\nc 0 0000000000000000 0000000000000000\nc 1 3FF0000000000000 0000000000000000\noutliers 0\npruned 0\n"
-unfolding listing cLines cLine flatten table line fields ascii decimal decimalIn bitsOf hexadecimal digits toBits ofBits
+unfolding countOf listing cLines cLine flatten table line fields ascii decimal decimalIn bitsOf hexadecimal digits toBits ofBits
 example = refl
 
 pub nan-prints : bitsOf nan ≡ ascii "7FF8000000000000"

@@ -1,8 +1,9 @@
 -- `listing::write_listing` meets its contract.
-use mathlib.Core.Path.{ap, _∙_}
+use mathlib.Core.Path.{sym, ap₂, ap, _∙_}
 use Prim.Native.Nat.{_+_, min}
 use native.Mathlib.Omega.{arith}
 use borrow.Author.Needs.{needs}
+use Rattle.basis.specs.CountLaws.{curve-count}
 use Rattle.listing.specs.Text.{ascii}
 use Rattle.listing.specs.Listing.{cLines, listing}
 use Rattle.listing.specs.WritingLaws.{then, wrote-same}
@@ -26,7 +27,7 @@ returns c =
     let at-put-line = c .before .before .before .before .before .before .before .before .before .before .before .before .before .before .before .before .before .before .before .before .before .before .before .before .put-line in
     let at-put-line2 = c .before .before .before .before .before .before .before .before .before .before .before .before .before .before .before .before .before .before .put-line2 in
     let at-put-line3 = c .before .before .before .before .before .before .before .before .put-line3 in
-    let k = at-c-count .ensures ∙ ap (λ z. min (at-args .degree .0 + 1) z) (at-smaller .ensures) in
+    let k = at-c-count .ensures ∙ ap₂ min (sym (curve-count (at-args .degree .0))) (at-smaller .ensures) in
     let cl = wrote-same (ap (λ z. cLines z (at-args .coefficients .now) (at-args .errors .now)) k) (at-put-c-lines .ensures) in
     then (omega (arith, at-good)) (at-put-line .ensures) (λ h. then h (at-put-line2 .ensures) (λ l. then l cl (λ m. then m (at-put-line3 .ensures) (λ _. c .before .before .put-line4 .ensures))))
 
