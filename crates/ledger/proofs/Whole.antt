@@ -15,7 +15,7 @@ use Rattle.book.specs.Refusals.{openRefusal}
 use Rattle.book.specs.RefusalLaws.{open-room}
 use Rattle.book.specs.Calls.{State, stateOf, bookOf, openOut}
 use Rattle.samples.specs.Columns.{Column, ofX, ofY, value, columnsOf}
-use Rattle.ledger.specs.Ledger.{Call, changes, reads, said, told, Reading, Lent, lentOf, next, reply, program, final, replies, opened, ledgerNext, ledgerReply, ledger, ledgerEnd, ledgerReplies, seen, held, Agrees, WholeList}
+use Rattle.ledger.specs.Ledger.{Call, changes, reads, said, told, Reading, Lent, lentOf, next, reply, program, final, programReplies, opened, ledgerNext, ledgerReply, ledger, ledgerEnd, ledgerReplies, seen, held, Agrees, WholeList}
 use Rattle.ledger.proofs.Lists.{seen-is, seen-kept, sums-first, sums-rest}
 use Rattle.ledger.proofs.Steps.{Holds, Leaves, leaves-all, held-by, step}
 
@@ -36,7 +36,7 @@ module _ {R W : Type 0} (readOn : Reading R W) (m : Lent) (rest : List Float) wh
 
   -- any list of calls, from a state that holds a ledger
   whole-from : (s : State) (l : List Sample) → Holds m rest l s → (cs : List (Call R))
-      → (replies readOn s cs ≡ ledgerReplies readOn m l cs) × Holds m rest (ledgerEnd m l cs) (final s cs)
+      → (programReplies readOn s cs ≡ ledgerReplies readOn m l cs) × Holds m rest (ledgerEnd m l cs) (final s cs)
   whole-from s l h cs =
       agree (program readOn) (ledger readOn m) (λ t k. Holds m rest k t) (λ t k c g. (reply-next t k c g, leaves-next t k c g .holds)) s l h cs
 

@@ -84,8 +84,8 @@ program readOn = record { step = next; reply = reply readOn }
 abbrev pub final : {R : Type 0} → State → List (Call R) → State
 final s cs = fold next s cs
 
-abbrev pub replies : {R W : Type 0} → Reading R W → State → List (Call R) → List (Reply W)
-replies readOn s cs = repliesOf (program readOn) s cs
+abbrev pub programReplies : {R W : Type 0} → Reading R W → State → List (Call R) → List (Reply W)
+programReplies readOn s cs = repliesOf (program readOn) s cs
 
 -- a book just opened, over columns that hold anything
 abbrev pub opened : List Float → List Float → List Float → State
@@ -154,7 +154,7 @@ held f v m l cs p = fold (λ u k. seen u (map f k) p) v (history (ledgerNext m) 
 
 pub record Agrees {R W : Type 0} (readOn : Reading R W) (xs₀ ys₀ sums₀ : List Float) (s : State) (l : List Sample) (cs : List (Call R)) : Type 0 where
   -- Each call's answer, and each place that a report writes, is the ledger's.
-  pub answered : replies readOn s cs ≡ ledgerReplies readOn (lentOf xs₀ ys₀ sums₀) l cs
+  pub answered : programReplies readOn s cs ≡ ledgerReplies readOn (lentOf xs₀ ys₀ sums₀) l cs
   -- After the list, the book is the ledger's length,
   pub book : final s cs .count ≡ length (ledgerEnd (lentOf xs₀ ys₀ sums₀) l cs)
   -- the column places below it hold the ledger's samples,

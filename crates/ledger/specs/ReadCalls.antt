@@ -22,16 +22,16 @@ pub data ReadCall : Type 0 where
 
 -- the answer and every value written
 pub data Told : Type 0 where
-  fitted : FitOut → Told
-  banded : BandOut → Told
-  reported : ReportOut → Told
+  fitReply : FitOut → Told
+  bandReply : BandOut → Told
+  reportReply : ReportOut → Told
 
 -- what each answers and writes, from the count, the samples, the 272 sums, and the lengths of the columns and of the sums: the definitions that the
 -- contracts of `fit`, `validate`, `band` and `report` promise
 unfoldable pub readOn : Reading ReadCall Told
-readOn (fits degree scratch coefficients) n samples sums columns places = fitted (fitOn n degree samples sums columns places scratch coefficients)
+readOn (fits degree scratch coefficients) n samples sums columns places = fitReply (fitOn n degree samples sums columns places scratch coefficients)
 readOn (validates folds bound criterion scratch coefficients) n samples sums columns places =
-    fitted (validateOn n folds bound criterion samples sums columns places scratch coefficients)
+    fitReply (validateOn n folds bound criterion samples sums columns places scratch coefficients)
 readOn (bands x degree confidence tolerance scratch) n samples sums columns places =
-    banded (bandFor n x degree confidence tolerance samples sums columns places scratch)
-readOn (reports settings lent) n samples sums columns places = reported (reportOn n settings samples sums columns places lent)
+    bandReply (bandFor n x degree confidence tolerance samples sums columns places scratch)
+readOn (reports settings lent) n samples sums columns places = reportReply (reportOn n settings samples sums columns places lent)

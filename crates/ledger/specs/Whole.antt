@@ -12,8 +12,8 @@ use Rattle.settings.specs.declared.Settings.{Settings}
 use Rattle.report.specs.declared.Places.{Places}
 use Rattle.report.specs.Refusals.{reportRefusal}
 use Rattle.report.specs.Reports.{ReportOut, reportOn}
-use Rattle.ledger.specs.Ledger.{Call, reads, Reply, told, Lent, lentOf, replies, opened, ledgerEnd, ledgerReplies, Agrees}
-use Rattle.ledger.specs.ReadCalls.{ReadCall, Told, reports, reported, readOn}
+use Rattle.ledger.specs.Ledger.{Call, reads, Reply, told, Lent, lentOf, programReplies, opened, ledgerEnd, ledgerReplies, Agrees}
+use Rattle.ledger.specs.ReadCalls.{ReadCall, Told, reports, reportReply, readOn}
 use Rattle.ledger.specs.Words.{Words}
 
 -- a report of the plain ledger
@@ -24,7 +24,7 @@ ledgerReport m l settings places = reportOn (length l) settings l (sumsOf (rowsO
 pub record ReportedIn (m : Lent) (before : List (Call ReadCall)) (settings : Settings) (places : Places) (all : List (Reply Told)) : Type 0 where
   -- its reply comes after theirs, and is the report of the ledger that they leave;
   pub later : List (Reply Told)
-  pub stands : all ≡ ledgerReplies readOn m [] before ++ (told (reported (ledgerReport m (ledgerEnd m [] before) settings places)) ∷ later)
+  pub stands : all ≡ ledgerReplies readOn m [] before ++ (told (reportReply (ledgerReport m (ledgerEnd m [] before) settings places)) ∷ later)
   -- if it passes refusals 1 to 9, demand 3's words hold of it
   pub words : reportRefusal (length (ledgerEnd m [] before)) settings (ledgerEnd m [] before) (m .columns) (m .sums) places ≡ 0
       → Words settings (ledgerEnd m [] before) (ledgerReport m (ledgerEnd m [] before) settings places)
@@ -36,7 +36,7 @@ pub record WholeBook (xs ys sums : List Float) (cs : List (Call ReadCall)) : Typ
   -- each report in it
   pub each-report : (before : List (Call ReadCall)) (settings : Settings) (places : Places) (after : List (Call ReadCall))
       → cs ≡ before ++ (reads (reports settings places) ∷ after)
-      → ReportedIn (lentOf xs ys sums) before settings places (replies readOn (opened xs ys sums) cs)
+      → ReportedIn (lentOf xs ys sums) before settings places (programReplies readOn (opened xs ys sums) cs)
 
 -- Take any list of adds, corrections, withdrawals, frames, fits, validations, bands and reports, refused ones included, in any order, from a book just
 -- opened.

@@ -36,8 +36,8 @@ module _ (settings : Settings) (samples : List Sample) where
   abbrev pub scored : ℕ → Scored
   scored d = scoredBy (settings .criterion) ledgerSums (rowsOf samples) (rowsOf samples) (countOf Curve d)
 
-  abbrev pub least : Float
-  least = leastOf scored degrees
+  abbrev pub leastScore : Float
+  leastScore = leastOf scored degrees
 
   -- Chosen is the lowest solved degree within its bound whose score is at most 2 above a finite least.
   abbrev pub IsChosen : ℕ → Type 0
@@ -46,9 +46,9 @@ module _ (settings : Settings) (samples : List Sample) where
   -- the words, of what a report answers and writes
   pub record Words (o : ReportOut) : Type 0 where
     -- No solved degree within that bound scores below this least.
-    pub none-below : (d : ℕ) → d < degrees → scored d .solved ≡ true → lt (scored d .score) least ≡ false
+    pub none-below : (d : ℕ) → d < degrees → scored d .solved ≡ true → lt (scored d .score) leastScore ≡ false
     -- It is a solved degree's score, or +infinity.
-    pub attained : (least ≡ infinityF) ⊎ Attained scored degrees least
+    pub attained : (leastScore ≡ infinityF) ⊎ Attained scored degrees leastScore
     -- No two degrees are chosen.
     pub one-chosen : (d e : ℕ) → IsChosen d → IsChosen e → d ≡ e
     -- The report answers 11 exactly when none is chosen,

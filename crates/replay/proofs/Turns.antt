@@ -24,7 +24,7 @@ use Rattle.report.specs.declared.Places.{Places}
 use Rattle.report.specs.Reports.{reportOut}
 use Rattle.report.specs.Outputs.{Outputs, placesOf}
 use Rattle.refusal.specs.Tests.{anyShort}
-use Rattle.ledger.specs.Ledger.{Call, Reply, next, reply, program, final, replies, opened}
+use Rattle.ledger.specs.Ledger.{Call, Reply, next, reply, program, final, programReplies, opened}
 use Rattle.ledger.specs.ReadCalls.{ReadCall, Told, readOn}
 use Rattle.ledger.proofs.Book.{whole-book}
 use Rattle.replay.specs.declared.Done.{Done}
@@ -81,10 +81,10 @@ module _ (kinds words : List ℕ) (numbers : List Float) (width k n : ℕ) (m : 
 
 -- memory b that holds what the first k calls write gets what the next one writes
 written-more : {W : Type 0} (put : ℕ → Reply Told → W → W) (s₀ s : State) (g : ℕ → Call ReadCall) (k : ℕ) → s ≡ final s₀ (table g k) → (b₀ b b′ : W)
-    → b ≡ writeAll put 0 (replies readOn s₀ (table g k)) b₀ → b′ ≡ put k (reply readOn s (g k)) b
-    → b′ ≡ writeAll put 0 (replies readOn s₀ (table g (k + 1))) b₀
+    → b ≡ writeAll put 0 (programReplies readOn s₀ (table g k)) b₀ → b′ ≡ put k (reply readOn s (g k)) b
+    → b′ ≡ writeAll put 0 (programReplies readOn s₀ (table g (k + 1))) b₀
 written-more put s₀ s g k q b₀ b b′ e h =
-    let rs = replies readOn s₀ (table g k) in
+    let rs = programReplies readOn s₀ (table g k) in
     let r = reply readOn (final s₀ (table g k)) (g k) in
     let at : k ≡ 0 + length rs = sym (zero-add (length rs) ∙ length-replies (program readOn) s₀ (table g k) ∙ length-table g k) in
     h
@@ -118,8 +118,8 @@ pub record Upto (kinds words : List ℕ) (numbers : List Float) (width : ℕ) (s
   pub upto : k ≤ callCount kinds
   pub same : Same m₀ m
   pub state : stateOf n (m .xs) (m .ys) (m .sums) ≡ final s₀ (table (callAt kinds words numbers) k)
-  pub results : m .results ≡ writeAll putResults 0 (replies readOn s₀ (table (callAt kinds words numbers) k)) (m₀ .results)
-  pub outputs : m .outputs ≡ writeAll (putOutputs width) 0 (replies readOn s₀ (table (callAt kinds words numbers) k)) (m₀ .outputs)
+  pub results : m .results ≡ writeAll putResults 0 (programReplies readOn s₀ (table (callAt kinds words numbers) k)) (m₀ .results)
+  pub outputs : m .outputs ≡ writeAll (putOutputs width) 0 (programReplies readOn s₀ (table (callAt kinds words numbers) k)) (m₀ .outputs)
 
 module _ (kinds words : List ℕ) (numbers : List Float) (width : ℕ) where
   pub none : (n : ℕ) (m : Memory) → Upto kinds words numbers width (stateOf n (m .xs) (m .ys) (m .sums)) m n m 0

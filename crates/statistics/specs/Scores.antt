@@ -5,7 +5,7 @@ use lib.Dec.{eqb, leb}
 use lib.ListN.{getD}
 use lib.Ieee.{Float, binary64, round}
 use Rattle.value.specs.Numbers.{infinityF}
-use Rattle.statistics.specs.Table.{cell, zThousandths}
+use Rattle.statistics.specs.Table.{tableEntry, zThousandths}
 use Rattle.statistics.specs.declared.Confidence.{Confidence}
 use Rattle.statistics.specs.declared.Confidence.the-variants.{P80, P90, P95, P98, P99, P999, Custom}
 
@@ -29,7 +29,7 @@ zScore (Custom z) = z
 
 -- the entry for df degrees of freedom, from 1, in a column, from 0
 unfoldable pub entryAt : ℕ → ℕ → Float
-entryAt df col = milli (cell (df - 1) col)
+entryAt df col = milli (tableEntry (df - 1) col)
 
 -- the entry in the column of the confidence; Custom has none, and gives the z score
 unfoldable pub tableScore : Confidence → ℕ → Float

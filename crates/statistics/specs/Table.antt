@@ -47,8 +47,8 @@ thousandths =
     1310 ∷ 1697 ∷ 2042 ∷ 2457 ∷ 2750 ∷ 3646 ∷ []
 
 -- the entry in a row and a column, both from 0
-unfoldable pub cell : ℕ → ℕ → ℕ
-cell row col = getD thousandths (row * 6 + col) 0
+unfoldable pub tableEntry : ℕ → ℕ → ℕ
+tableEntry row col = getD thousandths (row * 6 + col) 0
 
 -- the z scores of the same six confidences
 unfoldable pub zThousandths : List ℕ

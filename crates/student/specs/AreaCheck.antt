@@ -9,7 +9,7 @@ use native.Mathlib.Omega.{arith}
 use lib.Dec.{T, leb, ltb, leb→le, ltb→lt}
 use lib.ListN.{getD}
 use lib.Ieee.Fits.{and-i, and-l, and-r}
-use Rattle.statistics.specs.Table.{thousandths, cell, allBelow, all-below}
+use Rattle.statistics.specs.Table.{thousandths, tableEntry, allBelow, all-below}
 use Rattle.student.specs.Ratio.{below, above, below-holds, above-holds}
 use Rattle.student.specs.Quantile.{TailBelow, TailAbove, Rounded, oneIn, halfPlace, IsQuantile, EveryEntry}
 use Rattle.student.specs.ByArea.{height, piece, pieceOf, pieceAt, Node, start, addPieces, nodesFrom, nodes, node, lastNode, tailBound, After, Before, Inside, Tailed, overBeyond, underBeyond, BeyondAtMost, BeyondAtLeast, WholeAtMost, WholeAtLeast, byArea}
@@ -69,7 +69,7 @@ rounded-holds ν k e h M partition m n hν t =
 
 -- the partition of each row has a node half a place below each entry and one half a place above it
 abbrev entry : ℕ → List Node → ℕ → Bool
-entry row l col = rounded (row + 1) (oneIn col) (cell row col) (halfPlace row col) 1000000000000 l (3 * col + 1) (3 * col + 2)
+entry row l col = rounded (row + 1) (oneIn col) (tableEntry row col) (halfPlace row col) 1000000000000 l (3 * col + 1) (3 * col + 2)
 
 abbrev cols : ℕ → List Node → Bool
 cols row l = allBelow (entry row l) 6
@@ -90,35 +90,35 @@ join a zero p q = rw add-zero p
 join a (suc n) p q = rw add-suc (and-i (rowTest (a + n)) _ (and-l (rowTest (a + n)) _ q) (join a n p (and-r (rowTest (a + n)) _ q)))
 
 rows-0 : T (allBelow rowTest 1)
-unfolding allBelow below above overBeyond underBeyond tailBound partitions nodes nodesFrom addPieces node lastNode pieceAt pieceOf piece height oneIn halfPlace cell thousandths
+unfolding allBelow below above overBeyond underBeyond tailBound partitions nodes nodesFrom addPieces node lastNode pieceAt pieceOf piece height oneIn halfPlace tableEntry thousandths
 rows-0 = tt
 
 rows-1 : T (part 1 3)
-unfolding allBelow below above overBeyond underBeyond tailBound partitions nodes nodesFrom addPieces node lastNode pieceAt pieceOf piece height oneIn halfPlace cell thousandths
+unfolding allBelow below above overBeyond underBeyond tailBound partitions nodes nodesFrom addPieces node lastNode pieceAt pieceOf piece height oneIn halfPlace tableEntry thousandths
 rows-1 = tt
 
 rows-4 : T (part 4 5)
-unfolding allBelow below above overBeyond underBeyond tailBound partitions nodes nodesFrom addPieces node lastNode pieceAt pieceOf piece height oneIn halfPlace cell thousandths
+unfolding allBelow below above overBeyond underBeyond tailBound partitions nodes nodesFrom addPieces node lastNode pieceAt pieceOf piece height oneIn halfPlace tableEntry thousandths
 rows-4 = tt
 
 rows-9 : T (part 9 6)
-unfolding allBelow below above overBeyond underBeyond tailBound partitions nodes nodesFrom addPieces node lastNode pieceAt pieceOf piece height oneIn halfPlace cell thousandths
+unfolding allBelow below above overBeyond underBeyond tailBound partitions nodes nodesFrom addPieces node lastNode pieceAt pieceOf piece height oneIn halfPlace tableEntry thousandths
 rows-9 = tt
 
 rows-15 : T (part 15 5)
-unfolding allBelow below above overBeyond underBeyond tailBound partitions nodes nodesFrom addPieces node lastNode pieceAt pieceOf piece height oneIn halfPlace cell thousandths
+unfolding allBelow below above overBeyond underBeyond tailBound partitions nodes nodesFrom addPieces node lastNode pieceAt pieceOf piece height oneIn halfPlace tableEntry thousandths
 rows-15 = tt
 
 rows-20 : T (part 20 5)
-unfolding allBelow below above overBeyond underBeyond tailBound partitions nodes nodesFrom addPieces node lastNode pieceAt pieceOf piece height oneIn halfPlace cell thousandths
+unfolding allBelow below above overBeyond underBeyond tailBound partitions nodes nodesFrom addPieces node lastNode pieceAt pieceOf piece height oneIn halfPlace tableEntry thousandths
 rows-20 = tt
 
 rows-25 : T (part 25 3)
-unfolding allBelow below above overBeyond underBeyond tailBound partitions nodes nodesFrom addPieces node lastNode pieceAt pieceOf piece height oneIn halfPlace cell thousandths
+unfolding allBelow below above overBeyond underBeyond tailBound partitions nodes nodesFrom addPieces node lastNode pieceAt pieceOf piece height oneIn halfPlace tableEntry thousandths
 rows-25 = tt
 
 rows-28 : T (part 28 2)
-unfolding allBelow below above overBeyond underBeyond tailBound partitions nodes nodesFrom addPieces node lastNode pieceAt pieceOf piece height oneIn halfPlace cell thousandths
+unfolding allBelow below above overBeyond underBeyond tailBound partitions nodes nodesFrom addPieces node lastNode pieceAt pieceOf piece height oneIn halfPlace tableEntry thousandths
 rows-28 = tt
 
 rows : T (allBelow rowTest 30)

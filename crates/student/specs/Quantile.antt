@@ -19,7 +19,7 @@ use Prim.Native.Nat.{ℕ, zero, suc, _+_, _-_, _*_, _≤_, _<_}
 use native.Mathlib.Omega.{arith}
 use mathlib.Core.List.{[], _∷_}
 use lib.ListN.{getD}
-use Rattle.statistics.specs.Table.{cell}
+use Rattle.statistics.specs.Table.{tableEntry}
 use Rattle.student.specs.Ratio.{Fraction, RatioBelow, RatioAbove}
 
 -- which fractions bound the square of the area beyond N/2000 (arguments ν and N), and of the whole area (argument ν)
@@ -54,7 +54,7 @@ halfPlace (suc row) col = 1
 
 -- the entry that the t score reads in this row and column, both from 0, is the rounded quantile for row + 1 degrees of freedom
 unfoldable pub IsQuantile : Measure → ℕ → ℕ → Type 0
-IsQuantile measure row col = Rounded measure (row + 1) (oneIn col) (cell row col) (halfPlace row col)
+IsQuantile measure row col = Rounded measure (row + 1) (oneIn col) (tableEntry row col) (halfPlace row col)
 
 unfoldable pub EveryEntry : Measure → Type 0
 EveryEntry measure = (row col : ℕ) → row < 30 → col < 6 → IsQuantile measure row col
@@ -63,7 +63,7 @@ EveryEntry measure = (row col : ℕ) → row < 30 → col < 6 → IsQuantile mea
 
 -- the same by the degrees of freedom df, from 1, as the t score has them
 pub entry-quantile : (measure : Measure) → EveryEntry measure → (df col : ℕ) → 0 < df → df ≤ 30 → col < 6 →
-    Rounded measure df (oneIn col) (cell (df - 1) col) (halfPlace (df - 1) col)
+    Rounded measure df (oneIn col) (tableEntry (df - 1) col) (halfPlace (df - 1) col)
 unfolding EveryEntry IsQuantile
 entry-quantile measure all df col h g k =
     let e : df - 1 + 1 ≡ df = omega arith in

@@ -6,7 +6,7 @@ use Prim.Native.Nat.{ℕ, _+_, _-_, _*_, _/_, _^_, _<_}
 use native.Mathlib.Omega.{arith}
 use lib.Dec.{T}
 use lib.Ieee.Fits.{and-l, and-r}
-use Rattle.statistics.specs.Table.{thousandths, cell, allBelow, all-cells}
+use Rattle.statistics.specs.Table.{thousandths, tableEntry, allBelow, all-cells}
 use Rattle.student.specs.Ratio.{below, above, below-holds, above-holds}
 use Rattle.student.specs.Quantile.{TailBelow, TailAbove, Rounded, oneIn, halfPlace, IsQuantile, EveryEntry}
 use Rattle.student.specs.Series.{factors, sums, sums-three, falls, falls-at-most}
@@ -76,11 +76,11 @@ rounded-holds ν k e h hν t =
     (tail-above ν k _ _ _ _ (and-l a _ t), tail-below ν k _ _ _ _ hν (and-r a _ t))
 
 entry : ℕ → ℕ → Bool
-entry row col = rounded (row + 1) (oneIn col) (cell row col) (halfPlace row col)
+entry row col = rounded (row + 1) (oneIn col) (tableEntry row col) (halfPlace row col)
 
 -- the computation
 rows : T (allBelow (λ row. allBelow (entry row) 6) 30)
-unfolding allBelow entry rounded tailBelow tailAbove below-by above-by below above beyondSquare wholeSquare falls restFactor sums factors oneIn halfPlace cell thousandths
+unfolding allBelow entry rounded tailBelow tailAbove below-by above-by below above beyondSquare wholeSquare falls restFactor sums factors oneIn halfPlace tableEntry thousandths
 rows = tt
 
 -- the theorem

@@ -15,7 +15,7 @@ use lib.Ieee.Exact.{HasValue, units-val}
 use lib.Ieee.Positive.{positive}
 use lib.Ieee.Bits.{ofBits-toBits}
 use Rattle.value.specs.Root.{isqrt, closestRoot, rootOf, rootF}
-use Rattle.value.specs.Nearest.{ulps, square, Nearest}
+use Rattle.value.specs.Nearest.{ulps, wholeSquare, Nearest}
 use Rattle.value.proofs.SquareRoot.Numbers.{IsRoot, root-le, odd-square, even-square, isqrt-is, half, closestRoot-at}
 use Rattle.value.proofs.SquareRoot.Packing.{written, units-fit, below-all, bits-of-value, closest-low, closest-high, rootOf-is, even-shift, odd-shift}
 use Rattle.value.proofs.SquareRoot.Reading.{positive-value}
@@ -115,14 +115,14 @@ gap v q k d h = go (order k (d .zeros))
         (d .is ∙ ap (λ (x : ℕ). d .digits * x) (ap (λ (x : ℕ). 2 ^ x) (sym (back k (d .zeros) l)) ∙ pow-add 2 (d .zeros - k) k) ∙ sym (mul-assoc (d .digits) (2 ^ (d .zeros - k)) (2 ^ k)))
 
 -- ---- squares
-square-le : (a b : ℕ) → a ≤ b → square a ≤ square b
+square-le : (a b : ℕ) → a ≤ b → wholeSquare a ≤ wholeSquare b
 square-le a b h = mul-le-mul h h
 
-square-lt : (a b : ℕ) → a < b → square a < square b
+square-lt : (a b : ℕ) → a < b → wholeSquare a < wholeSquare b
 square-lt a b h = lt-of-le-of-lt (mul-le-mul (le-refl a) (le-of-lt h)) (mul-lt-mul-of-pos-right h (lt-of-le-of-lt zero-le h))
 
 -- (a * p) ^ 2 is a ^ 2 * p ^ 2
-square-mul : (a p : ℕ) → square (a * p) ≡ square a * (p * p)
+square-mul : (a p : ℕ) → wholeSquare (a * p) ≡ wholeSquare a * (p * p)
 square-mul a p = simp (mul-assoc, mul-comm, mul-left-comm)
 
 -- ---- the two sides, by which of q and q + 1 is the closer: p is 2 ^ k, m the radicand over p ^ 2
@@ -143,7 +143,7 @@ even-times q p = sym (add-mul q q p) ∙ ap (λ (x : ℕ). x * p) (sum q)
 
 module _ (m p q v : ℕ) (P : 0 < p) (r : IsRoot m q) where
   -- q + 1 is the closer
-  up-over : square (2 * q + 1) < 4 * m → v ≤ q * p → square (v + suc q * p) < 4 * (m * (p * p))
+  up-over : wholeSquare (2 * q + 1) < 4 * m → v ≤ q * p → wholeSquare (v + suc q * p) < 4 * (m * (p * p))
   up-over h l =
       lt-of-le-of-lt (square-le (v + suc q * p) ((2 * q + 1) * p) (le-trans (add-le v (q * p) (suc q * p) l) (le-of-eq (odd-times q p))))
       (lt-of-le-of-lt (le-of-eq (square-mul (2 * q + 1) p)) (lt-of-lt-of-le (mul-lt-mul-of-pos-right h (mul-pos P P)) (le-of-eq (sym (four-times m p)))))
@@ -151,10 +151,10 @@ module _ (m p q v : ℕ) (P : 0 < p) (r : IsRoot m q) where
       add-le : (a b c : ℕ) → a ≤ b → a + c ≤ b + c
       add-le a b c h = omega arith
 
-  up-under : suc q * p < v → 4 * (m * (p * p)) < square (v + suc q * p)
+  up-under : suc q * p < v → 4 * (m * (p * p)) < wholeSquare (v + suc q * p)
   up-under l =
       lt-of-le-of-lt (le-of-eq (four-times m p))
-      (lt-of-lt-of-le (mul-lt-mul-of-pos-right (fourfold m (square (suc q)) (r .high)) (mul-pos P P))
+      (lt-of-lt-of-le (mul-lt-mul-of-pos-right (fourfold m (wholeSquare (suc q)) (r .high)) (mul-pos P P))
       (le-trans (le-of-eq (ap (λ (x : ℕ). x * (p * p)) (sym (even-square (suc q)))))
       (le-trans (le-of-eq (sym (square-mul (2 * suc q) p)))
       (square-le (2 * suc q * p) (v + suc q * p) (le-trans (le-of-eq (sym (even-times (suc q) p))) (add-le (suc q * p) v (suc q * p) l))))))
@@ -166,11 +166,11 @@ module _ (m p q v : ℕ) (P : 0 < p) (r : IsRoot m q) where
       add-le a b c h = omega arith
 
   -- q is the closer
-  down-over : v < q * p → square (v + q * p) < 4 * (m * (p * p))
+  down-over : v < q * p → wholeSquare (v + q * p) < 4 * (m * (p * p))
   down-over l =
       lt-of-lt-of-le (square-lt (v + q * p) (2 * q * p) (lt-of-lt-of-le (add-lt v (q * p) (q * p) l) (le-of-eq (even-times q p))))
       (le-trans (le-of-eq (square-mul (2 * q) p ∙ ap (λ (x : ℕ). x * (p * p)) (even-square q)))
-      (le-trans (mul-le-mul-right (p * p) (fourfold (square q) m (r .low))) (le-of-eq (sym (four-times m p)))))
+      (le-trans (mul-le-mul-right (p * p) (fourfold (wholeSquare q) m (r .low))) (le-of-eq (sym (four-times m p)))))
     where
       fourfold : (w m : ℕ) → w ≤ m → 4 * w ≤ 4 * m
       fourfold w m h = omega arith
@@ -178,10 +178,10 @@ module _ (m p q v : ℕ) (P : 0 < p) (r : IsRoot m q) where
       add-lt : (a b c : ℕ) → a < b → a + c < b + c
       add-lt a b c h = omega arith
 
-  down-under : 4 * m ≤ square (2 * q + 1) → suc q * p ≤ v → 4 * (m * (p * p)) < square (v + q * p)
+  down-under : 4 * m ≤ wholeSquare (2 * q + 1) → suc q * p ≤ v → 4 * (m * (p * p)) < wholeSquare (v + q * p)
   down-under h l =
       lt-of-le-of-lt (le-of-eq (four-times m p))
-      (lt-of-lt-of-le (mul-lt-mul-of-pos-right (no-tie m (q * q) q (square (2 * q + 1)) (odd-square q) h) (mul-pos P P))
+      (lt-of-lt-of-le (mul-lt-mul-of-pos-right (no-tie m (q * q) q (wholeSquare (2 * q + 1)) (odd-square q) h) (mul-pos P P))
       (le-trans (le-of-eq (sym (square-mul (2 * q + 1) p)))
       (square-le ((2 * q + 1) * p) (v + q * p) (le-trans (le-of-eq (sym (odd-times q p))) (add-le (suc q * p) v (q * p) l)))))
     where
@@ -193,9 +193,9 @@ module _ (m p q v : ℕ) (P : 0 < p) (r : IsRoot m q) where
 
 -- ---- w * 2 ^ k is the closest to √(m * 4 ^ k) among it and v
 Sides : ℕ → ℕ → ℕ → ℕ → Type 0
-Sides m k v w = (v < w * 2 ^ k → square (v + w * 2 ^ k) < 4 * (m * (2 ^ k * 2 ^ k))) × (w * 2 ^ k < v → 4 * (m * (2 ^ k * 2 ^ k)) < square (v + w * 2 ^ k))
+Sides m k v w = (v < w * 2 ^ k → wholeSquare (v + w * 2 ^ k) < 4 * (m * (2 ^ k * 2 ^ k))) × (w * 2 ^ k < v → 4 * (m * (2 ^ k * 2 ^ k)) < wholeSquare (v + w * 2 ^ k))
 
-half-square : (q : ℕ) → half q ≡ square (2 * q + 1)
+half-square : (q : ℕ) → half q ≡ wholeSquare (2 * q + 1)
 unfolding half
 half-square q = refl
 
@@ -328,11 +328,11 @@ nearest-units x n m k g a b e h =
     record {
       held = units-fit q k (closest-high m b) h;
       above = positive-of-value r (q * 2 ^ k) w (mul-pos (lt-of-lt-of-le (pow-pos 52) (closest-low m b a)) (pow-pos k));
-      over = λ y f. rw s (subst (λ (z : ℕ). ulps y < q * 2 ^ k → square (ulps y + q * 2 ^ k) < 4 * z) t (both m k (ulps y) q (sides m k (ulps y) a b (grains-double y f)) .0));
-      under = λ y f. rw s (subst (λ (z : ℕ). q * 2 ^ k < ulps y → 4 * z < square (ulps y + q * 2 ^ k)) t (both m k (ulps y) q (sides m k (ulps y) a b (grains-double y f)) .1));
+      over = λ y f. rw s (subst (λ (z : ℕ). ulps y < q * 2 ^ k → wholeSquare (ulps y + q * 2 ^ k) < 4 * z) t (both m k (ulps y) q (sides m k (ulps y) a b (grains-double y f)) .0));
+      under = λ y f. rw s (subst (λ (z : ℕ). q * 2 ^ k < ulps y → 4 * z < wholeSquare (ulps y + q * 2 ^ k)) t (both m k (ulps y) q (sides m k (ulps y) a b (grains-double y f)) .1));
     }
   where
-    both : (m k v w : ℕ) → Sides m k v w → (v < w * 2 ^ k → square (v + w * 2 ^ k) < 4 * (m * (2 ^ k * 2 ^ k))) × (w * 2 ^ k < v → 4 * (m * (2 ^ k * 2 ^ k)) < square (v + w * 2 ^ k))
+    both : (m k v w : ℕ) → Sides m k v w → (v < w * 2 ^ k → wholeSquare (v + w * 2 ^ k) < 4 * (m * (2 ^ k * 2 ^ k))) × (w * 2 ^ k < v → 4 * (m * (2 ^ k * 2 ^ k)) < wholeSquare (v + w * 2 ^ k))
     both m k v w s = unfold Sides in s
 
 pub rootF-nearest : (x : Float) → T (fits binary64 x) → T (positive x) → Nearest x (rootF x)
@@ -355,7 +355,7 @@ clash a b c d h k e = omega arith
 
 same-grains : (x r s : Float) → Nearest x r → Nearest x s → ulps r < ulps s → ⊥
 same-grains x r s a b l =
-    clash (square (ulps r + ulps s)) (square (ulps s + ulps r)) (4 * (ulps x * 2 ^ 1074)) 0 (b .over r (a .held) l) (a .under s (b .held) l) (ap square (add-comm (ulps r) (ulps s)))
+    clash (wholeSquare (ulps r + ulps s)) (wholeSquare (ulps s + ulps r)) (4 * (ulps x * 2 ^ 1074)) 0 (b .over r (a .held) l) (a .under s (b .held) l) (ap wholeSquare (add-comm (ulps r) (ulps s)))
 
 by-grains : (r s : Float) → T (fits binary64 r) → T (fits binary64 s) → T (positive r) → T (positive s) → ulps r ≡ ulps s → r ≡ s
 by-grains r s f g p q e =

@@ -4,13 +4,13 @@ use native.Mathlib.Omega.{arith}
 use borrow.Author.Needs.{needs}
 use lib.Ieee.{ofBits, round}
 use Rattle.loops.specs.Places.{map-at}
-use Rattle.statistics.specs.Table.{thousandths, cell}
+use Rattle.statistics.specs.Table.{thousandths, tableEntry}
 use Rattle.statistics.specs.Scores.{milli, entryAt}
 use Rattle.statistics.proofs.table.entry.Statement.{statement}
 use Rattle.statistics.proofs.table.entry.Tie as tie
 
 returns : tie.Need-returns
-unfolding thousandths milli cell entryAt ofBits round
+unfolding thousandths milli tableEntry entryAt ofBits round
 returns c = map-at milli thousandths ((c .args .df - 1) * 6 + c .args .col) 0 _ (omega arith)
 
 pub entry-spec : {M : Type 1} → statement M
