@@ -17,11 +17,11 @@ use Rattle.statistics.specs.declared.Confidence.the-variants.{P95}
 use Rattle.statistics.specs.declared.DegreeBound.the-variants.{Conservative, Relaxed, Custom}
 use Rattle.statistics.specs.Degrees.{root, rootUpTo, maxDegree}
 use Rattle.statistics.specs.Medians.{insert, sort, midpoint, medianOf}
-use Rattle.statistics.specs.Table.{thousandths, cell, zThousandths}
+use Rattle.statistics.specs.Table.{thousandths, zThousandths}
+use Rattle.solve.specs.Solve.{cell, solve}
 use Rattle.statistics.specs.Scores.{milli, zAt, zScore, entryAt, tableScore, tScore}
 use Rattle.monomial.specs.Rows.{Row, rowsOf}
 use Rattle.monomial.specs.Sums.{sumsOf}
-use Rattle.solve.specs.Solve.{solve}
 use Rattle.solve.specs.declared.Solved.{Solved}
 use Rattle.score.specs.Score.{likelihoodOf, aicOf}
 use Rattle.score.specs.declared.Criterion.the-variants.{Aic}

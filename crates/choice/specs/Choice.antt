@@ -1,10 +1,12 @@
 -- Document 01's choice among the degrees 0, 1, .. below b, where S d says of degree d whether it is solved, and its score. Definitions only.
-use mathlib.Core.Bool.{Bool, false, cond, _&&_}
+use mathlib.Core.Bool.{Bool, false, cond, _&&_, true}
 use mathlib.Core.Option.{Option, none, some}
 use mathlib.Core.List.{List}
 use Prim.Native.Nat.{ℕ, _+_, _<_}
 use lib.ListN.{getD}
 use lib.Ieee.{Float, nan, binary64, sub, lt, le}
+use mathlib.Core.Path.{_≡_}
+use Rattle.value.specs.Finite.{finite}
 use Rattle.loops.specs.Loop.{from, seek}
 use Rattle.choice.specs.declared.Scored.{Scored}
 use Rattle.basis.specs.declared.Degree.{Degree}
@@ -57,3 +59,20 @@ flagCount flags b = from (λ d m. cond (getD flags d false) (m + 1) m) 0 b 0
 -- of two arrays
 abbrev pub scoredAt : List Bool → List Float → ℕ → Scored
 scoredAt u v d = record { solved = getD u d false; score = getD v d nan }
+
+-- ---- in words
+
+-- degree d is chosen: it is solved, with a score at most 2 above the least, which is finite; and no lower solved degree is
+pub record Chosen (S : ℕ → Scored) (b d : ℕ) : Type 0 where
+  pub within : d < b
+  pub is-solved : S d .solved ≡ true
+  pub close : le (sub binary64 (S d .score) (leastOf S b)) twoF ≡ true
+  pub least-finite : finite (leastOf S b) ≡ true
+  pub lowest : (e : ℕ) → e < d → S e .solved ≡ true → le (sub binary64 (S e .score) (leastOf S b)) twoF ≡ false
+
+-- a is the score of a solved degree
+pub record Attained (S : ℕ → Scored) (b : ℕ) (a : Float) : Type 0 where
+  pub degree : ℕ
+  pub within : degree < b
+  pub is-solved : S degree .solved ≡ true
+  pub is-least : S degree .score ≡ a

@@ -21,7 +21,7 @@ use Rattle.basis.specs.declared.OptionDegree.{OptionDegree}
 use Rattle.basis.specs.declared.OptionDegree.the-variants.{Some, None}
 use Rattle.value.specs.Numbers.{twoF, infinityF}
 use Rattle.value.specs.Order.{lt-itself, lt-trans}
-use Rattle.choice.specs.Choice.{degree, yields, leastOf, near, degreeOf, chosenOf, chosenScore, Below}
+use Rattle.choice.specs.Choice.{Attained, Chosen, degree, yields, leastOf, near, degreeOf, chosenOf, chosenScore, Below}
 
 -- ---- the least
 
@@ -72,12 +72,6 @@ none-below S (suc b) d h q = rw (least-last S b) (go (split d b h) (λ k. none-b
     go (inr l) k = not-below (S d .score) (leastOf S b) (S b) (k l)
 
 -- the least is +infinity, or the score of a solved degree
-pub record Attained (S : ℕ → Scored) (b : ℕ) (a : Float) : Type 0 where
-  pub degree : ℕ
-  pub within : degree < b
-  pub is-solved : S degree .solved ≡ true
-  pub is-least : S degree .score ≡ a
-
 pub attained : (S : ℕ → Scored) (b : ℕ) → (leastOf S b ≡ infinityF) ⊎ Attained S b (leastOf S b)
 unfolding yields
 attained S zero = inl (least-none S)
@@ -147,14 +141,6 @@ far (fin s m e) (inf false) f h = never (sym h)
 far (fin s m e) (fin t n d) f h = never (sym f)
 
 -- ---- the choice
-
--- degree d is chosen: it is solved, with a score at most 2 above the least, which is finite; and no lower solved degree is
-pub record Chosen (S : ℕ → Scored) (b d : ℕ) : Type 0 where
-  pub within : d < b
-  pub is-solved : S d .solved ≡ true
-  pub close : le (sub binary64 (S d .score) (leastOf S b)) twoF ≡ true
-  pub least-finite : finite (leastOf S b) ≡ true
-  pub lowest : (e : ℕ) → e < d → S e .solved ≡ true → le (sub binary64 (S e .score) (leastOf S b)) twoF ≡ false
 
 near-solved : (a : Float) (s : Scored) → near a s ≡ true → s .solved ≡ true
 unfolding near

@@ -38,7 +38,7 @@ pub record WholeBook (xs ys sums : List Float) (cs : List (Call ReadCall)) : Typ
       → cs ≡ before ++ (reads (reports settings places) ∷ after)
       → ReportedIn (lentOf xs ys sums) before settings places (programReplies readOn (opened xs ys sums) cs)
 
--- Take any list of adds, corrections, withdrawals, frames, fits, validations, bands and reports, refused ones included, in any order, from a book just
+-- Take any list of adds, a window's adds, corrections, withdrawals, frames, fits, validations, bands and reports, refused ones included, in any order, from a book just
 -- opened.
 abbrev pub AnyList : Type 0
 AnyList = (xs ys sums : List Float) → openOut sums .answer ≡ bookOf 0 → (cs : List (Call ReadCall)) → WholeBook xs ys sums cs

@@ -14,8 +14,7 @@ use Rattle.samples.specs.Samples.{Sample}
 use Rattle.monomial.specs.Rows.{rowsOf}
 use Rattle.monomial.specs.Sums.{sumsOf}
 use Rattle.solve.specs.Solve.{solve}
-use Rattle.choice.specs.Choice.{leastOf, solvedCount}
-use Rattle.choice.specs.Laws.{Attained, Chosen}
+use Rattle.choice.specs.Choice.{leastOf, solvedCount, Attained, Chosen}
 use Rattle.choice.specs.declared.Scored.{Scored}
 use Rattle.fit.specs.Solved.{scoredBy}
 use Rattle.measure.specs.Measures.{inverseFails, covarianceAt}

@@ -12,7 +12,7 @@ use Rattle.loops.specs.Places.{table, table-at}
 use Rattle.value.specs.Exact.{one-times}
 use Rattle.value.specs.Numbers.{zeroF, oneF}
 use Rattle.value.specs.Power.{powerF, powerFrom, powerTurns}
-use Rattle.value.specs.Total.{total-again}
+use Rattle.value.specs.TotalLaws.{total-again}
 use Rattle.monomial.specs.Rows.{fitted}
 
 module _ (c : List Float) (x : Float) (f : T (fits binary64 x)) where

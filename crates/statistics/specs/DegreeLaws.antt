@@ -9,12 +9,7 @@ use borrow.Author.Tests.{leb-true, leb-false}
 use Rattle.loops.specs.Cases.{choose}
 use Rattle.statistics.specs.declared.DegreeBound.{DegreeBound}
 use Rattle.statistics.specs.declared.DegreeBound.the-variants.{Conservative, Relaxed, Aggressive, Custom}
-use Rattle.statistics.specs.Degrees.{rootUpTo, root, maxDegree}
-
--- what it is to be the largest
-pub record Largest (p n r : ℕ) : Type 0 where
-  pub holds : r ^ p ≤ n
-  pub most : (s : ℕ) → s ^ p ≤ n → s ≤ r
+use Rattle.statistics.specs.Degrees.{Largest, rootUpTo, root, maxDegree}
 
 upto-holds : (p n k : ℕ) → rootUpTo (suc p) n k ^ suc p ≤ n
 unfolding rootUpTo

@@ -1,6 +1,6 @@
 -- `max_degree`: the bound on the degree, from the number n of samples, with document 01's whole-number root. Definitions only.
 use mathlib.Core.Bool.{cond}
-use Prim.Native.Nat.{ℕ, zero, suc, _-_, _/_, _^_, min}
+use Prim.Native.Nat.{ℕ, zero, suc, _-_, _/_, _^_, min, _≤_}
 use lib.Dec.{leb}
 use Rattle.statistics.specs.declared.DegreeBound.{DegreeBound}
 use Rattle.statistics.specs.declared.DegreeBound.the-variants.{Conservative, Relaxed, Aggressive, Custom}
@@ -24,3 +24,8 @@ maxDegree Conservative n = leastBound (root 5 n) 15 8 n
 maxDegree Relaxed n = leastBound (root 3 n) 8 15 n
 maxDegree Aggressive n = leastBound (root 1 n) 8 (n - 1) n
 maxDegree (Custom d) n = min (d .0) (n - 1)
+
+-- what it is to be the largest
+pub record Largest (p n r : ℕ) : Type 0 where
+  pub holds : r ^ p ≤ n
+  pub most : (s : ℕ) → s ^ p ≤ n → s ≤ r

@@ -1,17 +1,13 @@
 -- The numbers behind the scores, in thousandths: the 180 entries of polyfit's `T_TABLE` and the six constants of its `Confidence::z_score`, each list once.
--- The t and z scores read these lists (`Scores.antt`), and the crate `student` proves of each number which quantile it is. Here the falling and rising rule of
--- the t table is proved (at the end), by a test that antt computes over the whole table.
+-- The t and z scores read these lists (`Scores.antt`), and the crate `student` proves of each number which quantile it is. The falling and rising rule of
+-- the t table is one law, by a test that antt computes over the whole table (`TableLaws.antt`).
 -- The table has a row of six for each number of degrees of freedom from 1 to 30; the columns are the confidences 0.8, 0.9, 0.95, 0.98, 0.99 and 0.999. polyfit
 -- prints three decimals, from the third entry of the first row on two: its 12.71 is 12710 here, and its 2.92 is 2920. Definitions only.
-use mathlib.Core.Path.{sym, subst}
-use mathlib.Core.Logic.{⊎-elim}
 use mathlib.Core.Bool.{Bool, true, _&&_}
 use mathlib.Core.List.{List, [], _∷_}
-use Prim.Native.Nat.{ℕ, zero, suc, _+_, _*_, _<_}
-use native.Mathlib.Nat.{le-of-suc-le-suc, not-suc-le-zero, eq-or-lt-of-le}
+use Prim.Native.Nat.{ℕ, zero, suc, _+_, _*_}
 use lib.Dec.{T}
 use lib.ListN.{getD}
-use lib.Ieee.Fits.{and-l, and-r}
 
 unfoldable pub thousandths : List ℕ
 thousandths =
@@ -60,15 +56,3 @@ zThousandths = 1281 ∷ 1644 ∷ 1959 ∷ 2326 ∷ 2575 ∷ 3290 ∷ []
 unfoldable pub allBelow : (ℕ → Bool) → ℕ → Bool
 allBelow f zero = true
 allBelow f (suc n) = f n && allBelow f n
-
-pub all-below : (f : ℕ → Bool) (n : ℕ) → T (allBelow f n) → (k : ℕ) → k < n → T (f k)
-unfolding allBelow
-all-below f zero t k h = absurd (not-suc-le-zero h)
-all-below f (suc n) t k h =
-    ⊎-elim (λ e. subst (λ (m : ℕ). T (f m)) (sym e) (and-l (f n) (allBelow f n) t))
-    (λ l. all-below f n (and-r (f n) (allBelow f n) t) k l)
-    (eq-or-lt-of-le (le-of-suc-le-suc h))
-
--- the same over rows and columns
-pub all-cells : (f : ℕ → ℕ → Bool) (rows cols : ℕ) → T (allBelow (λ r. allBelow (f r) cols) rows) → (row col : ℕ) → row < rows → col < cols → T (f row col)
-all-cells f rows cols t row col hr hc = all-below (f row) cols (all-below (λ r. allBelow (f r) cols) rows t row hr) col hc

@@ -9,7 +9,8 @@ use native.Mathlib.Omega.{arith}
 use lib.Dec.{T, leb, ltb, leb→le, ltb→lt}
 use lib.ListN.{getD}
 use lib.Ieee.Fits.{and-i, and-l, and-r}
-use Rattle.statistics.specs.Table.{thousandths, tableEntry, allBelow, all-below}
+use Rattle.statistics.specs.Table.{thousandths, tableEntry, allBelow}
+use Rattle.statistics.specs.TableLaws.{all-below}
 use Rattle.student.specs.Ratio.{below, above, below-holds, above-holds}
 use Rattle.student.specs.Quantile.{TailBelow, TailAbove, Rounded, oneIn, halfPlace, IsQuantile, EveryEntry}
 use Rattle.student.specs.ByArea.{height, piece, pieceOf, pieceAt, Node, start, addPieces, nodesFrom, nodes, node, lastNode, tailBound, After, Before, Inside, Tailed, overBeyond, underBeyond, BeyondAtMost, BeyondAtLeast, WholeAtMost, WholeAtLeast, byArea}

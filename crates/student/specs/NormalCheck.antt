@@ -6,7 +6,8 @@ use native.Mathlib.Omega.{arith}
 use lib.Dec.{T, leb, leb→le}
 use lib.ListN.{getD}
 use lib.Ieee.Fits.{and-l, and-r}
-use Rattle.statistics.specs.Table.{zThousandths, allBelow, all-below}
+use Rattle.statistics.specs.Table.{zThousandths, allBelow}
+use Rattle.statistics.specs.TableLaws.{all-below}
 use Rattle.student.specs.Ratio.{RatioBelow, RatioAbove, below, above, below-holds, above-holds}
 use Rattle.student.specs.Quantile.{oneIn}
 use Rattle.student.specs.Series.{product, numerator, AtMost, factors, sums, sums-three, at-most, falls, falls-at-most}

@@ -4,7 +4,8 @@ use Prim.Native.Nat.{ℕ, _+_, _≤_, _<_}
 use native.Mathlib.Nat.{lt-of-not-le}
 use native.Mathlib.Omega.{arith}
 use lib.Dec.{T, leb, leb→le}
-use Rattle.statistics.specs.Table.{thousandths, tableEntry, allBelow, all-cells}
+use Rattle.statistics.specs.Table.{thousandths, tableEntry, allBelow}
+use Rattle.statistics.specs.TableLaws.{all-cells}
 use Rattle.student.specs.Quantile.{Rounded, oneIn, halfPlace, IsQuantile, EveryEntry}
 use Rattle.student.specs.ByArea.{byArea}
 use Rattle.student.specs.AreaLaws.{one-rounded-by-area}

@@ -6,7 +6,8 @@ use Prim.Native.Nat.{ℕ, _+_, _-_, _*_, _/_, _^_, _<_}
 use native.Mathlib.Omega.{arith}
 use lib.Dec.{T}
 use lib.Ieee.Fits.{and-l, and-r}
-use Rattle.statistics.specs.Table.{thousandths, tableEntry, allBelow, all-cells}
+use Rattle.statistics.specs.Table.{thousandths, tableEntry, allBelow}
+use Rattle.statistics.specs.TableLaws.{all-cells}
 use Rattle.student.specs.Ratio.{below, above, below-holds, above-holds}
 use Rattle.student.specs.Quantile.{TailBelow, TailAbove, Rounded, oneIn, halfPlace, IsQuantile, EveryEntry}
 use Rattle.student.specs.Series.{factors, sums, sums-three, falls, falls-at-most}

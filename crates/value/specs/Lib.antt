@@ -2,6 +2,7 @@
 pub mod Numbers
 pub mod Nan
 pub mod Finite
+pub mod FiniteLaws
 pub mod Absolute
 pub mod AbsoluteLaws
 pub mod Exact
@@ -15,3 +16,4 @@ pub mod LogarithmLaws
 pub mod Order
 pub mod Keys
 pub mod Total
+pub mod TotalLaws

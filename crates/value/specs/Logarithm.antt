@@ -1,4 +1,4 @@
--- Document 01's ln: fdlibm's method. Definitions, and the laws that the definition's parts are what 01 says. Definitions only.
+-- Document 01's ln: fdlibm's method. That its parts are what 01 says are laws (`LogarithmLaws.antt`). Definitions only.
 use mathlib.Core.Bool.{Bool, true, false, cond}
 use Prim.Native.Nat.{ℕ, zero, suc, _+_, _/_, _%_, _^_}
 use lib.Dec.{ltb}

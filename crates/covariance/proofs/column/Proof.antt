@@ -5,7 +5,7 @@ use native.Mathlib.Omega.{arith}
 use borrow.Author.Needs.{needs}
 use Rattle.loops.specs.Fold.{fold}
 use Rattle.loops.specs.Places.{table}
-use Rattle.value.specs.Total.{total-again}
+use Rattle.value.specs.TotalLaws.{total-again}
 use Rattle.covariance.specs.Covariance.{columnOf}
 use Rattle.covariance.proofs.column.Statement.{statement}
 use Rattle.covariance.proofs.column.Tie as tie

@@ -7,7 +7,8 @@ use lib.ListN.{getD}
 use lib.Ieee.{nan, binary64, mul}
 use Rattle.loops.specs.Fold.{fold}
 use Rattle.loops.specs.Places.{table}
-use Rattle.value.specs.Total.{totalF, total-again}
+use Rattle.value.specs.Total.{totalF}
+use Rattle.value.specs.TotalLaws.{total-again}
 use Rattle.covariance.specs.Covariance.{columnOf, predictionVariance}
 use Rattle.covariance.proofs.prediction_variance.Statement.{statement}
 use Rattle.covariance.proofs.prediction_variance.Tie as tie

@@ -1,6 +1,6 @@
 -- `listing::write_listing` meets its contract.
 use mathlib.Core.Path.{sym, ap₂, ap, _∙_}
-use Prim.Native.Nat.{_+_, min}
+use Prim.Native.Nat.{min}
 use native.Mathlib.Omega.{arith}
 use borrow.Author.Needs.{needs}
 use Rattle.basis.specs.CountLaws.{curve-count}

@@ -1,6 +1,6 @@
 -- `value::is_finite` meets its contract.
 use lib.Ieee.{nanBits, ofBits, neg}
-use Rattle.value.specs.Finite.{high-tells, low-fails}
+use Rattle.value.specs.FiniteLaws.{high-tells, low-fails}
 use Rattle.value.proofs.is_finite.Statement.{statement}
 use Rattle.value.proofs.is_finite.Tie as tie
 
