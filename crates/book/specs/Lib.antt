@@ -7,3 +7,4 @@ pub mod Many
 pub mod ManyLaws
 pub mod Frames
 pub mod Window
+pub mod WindowLaws

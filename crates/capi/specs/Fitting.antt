@@ -38,8 +38,8 @@ use Rattle.covariance.specs.Pruning.{prunes, prunedAt, prunedBytes}
 use Rattle.covariance.specs.Bands.{bandAt, outlies, outlierOf, outliersOf}
 use Rattle.frame.specs.Frame.{decode}
 use Rattle.book.specs.Refusals.{openRefusal, addRefusal, correctRefusal, withdrawRefusal, frameAddRefusal}
-use Rattle.refusal.specs.Refusals.{by, settle}
-use Rattle.refusal.specs.Laws.{numbered}
+use Rattle.refusal.specs.Laws.{among, numbered}
+use Rattle.refusal.specs.Refusals.{mostNumber, by, settle}
 use Rattle.book.specs.RefusalLaws.{open-numbers, add-numbers, correct-numbers, withdraw-numbers, frame-numbers, add-room, correct-room, withdraw-room, frame-room}
 use Rattle.book.specs.Calls.{Out, stateOf, refused, openOut, addOut, correctOut, withdrawOut, addFrameOut}
 use Rattle.samples.specs.Columns.{columnsOf}
@@ -59,16 +59,6 @@ use Rattle.report.specs.Chosen.{reportChoice}
 use Rattle.report.specs.ChosenLaws.{chosen-solved}
 use Rattle.report.specs.Reports.{ReportOut, refusedEarly, refusedLate, reportOf, reportPast, reportOn, reportOut, writtenBy}
 use Rattle.capi.specs.Packed.{BookFits, FitFits, BandFits, ReportFits, bandInto}
-
--- the largest of a list of numbers
-abbrev pub largest : List ℕ → ℕ
-largest [] = 0
-largest (k ∷ l) = max k (largest l)
-
--- no number of the list is above it
-pub among : {k : ℕ} (l : List ℕ) → List·Memᴰ k l → k ≤ largest l
-among (a ∷ l) (List·Memᴰ·head e) = omega arith
-among (a ∷ l) (List·Memᴰ·tail m) = omega (arith, among l m)
 
 -- ---- counts
 
@@ -112,7 +102,7 @@ solved-most S b =
 
 -- ---- the calls that change a book
 
-book-fits : (k : ℕ) (good : Out) (xs ys sums : List Float) → k ≤ 255 → (k ≡ 0 → BookFits (good .answer)) → BookFits (settle k good (refused k (columnsOf xs ys) sums) .answer)
+book-fits : (k : ℕ) (good : Out) (xs ys sums : List Float) → k ≤ mostNumber → (k ≡ 0 → BookFits (good .answer)) → BookFits (settle k good (refused k (columnsOf xs ys) sums) .answer)
 unfolding BookFits
 book-fits zero good xs ys sums h g = g refl
 book-fits (suc k) good xs ys sums h g = (omega arith, h)
@@ -162,7 +152,7 @@ past-fits n degree samples sums h = go (isSolved sums (rowsOf samples) (countOf 
     go true e = rw e h
     go false e = rw e (omega arith, omega arith)
 
-fit-settles : (k : ℕ) (good : FitOut) → k ≤ 255 → (k ≡ 0 → FitFits (good .answer)) → FitFits (settle k good (fitRefused k) .answer)
+fit-settles : (k : ℕ) (good : FitOut) → k ≤ mostNumber → (k ≡ 0 → FitFits (good .answer)) → FitFits (settle k good (fitRefused k) .answer)
 unfolding FitFits
 fit-settles zero good h g = g refl
 fit-settles (suc k) good h g = (omega arith, h)
@@ -196,16 +186,16 @@ module _ (n : ℕ) (xs ys sums scratch coefficients : List Float) where
 
 -- ---- the band
 
-measure-most : (sums : List Float) (rows : List Row) (k : ℕ) → measureRefusal sums rows k ≤ 255
+measure-most : (sums : List Float) (rows : List Row) (k : ℕ) → measureRefusal sums rows k ≤ mostNumber
 unfolding measureRefusal
 measure-most sums rows k = omega (arith, among _ (numbered (by (not (isSolved sums rows k)) 10 ∷ by (inverseFails sums k) 12 ∷ [])))
 
-band-settles : (k : ℕ) (b : Band) → k ≤ 255 → BandFits (settle k (bands.Band b) (bands.Refused k))
+band-settles : (k : ℕ) (b : Band) → k ≤ mostNumber → BandFits (settle k (bands.Band b) (bands.Refused k))
 unfolding BandFits
 band-settles zero b h = tt
 band-settles (suc k) b h = (omega arith, h)
 
-out-settles : (k : ℕ) (good : BandOut) → k ≤ 255 → BandFits (good .answer) → BandFits (settle k good (bandRefused k) .answer)
+out-settles : (k : ℕ) (good : BandOut) → k ≤ mostNumber → BandFits (good .answer) → BandFits (settle k good (bandRefused k) .answer)
 unfolding BandFits
 out-settles zero good h g = g
 out-settles (suc k) good h g = (omega arith, h)
@@ -266,7 +256,7 @@ module _ (n : ℕ) (settings : Settings) (samples : List Sample) (sums : List Fl
       go true = (omega arith, omega arith)
       go false = written-fits (d .0) _ _ _ (omega (arith, chosen-solved n settings samples sums d e .0)) choice-solved
 
-report-settles : (k : ℕ) (good : ReportOut) → k ≤ 255 → (k ≡ 0 → ReportFits (good .answer))
+report-settles : (k : ℕ) (good : ReportOut) → k ≤ mostNumber → (k ≡ 0 → ReportFits (good .answer))
     → ReportFits (settle k good (refusedEarly k) .answer)
 unfolding ReportFits
 report-settles zero good h g = g refl

@@ -5,6 +5,7 @@ use mathlib.Core.List.{List, [], _∷_}
 use Prim.Native.Nat.{ℕ, _+_, _*_, _≤_}
 use lib.Dec.{ltb}
 use lib.Ieee.{Float}
+use Rattle.refusal.specs.Refusals.{mostNumber}
 use Rattle.basis.specs.Sizes.{maxSamples, maxTerms}
 use Rattle.book.specs.declared.Answer.{Answer}
 use Rattle.book.specs.declared.Answer.the-variants as books
@@ -61,10 +62,10 @@ bandNumbers (bands.Refused k) = []
 unfoldable pub bandInto : ℕ → BandOut → BandOut
 bandInto places o = cond (ltb places 3) (bandRefused 1) o
 
--- ---- what fits its field: a refusal's number of one byte, and what the calls can answer
+-- ---- what fits its field: 01's numbers, and what the calls can answer
 
 abbrev pub RefusalFits : ℕ → Type 0
-RefusalFits k = (1 ≤ k) × (k ≤ 255)
+RefusalFits k = (1 ≤ k) × (k ≤ mostNumber)
 
 unfoldable pub BookFits : Answer → Type 0
 BookFits (books.Book b) = b .count ≤ maxSamples

@@ -1,5 +1,5 @@
 -- Laws of Measures.antt.
-use mathlib.Core.Path.{_≡_, ap, ap₂, _∙_}
+use mathlib.Core.Path.{_≡_, ap, ap₂, _∙_, refl}
 use mathlib.Core.Bool.{true, false}
 use mathlib.Core.List.{List, map}
 use Prim.Native.Nat.{ℕ}
@@ -13,8 +13,8 @@ use Rattle.solve.specs.declared.Inverted.{Inverted}
 use Rattle.fit.specs.Residuals.{residuals}
 use Rattle.fit.specs.Solved.{isSolved}
 use Rattle.covariance.specs.Covariance.{covarianceOf}
-use Rattle.refusal.specs.Refusals.{firstOf}
-use Rattle.measure.specs.Measures.{inverseFails, measureRefusal, covarianceAt}
+use Rattle.refusal.specs.Refusals.{firstOf, numbersOf, InOrder, those, isAmong}
+use Rattle.measure.specs.Measures.{measureTests, inverseFails, measureRefusal, covarianceAt}
 
 module _ (sums : List Float) (rows : List Row) (k : ℕ) where
   pub measure-unsolved : isSolved sums rows k ≡ false → 10 ≡ measureRefusal sums rows k
@@ -35,3 +35,8 @@ module _ (sums : List Float) (rows : List Row) (k : ℕ) where
   unfolding covarianceAt
   measured-covariance i a v w ei ea ev ew =
       ew ∙ ap₂ (λ (j : Inverted) (x : Float). covarianceOf (j .v) x) ei (ev ∙ ap (residualVariance k) ea ∙ variance-sizes k _)
+
+-- 10 and 12 stand in the checking order
+pub measure-in-order : (sums : List Float) (rows : List Row) (k : ℕ) → InOrder (numbersOf (measureTests sums rows k))
+unfolding those isAmong
+measure-in-order sums rows k = refl

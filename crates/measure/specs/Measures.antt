@@ -12,7 +12,7 @@ use Rattle.solve.specs.Solve.{solve, inverse}
 use Rattle.fit.specs.Residuals.{residuals}
 use Rattle.fit.specs.Solved.{isSolved}
 use Rattle.covariance.specs.Covariance.{covarianceOf}
-use Rattle.refusal.specs.Refusals.{by, firstOf}
+use Rattle.refusal.specs.Refusals.{Refusal, by, firstOf}
 use Rattle.measure.specs.declared.Measured.{Measured}
 
 -- 12: an inverse pivot fails, so that not all k columns are made
@@ -20,8 +20,11 @@ abbrev pub inverseFails : List Float → ℕ → Bool
 inverseFails sums k = ltb (inverse sums k .columns) k
 
 -- 10: the degree is unsolved; 12: an inverse pivot fails
+abbrev pub measureTests : List Float → List Row → ℕ → List Refusal
+measureTests sums rows k = by (not (isSolved sums rows k)) 10 ∷ by (inverseFails sums k) 12 ∷ []
+
 unfoldable pub measureRefusal : List Float → List Row → ℕ → ℕ
-measureRefusal sums rows k = firstOf (by (not (isSolved sums rows k)) 10 ∷ by (inverseFails sums k) 12 ∷ [])
+measureRefusal sums rows k = firstOf (measureTests sums rows k)
 
 -- the covariance of its coefficients
 unfoldable pub covarianceAt : List Float → List Row → ℕ → List Float

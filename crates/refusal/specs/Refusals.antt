@@ -29,6 +29,10 @@ settle (suc k) good bad = bad
 abbrev pub checkingOrder : List ℕ
 checkingOrder = 1 ∷ 2 ∷ 3 ∷ 4 ∷ 5 ∷ 6 ∷ 7 ∷ 8 ∷ 9 ∷ 10 ∷ 11 ∷ 12 ∷ []
 
+-- the largest of them
+abbrev pub mostNumber : ℕ
+mostNumber = 12
+
 abbrev pub numbersOf : List Refusal → List ℕ
 numbersOf rs = map (λ (r : Refusal). r .number) rs
 
