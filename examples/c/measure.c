@@ -1,0 +1,204 @@
+/* Prints the figures that README.md and stakebook.h give, of the library that it is linked with: make -C examples/c measure
+ * Outliers among clean readings, the bounds by name, the degrees that raw years and times leave unsolved, and stack and time of each call at
+ * n 4,096. It takes half a minute. */
+#define _XOPEN_SOURCE 700
+#include <math.h>
+#include <stdio.h>
+#include <string.h>
+#include <time.h>
+#include <ucontext.h>
+
+#include "stakebook.h"
+
+#define ROOM STAKEBOOK_MOST
+
+static double xs[ROOM], ys[ROOM], sums[STAKEBOOK_SUMS], scratch[ROOM], numbers[STAKEBOOK_BAND];
+static double coefficients[STAKEBOOK_TERMS], errors[STAKEBOOK_TERMS], lower[ROOM], upper[ROOM];
+static uint8_t pruned[STAKEBOOK_TERMS], outliers[ROOM], frame[3 + 16 * 4095];
+static size_t count;
+
+static uint64_t add(double x, double y) {
+    uint64_t answer = stakebook_add(count, x, y, xs, ROOM, ys, ROOM, sums, STAKEBOOK_SUMS);
+    if (stakebook_refusal(answer) == 0) count = stakebook_count(answer);
+    return answer;
+}
+
+static void opened(void) { count = stakebook_count(stakebook_open(sums, STAKEBOOK_SUMS)); }
+
+static uint64_t fit(size_t degree) {
+    return stakebook_fit(count, degree, xs, ROOM, ys, ROOM, sums, STAKEBOOK_SUMS, scratch, ROOM, coefficients, STAKEBOOK_TERMS);
+}
+
+static uint64_t validate(size_t folds, size_t most) {
+    return stakebook_validate(count, folds, STAKEBOOK_CUSTOM_DEGREE, most, STAKEBOOK_AIC, xs, ROOM, ys, ROOM, sums, STAKEBOOK_SUMS, scratch, ROOM,
+                              coefficients, STAKEBOOK_TERMS);
+}
+
+static uint64_t band(size_t degree) {
+    return stakebook_band(count, xs[count / 2], degree, STAKEBOOK_P95, 0, STAKEBOOK_VARIANCE, 0.1, xs, ROOM, ys, ROOM, sums, STAKEBOOK_SUMS, scratch,
+                          ROOM, numbers, STAKEBOOK_BAND);
+}
+
+static uint64_t report(uint32_t bound, size_t most, uint32_t tolerance, double value) {
+    return stakebook_report(count, bound, most, STAKEBOOK_AIC, STAKEBOOK_P95, 0, tolerance, value, xs, ROOM, ys, ROOM, sums, STAKEBOOK_SUMS,
+                            scratch, ROOM, coefficients, STAKEBOOK_TERMS, errors, STAKEBOOK_TERMS, pruned, STAKEBOOK_TERMS, lower, ROOM, upper, ROOM,
+                            outliers, ROOM);
+}
+
+/* ---- readings */
+
+static uint64_t state = 1;
+
+/* even in (0, 1), by splitmix64 */
+static double even(void) {
+    uint64_t z = state += 0x9E3779B97F4A7C15u;
+    z = (z ^ z >> 30) * 0xBF58476D1CE4E5B9u;
+    z = (z ^ z >> 27) * 0x94D049BB133111EBu;
+    return ((double)((z ^ z >> 31) >> 11) + 0.5) / 9007199254740992.0;
+}
+
+static double gaussian(void) { return sqrt(-2 * log(even())) * cos(6.283185307179586 * even()); }
+
+/* n readings with x even from first to last, on a line from 200 to 300 with Gaussian noise of standard deviation 10 */
+static void season(size_t n, double first, double last) {
+    opened();
+    for (size_t i = 0; i < n; i++) {
+        double share = n < 2 ? 0 : (double)i / (double)(n - 1);
+        add(first + (last - first) * share, 200 + 100 * share + 10 * gaussian());
+    }
+}
+
+/* reports with Custom 1, AIC and P95, and a tolerance in the unit of y */
+static void show_outliers(size_t n, int times, uint32_t tolerance, double value) {
+    double marked = 0;
+    int lines = 0;
+    for (int i = 0; i < times; i++) {
+        season(n, 0, 1);
+        uint64_t answer = report(STAKEBOOK_CUSTOM_DEGREE, 1, tolerance, value);
+        marked += stakebook_outliers(answer);
+        lines += stakebook_degree(answer) == 1;
+    }
+    printf("clean readings marked as outliers, n %zu", n);
+    if (tolerance == STAKEBOOK_ABSOLUTE) printf(", absolute %g", value);
+    printf(": %.1f %% (%d books, %d with degree 1)\n", 100 * marked / (double)n / times, times, lines);
+}
+
+/* the number of readings from which a bound by name is each degree: with x in [-1, 1] every degree is solved, so that it is their number less 1 */
+static void show_bound(const char *name, uint32_t bound) {
+    unsigned last = 0;
+    printf("%s:", name);
+    for (size_t n = 1; n <= ROOM; n++) {
+        season(n, -1, 1);
+        uint64_t answer = report(bound, 0, STAKEBOOK_NO_TOLERANCE, 0);
+        if (stakebook_refusal(answer) != 0) {
+            printf(" refused by %u from n %zu", stakebook_refusal(answer), n);
+            break;
+        }
+        if (stakebook_solved(answer) - 1 != last) printf(" degree %u from n %zu,", last = stakebook_solved(answer) - 1, n);
+    }
+    printf("\n");
+}
+
+static void show_unsolved(const char *name, size_t n, double first, double last) {
+    season(n, first, last);
+    printf("%s, n %zu, x %.17g to %.17g: unsolved degrees", name, n, first, last);
+    for (size_t degree = 0; degree < STAKEBOOK_TERMS && degree < n; degree++)
+        if (stakebook_refusal(fit(degree)) == 10) printf(" %zu", degree);
+    printf("\n");
+}
+
+/* ---- stack and time */
+
+static void nothing(void) {}
+static void one_open(void) { stakebook_open(sums, STAKEBOOK_SUMS); }
+static void one_add(void) { stakebook_add(count - 1, 0.5, 1, xs, ROOM, ys, ROOM, sums, STAKEBOOK_SUMS); }
+static void one_correct(void) { stakebook_correct(count, 0, 1, xs, ROOM, ys, ROOM, sums, STAKEBOOK_SUMS); }
+static void one_withdraw(void) { stakebook_withdraw(count, 0, xs, ROOM, ys, ROOM, sums, STAKEBOOK_SUMS); }
+static void one_frame(void) { stakebook_add_frame(0, frame, sizeof frame, xs, ROOM, ys, ROOM, sums, STAKEBOOK_SUMS); }
+static void one_fit(void) { fit(15); }
+static void one_band(void) { band(15); }
+static void one_report(void) { report(STAKEBOOK_CUSTOM_DEGREE, 15, STAKEBOOK_VARIANCE, 0.1); }
+static void ten_folds(void) { validate(10, 15); }
+static void all_folds_3(void) { validate(ROOM, 3); }
+static void all_folds_15(void) { validate(ROOM, 15); }
+
+#define STACK (1 << 20)
+static unsigned char stack[STACK];
+static ucontext_t here, there;
+
+/* runs a call on a stack of its own, painted before: the bytes down to the deepest that is no longer as painted */
+static size_t depth(void (*call)(void)) {
+    memset(stack, 0xA5, STACK);
+    getcontext(&there);
+    there.uc_stack.ss_sp = stack;
+    there.uc_stack.ss_size = STACK;
+    there.uc_link = &here;
+    makecontext(&there, call, 0);
+    swapcontext(&here, &there);
+    size_t clean = 0;
+    while (clean < STACK && stack[clean] == 0xA5) clean++;
+    return STACK - clean;
+}
+
+/* of the processor, so that other work beside it counts little */
+static double seconds(void) {
+    struct timespec now;
+    clock_gettime(CLOCK_PROCESS_CPUTIME_ID, &now);
+    return (double)now.tv_sec + (double)now.tv_nsec / 1e9;
+}
+
+/* the stack of one call, and the best time of so many */
+static void show_cost(const char *name, void (*call)(void), int times) {
+    double best = INFINITY;
+    season(ROOM, -1, 1);
+    size_t used = depth(call) - depth(nothing);
+    for (int i = 0; i < times; i++) {
+        season(ROOM, -1, 1);
+        double begun = seconds();
+        call();
+        double took = seconds() - begun;
+        if (took < best) best = took;
+    }
+    printf("%s at 4,096: %zu bytes of stack, %.3f ms\n", name, used, 1000 * best);
+}
+
+int main(void) {
+    show_outliers(10, 20000, STAKEBOOK_NO_TOLERANCE, NAN);
+    show_outliers(30, 10000, STAKEBOOK_NO_TOLERANCE, NAN);
+    show_outliers(100, 5000, STAKEBOOK_NO_TOLERANCE, NAN);
+    show_outliers(1000, 1000, STAKEBOOK_NO_TOLERANCE, NAN);
+    /* twice the noise's standard deviation */
+    show_outliers(10, 20000, STAKEBOOK_ABSOLUTE, 20);
+    show_outliers(100, 5000, STAKEBOOK_ABSOLUTE, 20);
+    show_bound("conservative", STAKEBOOK_CONSERVATIVE);
+    show_bound("relaxed", STAKEBOOK_RELAXED);
+    show_bound("aggressive", STAKEBOOK_AGGRESSIVE);
+    show_unsolved("years", 21, 2000, 2020);
+    show_unsolved("the same less 2010", 21, -10, 10);
+    show_unsolved("Unix seconds of a year's days", 366, 1704067200, 1735603200);
+    show_unsolved("the same less their middle", 366, -15768000, 15768000);
+    show_unsolved("Unix seconds of twenty years' months", 241, 946684800, 1577836800);
+    show_unsolved("depth in m", 40, 0.05, 2);
+    show_unsolved("day of year", 365, 1, 365);
+    show_unsolved("elevation in m", 30, 2400, 3300);
+    show_unsolved("from -1 to 1", 40, -1, 1);
+
+    /* a frame of 4,095 readings, all (1, 1) */
+    const uint8_t one[8] = {0x3F, 0xF0};
+    frame[0] = (uint8_t)((sizeof frame - 2) >> 8);
+    frame[1] = (uint8_t)((sizeof frame - 2) & 0xFF);
+    frame[2] = 1;
+    for (size_t i = 3; i < sizeof frame; i += 8) memcpy(frame + i, one, 8);
+    show_cost("open", one_open, 100);
+    show_cost("add", one_add, 100);
+    show_cost("correct", one_correct, 100);
+    show_cost("withdraw", one_withdraw, 100);
+    show_cost("add_frame", one_frame, 100);
+    show_cost("fit of degree 15", one_fit, 100);
+    show_cost("band of degree 15", one_band, 100);
+    show_cost("report up to degree 15", one_report, 100);
+    show_cost("validate in 10 folds up to degree 15", ten_folds, 20);
+    show_cost("validate in 4,096 folds up to degree 3", all_folds_3, 3);
+    show_cost("validate in 4,096 folds up to degree 15", all_folds_15, 3);
+    return 0;
+}
