@@ -1,6 +1,6 @@
 //! How a degree is bounded and scored, and how wide a band is.
 
-/// The highest degree that is tried. The bounds by name are meant for many samples: below 30
+/// The highest degree that is tried. The bounds by name need many samples: below 30
 /// (`Conservative`) or 16 (`Relaxed`, `Aggressive`) they try degree 0 alone.
 #[derive(Debug, Clone, Copy, PartialEq)]
 pub enum DegreeBound {
