@@ -1,12 +1,13 @@
 -- From what the book's own call promises to what the C interface promises.
-use mathlib.Core.Path.{_≡_, refl, ap, _∙_}
+use mathlib.Core.Path.{_≡_, refl, sym, ap, subst, _∙_}
 use mathlib.Core.Bool.{true, false}
 use mathlib.Core.List.{List, [], _∷_}
-use Prim.Native.Nat.{ℕ, _≤_}
+use Prim.Native.Nat.{ℕ, _≤_, _<_}
 use native.Mathlib.Omega.{arith}
 use lib.Dec.{ltb}
 use lib.ListN.{length, set}
 use lib.Ieee.{Float}
+use Rattle.frame.specs.declared.cursor.Read.{Read}
 use Rattle.book.specs.declared.Answer.{Answer}
 use Rattle.book.specs.Calls.{Out, Is}
 use Rattle.query.specs.declared.FitAnswer.{FitAnswer}
@@ -16,9 +17,12 @@ use Rattle.query.specs.Bands.{BandOut, BandIs}
 use Rattle.report.specs.declared.ReportAnswer.{ReportAnswer}
 use Rattle.report.specs.Reports.{ReportOut, Does}
 use Rattle.report.specs.Outputs.{LentOutputs}
+use Rattle.replay.specs.declared.Replayed.{Replayed}
+use Rattle.replay.specs.Records.{callsOf}
+use Rattle.replay.specs.Replay.{LentMemory, Ran, ReplayIs}
 use Rattle.lent.specs.Slices.{Slice, before, after}
 use Rattle.lent.specs.Written.{over}
-use Rattle.capi.specs.Packed.{packedRefusal, packedBook, packedFit, packedBand, packedReport, bandNumbers, bandInto, BookPacked, FitPacked, BandPacked, ReportPacked}
+use Rattle.capi.specs.Packed.{packedRefusal, packedBook, packedFit, packedBand, packedReport, bandNumbers, bandInto, BookPacked, FitPacked, BandPacked, ReportPacked, packedRead, readNumbers, ReadPacked, packedReplay, ReplayPacked}
 
 pub book-packed : {o : Out} {a : Answer} {r : ℕ} {xs ys sums : List Float} → Is o a xs ys sums → r ≡ packedBook a → BookPacked o r xs ys sums
 book-packed i e =
@@ -54,3 +58,27 @@ module _ (o : BandOut) (places : ℕ) (s v : Slice Float) where
         lent = record { answer = refl; scratch = i .scratch };
         numbers = n ∙ ap (λ (b : BandAnswer). over (bandNumbers b) (before v)) (i .answer);
       })
+
+-- two places are written
+pub two-written : (v w : Float) (l : List Float) → 2 ≤ length l → set (set l 0 v) 1 w ≡ over (v ∷ w ∷ []) l
+two-written v w [] h = absurd (omega arith)
+two-written v w (a ∷ []) h = absurd (omega arith)
+two-written v w (a ∷ b ∷ l) h = refl
+
+-- a sample into too few places, and into enough
+module _ (a : Read) (v : Slice Float) where
+  pub read-short : length (before v) < 2 → after v ≡ before v → (r : ℕ) → r ≡ packedRefusal 1 → ReadPacked a r v
+  read-short h ev r e = record { short = λ _. (e, ev); read = λ k. absurd (omega arith) }
+
+  pub read-packed : 2 ≤ length (before v) → (b : Read) (r : ℕ) → b ≡ a → r ≡ packedRead b → after v ≡ over (readNumbers b) (before v) → ReadPacked a r v
+  read-packed h b r q e n =
+      record { short = λ k. absurd (omega arith); read = λ _. (e ∙ ap packedRead q, n ∙ ap (λ (z : Read). over (readNumbers z) (before v)) q) }
+
+pub replay-packed : {kinds words : List ℕ} {numbers : List Float} {width : ℕ} {m : LentMemory} {a : Replayed} {r : ℕ}
+    → ReplayIs kinds words numbers width m a → r ≡ packedReplay a → ReplayPacked kinds words numbers width m r
+unfolding packedReplay
+replay-packed {kinds} {words} {numbers} {width} {m} i e =
+    record {
+      malformed = λ h. let b = i .malformed h in (e ∙ ap packedReplay (b .0), b .1);
+      ran = λ h. let b = i .ran h in subst (λ n. Ran (callsOf kinds words numbers) width n (m .found) (m .left)) (sym (e ∙ ap packedReplay (b .answer))) (b .ran);
+    }

@@ -1,12 +1,17 @@
 -- How the C interface packs an answer into one number of 64 bits, and what each of its calls promises. Definitions only.
 use mathlib.Core.Path.{_≡_}
-use mathlib.Core.Bool.{cond}
+use mathlib.Core.Bool.{true, false, cond}
 use mathlib.Core.List.{List, [], _∷_}
-use Prim.Native.Nat.{ℕ, _+_, _*_, _≤_}
+use Prim.Native.Nat.{ℕ, _+_, _*_, _≤_, _<_}
 use lib.Dec.{ltb}
 use lib.Ieee.{Float}
+use lib.ListN.{length}
 use Rattle.refusal.specs.Refusals.{mostNumber}
 use Rattle.basis.specs.Sizes.{maxSamples, maxTerms}
+use Rattle.frame.specs.declared.cursor.Opened.{Opened}
+use Rattle.frame.specs.declared.cursor.Opened.the-variants as readers
+use Rattle.frame.specs.declared.cursor.Read.{Read}
+use Rattle.frame.specs.declared.cursor.Read.the-variants as reads
 use Rattle.book.specs.declared.Answer.{Answer}
 use Rattle.book.specs.declared.Answer.the-variants as books
 use Rattle.book.specs.Calls.{Out, Is}
@@ -21,6 +26,10 @@ use Rattle.report.specs.declared.ReportAnswer.the-variants as reports
 use Rattle.report.specs.Reports.{ReportOut, reportOut, Does}
 use Rattle.report.specs.Outputs.{LentOutputs, placesOf}
 use Rattle.settings.specs.declared.Settings.{Settings}
+use Rattle.replay.specs.declared.Replayed.{Replayed}
+use Rattle.replay.specs.declared.Replayed.the-variants as replays
+use Rattle.replay.specs.Records.{callsOf, wellFormed}
+use Rattle.replay.specs.Replay.{LentMemory, buffersIn, Ran}
 use Rattle.lent.specs.Slices.{Slice, before, after}
 use Rattle.lent.specs.Written.{over}
 
@@ -61,6 +70,29 @@ bandNumbers (bands.Refused k) = []
 -- a band into so many places: 1 judges them with the other lengths, before all else
 unfoldable pub bandInto : ℕ → BandOut → BandOut
 bandInto places o = cond (ltb places 3) (bandRefused 1) o
+
+-- a reader: the offset of its next sample
+unfoldable pub packedOpened : Opened → ℕ
+packedOpened (readers.Cursor c) = c .at
+packedOpened (readers.Refused k) = packedRefusal k
+
+-- what it finds: the offset behind the sample; 0, which is behind no sample, at the end
+unfoldable pub packedRead : Read → ℕ
+packedRead (reads.Sample x y c) = c .at
+packedRead reads.End = 0
+
+-- x and y; at the end none is written
+unfoldable pub readNumbers : Read → List Float
+readNumbers (reads.Sample x y c) = x ∷ y ∷ []
+readNumbers reads.End = []
+
+-- a replay: the book's count; 255, which is no refusal's number, where the buffers hold no list of calls
+abbrev pub packedMalformed : ℕ
+packedMalformed = packedRefusal 255
+
+unfoldable pub packedReplay : Replayed → ℕ
+packedReplay (replays.Book b) = b .count
+packedReplay replays.Malformed = packedMalformed
 
 -- ---- what fits its field: 01's numbers, and what the calls can answer
 
@@ -107,3 +139,16 @@ pub record ReportPacked (o : ReportOut) (r : ℕ) (w : LentOutputs) : Type 0 whe
 -- of a report of the columns xs and ys and these sums
 abbrev pub ReportPackedIs : ℕ → Settings → List Float → List Float → List Float → ℕ → LentOutputs → Type 0
 ReportPackedIs n settings xs ys sums r w = ReportPacked (reportOut n settings xs ys sums (placesOf (w .found))) r w
+
+-- v: the lent places for x and y
+pub record ReadPacked (a : Read) (r : ℕ) (v : Slice Float) : Type 0 where
+  -- fewer than two are refused by 1, and none is written
+  pub short : length (before v) < 2 → (r ≡ packedRefusal 1) × (after v ≡ before v)
+  pub read : 2 ≤ length (before v) → (r ≡ packedRead a) × (after v ≡ over (readNumbers a) (before v))
+
+-- r is the answer, m the memory
+pub record ReplayPacked (kinds words : List ℕ) (numbers : List Float) (width : ℕ) (m : LentMemory) (r : ℕ) : Type 0 where
+  -- buffers that hold no list of calls: they say so, and no place is written
+  pub malformed : wellFormed kinds words numbers width (buffersIn (m .found)) ≡ false → (r ≡ packedMalformed) × (m .left ≡ m .found)
+  -- any other: all its calls were run, and the answer is the book
+  pub ran : wellFormed kinds words numbers width (buffersIn (m .found)) ≡ true → Ran (callsOf kinds words numbers) width r (m .found) (m .left)

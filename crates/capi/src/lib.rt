@@ -4,6 +4,8 @@ mod packed;
 
 use basis::Degree;
 use book::Book;
+use frame::Cursor;
+use frame::Read;
 use query::BandAnswer;
 use report::ReportAnswer;
 ghost use mathlib.Core.Path.{_≡_};
@@ -14,11 +16,13 @@ ghost use Rattle.book.specs.Calls.{openOut, addOut, correctOut, withdrawOut, ad
 ghost use Rattle.samples.specs.Columns.{columnsOf};
 ghost use Rattle.lent.specs.Slices.{before};
 ghost use Rattle.lent.specs.Written.{over};
+ghost use Rattle.frame.specs.Handed.{openedOf, nextOf};
 ghost use Rattle.query.specs.Fits.{fitOut, validateOut};
 ghost use Rattle.query.specs.Bands.{bandOut};
 ghost use Rattle.report.specs.Outputs.{outputs};
+ghost use Rattle.replay.specs.Replay.{memory};
 ghost use Rattle.settings.specs.Numbers.{boundOf, criterionOf, confidenceOf, toleranceOf, settingsOf};
-ghost use Rattle.capi.specs.Packed.{packedCounts, packedReport, ReportFits, packedBand, bandNumbers, BookPacked, FitPacked, BandPacked, bandInto, ReportPackedIs};
+ghost use Rattle.capi.specs.Packed.{packedCounts, packedReport, ReportFits, packedBand, bandNumbers, BookPacked, FitPacked, BandPacked, bandInto, ReportPackedIs, packedOpened, packedRead, readNumbers, ReadPacked, ReplayPacked};
 
 // The four numbers of a report, each in its field.
 fn counts(degree: usize, solved: usize, outliers: usize, pruned: usize) -> u64
@@ -58,6 +62,21 @@ fn packed_band(answer: BandAnswer, numbers: &mut [f64]) -> u64
             0
         }
         BandAnswer::Refused(k) => packed::refused(k),
+    }
+}
+
+// What a reader finds: the offset behind the sample, whose x and y are written; 0, which is behind no sample, at the end.
+fn packed_read(answer: Read, numbers: &mut [f64]) -> u64
+    requires { ⌜ 2 ≤ length (now numbers) ⌝ }
+    ensures { λ r. ⌜ (r ≡ packedRead answer) × (now (numbers .exit) ≡ over (readNumbers answer) (now (numbers .entry))) ⌝ }
+{
+    match answer {
+        Read::Sample(x, y, c) => {
+            numbers[0] = x;
+            numbers[1] = y;
+            c.at as u64
+        }
+        Read::End => 0,
     }
 }
 
@@ -250,6 +269,65 @@ pub extern "C" fn stakebook_report(
         xs,
         ys,
         sums,
+        scratch,
+        coefficients,
+        errors,
+        pruned,
+        lower,
+        upper,
+        outliers,
+    ))
+}
+
+// A reader of a frame: the offset of its first sample.
+#[no_mangle]
+pub extern "C" fn stakebook_reader(frame: &[u8]) -> u64
+    ensures { λ r. ⌜ r ≡ packedOpened (openedOf (before frame)) ⌝ }
+{
+    packed::opened(frame::reader(frame))
+}
+
+// The sample at an offset of a frame, written to two places: x and y. The frame is not judged again: that was done when its reader was made.
+#[no_mangle]
+pub extern "C" fn stakebook_next(frame: &[u8], at: usize, numbers: &mut [f64]) -> u64
+    ensures { λ r. ⌜ ReadPacked (nextOf (before frame) at) r numbers ⌝ }
+{
+    if numbers.len() < 2 {
+        return packed::refused(1);
+    }
+    packed_read(frame::next(frame, Cursor { at }), numbers)
+}
+
+// A list of adds, corrections, withdrawals and reports, from a book just opened. Buffers that hold no list of calls are told by 255.
+#[no_mangle]
+pub extern "C" fn stakebook_replay(
+    kinds: &[u32],
+    words: &[usize],
+    numbers: &[f64],
+    width: usize,
+    xs: &mut [f64],
+    ys: &mut [f64],
+    sums: &mut [f64],
+    results: &mut [usize],
+    scratch: &mut [f64],
+    coefficients: &mut [f64],
+    errors: &mut [f64],
+    pruned: &mut [u8],
+    lower: &mut [f64],
+    upper: &mut [f64],
+    outliers: &mut [u8],
+) -> u64
+    ensures { λ r. ⌜ ReplayPacked (before kinds) (before words) (before numbers) width (memory xs ys sums results (outputs scratch coefficients errors pruned lower upper outliers)) r ⌝ }
+{
+    packed::replay(replay::replay(
+        kinds,
+        words,
+        numbers,
+        width,
+        xs,
+        ys,
+        sums,
+        results,
         scratch,
         coefficients,
         errors,
