@@ -132,7 +132,50 @@ extern "C" {
         outliers: *mut u8,
         outliers_len: usize,
     ) -> u64;
+    pub fn stakebook_reader(frame: *const u8, frame_len: usize) -> u64;
+    pub fn stakebook_next(
+        frame: *const u8,
+        frame_len: usize,
+        at: usize,
+        numbers: *mut f64,
+        numbers_len: usize,
+    ) -> u64;
+    pub fn stakebook_replay(
+        kinds: *const u32,
+        kinds_len: usize,
+        words: *const usize,
+        words_len: usize,
+        numbers: *const f64,
+        numbers_len: usize,
+        width: usize,
+        xs: *mut f64,
+        xs_len: usize,
+        ys: *mut f64,
+        ys_len: usize,
+        sums: *mut f64,
+        sums_len: usize,
+        results: *mut usize,
+        results_len: usize,
+        scratch: *mut f64,
+        scratch_len: usize,
+        coefficients: *mut f64,
+        coefficients_len: usize,
+        errors: *mut f64,
+        errors_len: usize,
+        pruned: *mut u8,
+        pruned_len: usize,
+        lower: *mut f64,
+        lower_len: usize,
+        upper: *mut f64,
+        upper_len: usize,
+        outliers: *mut u8,
+        outliers_len: usize,
+    ) -> u64;
 }
+
+/// Where a refusal's number stands, in the answer of a replay: the buffers hold no list of calls.
+/// No call is refused by it.
+pub const MALFORMED: u8 = 255;
 
 /// The number of the refusal in an answer, 0 if there is none.
 pub fn refusal(answer: u64) -> u8 {
