@@ -14,6 +14,7 @@ use judge::sums::{a, folded_afresh, PLACES, TERMS};
 use judge::Sample;
 
 use crate::call::name;
+use crate::replay;
 use crate::run::passes_nine;
 
 /// One call, and what came of it.
@@ -82,7 +83,7 @@ const LENGTHS: [(&str, &[&str]); 8] = [
 ];
 
 /// Everything else that must happen.
-const EVENTS: [&str; 49] = [
+const EVENTS: [&str; 53] = [
     "report: 11 with no degree solved",
     "report: 11 with degrees solved",
     "report: degree 0 unsolved, a higher one chosen",
@@ -132,6 +133,10 @@ const EVENTS: [&str; 49] = [
     "count: above capacity",
     "count: above 4,096 in longer columns",
     "count: 4,096 in longer columns",
+    "replay: a change answered",
+    "replay: a change refused",
+    "replay: a report answered",
+    "replay: a report refused",
 ];
 
 /// Six confidences; df 1 to 29 by the table, 30 and more by the z score.
@@ -158,6 +163,7 @@ impl Coverage {
         keys.extend((0..TERMS).map(|degree| format!("chosen degree: {degree}")));
         keys.extend(COUNTS.map(|n| format!("samples: {n}")));
         keys.extend(EVENTS.map(String::from));
+        keys.extend((0..replay::WAYS).map(|way| format!("replay: too short in way {way}")));
         for (memory, calls) in LENGTHS {
             for call in calls {
                 for fit in ["one too short", "exact", "with places past the end"] {
@@ -208,6 +214,18 @@ impl Coverage {
         if passes_nine(&seen.answer) {
             self.note_reading(seen);
         }
+    }
+
+    /// A call of a replay.
+    pub fn note_replayed(&mut self, call: &Call, answer: &Answer) {
+        let kind = if let Call::Report(_) = call { "report" } else { "change" };
+        let outcome = if let Answer::Refused(_) = answer { "refused" } else { "answered" };
+        self.note(format!("replay: a {kind} {outcome}"));
+    }
+
+    /// Buffers of a replay that are too short in this way.
+    pub fn note_malformed(&mut self, way: u64) {
+        self.note(format!("replay: too short in way {way}"));
     }
 
     fn note_pairs(&mut self, name: &str, conditions: &Conditions) {

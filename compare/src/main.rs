@@ -19,6 +19,7 @@ mod gsl;
 mod memory;
 mod random;
 mod reference;
+mod replay;
 mod run;
 mod samples;
 mod shrink;

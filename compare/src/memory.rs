@@ -31,18 +31,35 @@ pub fn filled(list: &List) -> Memory {
     let longest = |of: fn(&Lengths) -> usize| {
         list.steps.iter().map(|step| of(&step.lengths)).max().unwrap_or(0)
     };
-    let random = &mut Random::new(list.contents);
+    let lengths = Lengths {
+        x: longest(|l| l.x),
+        y: longest(|l| l.y),
+        sums: longest(|l| l.sums),
+        scratch: longest(|l| l.scratch),
+        coefficients: longest(|l| l.coefficients),
+        errors: longest(|l| l.errors),
+        pruned: longest(|l| l.pruned),
+        lower: longest(|l| l.lower),
+        upper: longest(|l| l.upper),
+        outlier: longest(|l| l.outlier),
+    };
+    filled_for(list.contents, &lengths)
+}
+
+/// Memory of these lengths and a little more, holding what the seed says.
+pub fn filled_for(contents: u64, lengths: &Lengths) -> Memory {
+    let random = &mut Random::new(contents);
     Memory {
-        x: numbers(random, longest(|l| l.x)),
-        y: numbers(random, longest(|l| l.y)),
-        sums: numbers(random, longest(|l| l.sums)),
-        scratch: numbers(random, longest(|l| l.scratch)),
-        coefficients: numbers(random, longest(|l| l.coefficients)),
-        errors: numbers(random, longest(|l| l.errors)),
-        pruned: bytes(random, longest(|l| l.pruned)),
-        lower: numbers(random, longest(|l| l.lower)),
-        upper: numbers(random, longest(|l| l.upper)),
-        outlier: bytes(random, longest(|l| l.outlier)),
+        x: numbers(random, lengths.x),
+        y: numbers(random, lengths.y),
+        sums: numbers(random, lengths.sums),
+        scratch: numbers(random, lengths.scratch),
+        coefficients: numbers(random, lengths.coefficients),
+        errors: numbers(random, lengths.errors),
+        pruned: bytes(random, lengths.pruned),
+        lower: numbers(random, lengths.lower),
+        upper: numbers(random, lengths.upper),
+        outlier: bytes(random, lengths.outlier),
     }
 }
 

@@ -1,7 +1,7 @@
 //! Runs a list of calls: the judge on its own memory, and beside it the plain ledger, polyfit, and
-//! every other side on memory of its own. Ends at the first difference.
+//! every other side on memory of its own; then its calls as one replay. Ends at the first difference.
 
-use journal::{Answer, Call, Judge, Memory, Side};
+use journal::{Answer, Buffers, Call, Judge, Memory, Side};
 use judge::book::answer_of;
 use judge::fit::Report;
 use judge::ledger::Ledger;
@@ -12,7 +12,7 @@ use judge::Sample;
 use crate::call::{conditions, List, Step};
 use crate::coverage::{Coverage, Seen};
 use crate::memory::{difference, filled, first_difference, poke, samples};
-use crate::reference;
+use crate::{reference, replay};
 
 /// Where two sides differ.
 #[derive(Debug, Clone)]
@@ -44,7 +44,8 @@ pub fn run(list: &List, others: &[&dyn Side], coverage: &mut Coverage) -> Result
     for (at, step) in list.steps.iter().enumerate() {
         run.step(step, coverage).map_err(|what| Difference { step: at, what })?;
     }
-    Ok(())
+    let past = list.steps.len();
+    replay::check(list, Buffers::replay, coverage).map_err(|what| Difference { step: past, what })
 }
 
 impl Run<'_> {

@@ -1,10 +1,11 @@
 //! The comparison finds faults, and shrinks the lists that show them.
 
-use journal::{Answer, Call, Judge, Lent, Port, Side};
+use journal::{Answer, Buffers, Call, Judge, Lent, Port, Side};
 
 use crate::call::List;
 use crate::coverage::Coverage;
 use crate::generate;
+use crate::replay::{self, Replays};
 use crate::run::run;
 use crate::shrink::shrink;
 use crate::text;
@@ -116,6 +117,44 @@ fn withdrawal_by_subtraction() {
     });
     // Shrinking does not lower an index, so the adds below it stay.
     assert!(list.steps.len() <= 6, "{list:?}");
+}
+
+#[test]
+fn faults_of_a_replay() {
+    let found = |replays: Replays| {
+        let fails = |number| {
+            let list = generate::list(7, number);
+            replay::check(&list, replays, &mut Coverage::default()).is_err()
+        };
+        (1..200).any(fails)
+    };
+    assert!(!found(Buffers::replay));
+    // The last call's last result is not written.
+    assert!(found(|buffers| {
+        let last = buffers.results.last().copied();
+        let count = buffers.replay();
+        if let (Some(place), Some(last)) = (buffers.results.last_mut(), last) {
+            *place = last;
+        }
+        count
+    }));
+    // A place past the lent windows is written.
+    assert!(found(|buffers| {
+        let count = buffers.replay();
+        let past = buffers.lengths.upper;
+        buffers.memory.upper[past] += 1.0;
+        count
+    }));
+    // A place of a column past the count is cleared.
+    assert!(found(|buffers| {
+        let count = buffers.replay()?;
+        if count < buffers.lengths.x {
+            buffers.memory.x[count] = 0.0;
+        }
+        Some(count)
+    }));
+    // Buffers that are too short are not told.
+    assert!(found(|buffers| buffers.replay().or(Some(0))));
 }
 
 /// Every list is the same when made again, and so is its run.

@@ -2,7 +2,8 @@
 //!
 //! `call` has the calls and their answers as data, `request` a line of the text, read and written;
 //! `memory` is what is lent; `side` has the calls as a trait, which the judge implements there and the
-//! proved library in `port`; `run` goes through a text line by line.
+//! proved library in `port`; `replay` has a list of calls in buffers, which the library runs in one call;
+//! `run` goes through a text line by line.
 //!
 //! A further call is a case of `Call` with its line in `request`, a method of `Calls`, and its two
 //! implementations; an answer of a new kind is a case of `Answer` with the line that it prints.
@@ -10,6 +11,7 @@
 pub mod call;
 pub mod memory;
 pub mod port;
+pub mod replay;
 pub mod request;
 pub mod run;
 pub mod side;
@@ -17,6 +19,7 @@ pub mod side;
 pub use call::{Answer, Call};
 pub use memory::{Lent, Memory, Name};
 pub use port::Port;
+pub use replay::Buffers;
 pub use request::Request;
 pub use run::{run, Journal};
 pub use side::{Calls, Judge, Side};

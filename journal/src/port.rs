@@ -7,7 +7,7 @@ use stakebook::sys;
 
 use crate::call::Answer;
 use crate::memory::Lent;
-use crate::side::{Calls, Judge};
+use crate::side::Calls;
 
 /// The functions of `include/stakebook.h`.
 pub struct Port;
@@ -17,7 +17,7 @@ const UNWRITTEN: f64 = -12345.678;
 
 /// The numbers that name the cases of each setting. The last case takes every other number, so that
 /// a number above all is as good; the values that the other cases ignore are never 0.
-fn bound_numbers(bound: DegreeBound) -> (u32, usize) {
+pub(crate) fn bound_numbers(bound: DegreeBound) -> (u32, usize) {
     match bound {
         DegreeBound::Conservative => (0, usize::MAX),
         DegreeBound::Relaxed => (1, 16),
@@ -27,14 +27,14 @@ fn bound_numbers(bound: DegreeBound) -> (u32, usize) {
     }
 }
 
-fn criterion_number(criterion: Criterion) -> u32 {
+pub(crate) fn criterion_number(criterion: Criterion) -> u32 {
     match criterion {
         Criterion::Aic => 0,
         Criterion::Bic => 1,
     }
 }
 
-fn confidence_numbers(confidence: Confidence) -> (u32, f64) {
+pub(crate) fn confidence_numbers(confidence: Confidence) -> (u32, f64) {
     match confidence {
         Confidence::P80 => (0, f64::NAN),
         Confidence::P90 => (1, f64::INFINITY),
@@ -47,7 +47,7 @@ fn confidence_numbers(confidence: Confidence) -> (u32, f64) {
     }
 }
 
-fn tolerance_numbers(tolerance: Tolerance) -> (u32, f64) {
+pub(crate) fn tolerance_numbers(tolerance: Tolerance) -> (u32, f64) {
     match tolerance {
         Tolerance::None => (0, f64::NAN),
         Tolerance::Absolute(value) => (1, value),
@@ -157,6 +157,28 @@ fn band_into(
     answer
 }
 
+/// What is read at an offset into so many places: two are written and none past them, none at the end
+/// or where it is refused.
+fn read_into(places: usize, frame: &[u8], at: usize) -> (u64, [f64; 3]) {
+    let mut numbers = [UNWRITTEN; 3];
+    // SAFETY: the slices are the caller's, initialised and apart.
+    let packed = unsafe {
+        sys::stakebook_next(frame.as_ptr(), frame.len(), at, numbers.as_mut_ptr(), places)
+    };
+    let written = if sys::refusal(packed) == 0 && packed != 0 { 2 } else { 0 };
+    assert!(numbers[written..].iter().all(|&number| number == UNWRITTEN), "{numbers:?}");
+    (packed, numbers)
+}
+
+/// The sample at an offset, with the offset behind it; none at the end.
+fn sample_at(frame: &[u8], at: usize) -> Option<(Sample, usize)> {
+    let (short, _) = read_into(1, frame, at);
+    assert!(short == 1 << 56, "one place for a sample: {short:#x}");
+    let (behind, [x, y, _]) = read_into(2, frame, at);
+    assert!(behind == 0 || behind == at as u64 + 16, "behind {at}: {behind:#x}");
+    (behind != 0).then(|| (Sample { x, y }, behind as usize))
+}
+
 impl Calls for Port {
     const NAME: &'static str = "port";
 
@@ -233,8 +255,20 @@ impl Calls for Port {
         band_into(3, count, &mut lent, at, settings)
     }
 
-    /// The C interface has no reader, so there is nothing to compare.
     fn reader(&self, frame: &[u8]) -> Answer {
-        Judge.reader(frame)
+        // SAFETY: the slice is the caller's, and initialised.
+        let opened = unsafe { sys::stakebook_reader(frame.as_ptr(), frame.len()) };
+        read(opened, |first| {
+            let mut samples = Vec::new();
+            let mut at = first as usize;
+            while let Some((sample, behind)) = sample_at(frame, at) {
+                samples.push(sample);
+                at = behind;
+            }
+            // The end is told wherever no sample is left.
+            assert!(sample_at(frame, frame.len()).is_none());
+            assert!(sample_at(frame, usize::MAX).is_none());
+            Answer::Samples(samples)
+        })
     }
 }
