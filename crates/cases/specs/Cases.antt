@@ -17,8 +17,8 @@ use Rattle.statistics.specs.declared.Confidence.the-variants.{P95}
 use Rattle.statistics.specs.declared.DegreeBound.the-variants.{Conservative, Relaxed, Custom}
 use Rattle.statistics.specs.Degrees.{root, rootUpTo, maxDegree}
 use Rattle.statistics.specs.Medians.{insert, sort, midpoint, medianOf}
-use Rattle.statistics.specs.Table.{thousandths, zThousandths}
-use Rattle.solve.specs.Solve.{cell, solve}
+use Rattle.statistics.specs.Table.{tableEntry, thousandths, zThousandths}
+use Rattle.solve.specs.Solve.{solve}
 use Rattle.statistics.specs.Scores.{milli, zAt, zScore, entryAt, tableScore, tScore}
 use Rattle.monomial.specs.Rows.{Row, rowsOf}
 use Rattle.monomial.specs.Sums.{sumsOf}
@@ -105,7 +105,7 @@ solved-is rows k t v e = ap (λ (s : Scored). s .solved) e
 -- ---- the theorem
 
 pub cases : Cases
-unfolding maxDegree root rootUpTo tScore tableScore entryAt cell milli zScore zAt thousandths zThousandths medianOf sort insert midpoint choiceOf tried table ofInt ofBits round size span climb odd units sum add div lt le eq trailingZeros countOf
+unfolding maxDegree root rootUpTo tScore tableScore entryAt tableEntry milli zScore zAt thousandths zThousandths medianOf sort insert midpoint choiceOf tried table ofInt ofBits round size span climb odd units sum add div lt le eq trailingZeros countOf
 cases =
     record {
       t1 = refl;
