@@ -1,6 +1,10 @@
 -- Reading a packed answer, as include/stakebook.h does, gives the answer back: no bit is lost. Definitions only.
 use mathlib.Core.Path.{_≡_}
-use Prim.Native.Nat.{ℕ, _/_, _%_}
+use Prim.Native.Nat.{ℕ, _/_, _%_, _<_}
+use Rattle.frame.specs.declared.cursor.Opened.{Opened}
+use Rattle.frame.specs.declared.cursor.Opened.the-variants as readers
+use Rattle.frame.specs.declared.cursor.Read.{Read}
+use Rattle.frame.specs.declared.cursor.Read.the-variants as reads
 use Rattle.book.specs.declared.Answer.{Answer}
 use Rattle.book.specs.declared.Answer.the-variants as books
 use Rattle.query.specs.declared.FitAnswer.{FitAnswer}
@@ -14,7 +18,7 @@ use Rattle.report.specs.declared.ReportAnswer.the-variants as reports
 abbrev pub numberIn : ℕ → ℕ
 numberIn p = p / 0x100_0000_0000_0000
 
--- the count of a book
+-- the count of a book, the offset of a reader
 abbrev pub countIn : ℕ → ℕ
 countIn p = p % 0x100_0000_0000_0000
 
@@ -50,3 +54,12 @@ unfoldable pub ReportRead : ℕ → ReportAnswer → Type 0
 ReportRead p (reports.Report d solved outliers pruned) =
     (numberIn p ≡ 0) × (degreeIn p ≡ d .0) × (solvedIn p ≡ solved) × (prunedIn p ≡ pruned) × (outliersIn p ≡ outliers)
 ReportRead p (reports.Refused k) = numberIn p ≡ k
+
+unfoldable pub OpenedRead : ℕ → Opened → Type 0
+OpenedRead p (readers.Cursor c) = (numberIn p ≡ 0) × (countIn p ≡ c .at)
+OpenedRead p (readers.Refused k) = numberIn p ≡ k
+
+-- 0 is the end and no sample
+unfoldable pub ReadRead : ℕ → Read → Type 0
+ReadRead p (reads.Sample x y c) = (0 < p) × (numberIn p ≡ 0) × (countIn p ≡ c .at)
+ReadRead p reads.End = p ≡ 0

@@ -1,10 +1,14 @@
 -- Laws of Reading.antt.
 use mathlib.Core.Path.{_≡_, refl, ap, _∙_}
-use mathlib.Core.List.{List}
-use Prim.Native.Nat.{ℕ, _+_, _-_, _*_, _/_, _%_, _≤_, _<_}
+use mathlib.Core.Bool.{Bool, true, false}
+use mathlib.Core.List.{List, []}
+use Prim.Native.Nat.{ℕ, zero, suc, _+_, _-_, _*_, _/_, _%_, _≤_, _<_}
 use native.Mathlib.Nat.{add-mul-div-right, div-eq-of-lt, mod-eq-of-lt, mod-eq-sub-div-mul, add-sub-cancel}
 use native.Mathlib.Omega.{arith}
+use borrow.Author.Tests.{leb-true, leb-false}
+use lib.Dec.{leb}
 use lib.Ieee.{Float}
+use lib.ListN.{length, getD, take, length-take, length-map}
 use Rattle.statistics.specs.declared.DegreeBound.{DegreeBound}
 use Rattle.statistics.specs.declared.Confidence.{Confidence}
 use Rattle.statistics.specs.declared.Tolerance.{Tolerance}
@@ -13,7 +17,10 @@ use Rattle.score.specs.declared.Criterion.{Criterion}
 use Rattle.book.specs.declared.Answer.{Answer}
 use Rattle.book.specs.declared.Answer.the-variants as books
 use Rattle.book.specs.Calls.{openOut, addOut, correctOut, withdrawOut, addFrameOut}
-use Rattle.samples.specs.Columns.{columnsOf}
+use Rattle.samples.specs.Columns.{columnsOf, ofX, value}
+use Rattle.frame.specs.Frame.{frameRefusal}
+use Rattle.frame.specs.Handed.{nextOf, openedBy, openedOf}
+use Rattle.frame.specs.HandedLaws.{next-whole, next-end}
 use Rattle.query.specs.declared.FitAnswer.{FitAnswer}
 use Rattle.query.specs.declared.FitAnswer.the-variants as fits
 use Rattle.query.specs.declared.BandAnswer.{BandAnswer}
@@ -25,9 +32,12 @@ use Rattle.report.specs.declared.Places.{Places}
 use Rattle.report.specs.declared.ReportAnswer.{ReportAnswer}
 use Rattle.report.specs.declared.ReportAnswer.the-variants as reports
 use Rattle.report.specs.Reports.{reportOut}
-use Rattle.capi.specs.Packed.{bandInto, packedRefusal, packedBook, packedFit, packedBand, packedCounts, packedReport, BookFits, FitFits, BandFits, ReportFits}
+use Rattle.ledger.specs.Ledger.{Call, Lent, lentOf, final, opened, ledgerEnd}
+use Rattle.ledger.specs.ReadCalls.{ReadCall}
+use Rattle.replay.specs.Replay.{Memory, Ran}
+use Rattle.capi.specs.Packed.{packedOpened, packedRead, bandInto, packedRefusal, packedBook, packedFit, packedBand, packedCounts, packedReport, BookFits, FitFits, BandFits, ReportFits}
 use Rattle.capi.specs.Fitting.{open-fits, add-fits, correct-fits, withdraw-fits, frame-fits, fit-fits, validate-fits, band-fits, report-fits}
-use Rattle.capi.specs.Reading.{numberIn, degreeIn, solvedIn, prunedIn, outliersIn, BookRead, FitRead, BandRead, ReportRead}
+use Rattle.capi.specs.Reading.{numberIn, degreeIn, solvedIn, prunedIn, outliersIn, countIn, BookRead, FitRead, BandRead, ReportRead, OpenedRead, ReadRead}
 
 -- a number of a low part below m and a high part
 module _ (m low high : ℕ) (below : low < m) where
@@ -132,3 +142,46 @@ module _ (n : ℕ) (xs ys sums : List Float) where
   pub report-back : (settings : Settings) (places : Places)
       → (let a = reportOut n settings xs ys sums places .answer in ReportRead (packedReport a) a)
   report-back settings places = report-read _ (report-fits n settings xs ys sums places)
+
+-- ---- the reader. No memory has 2 ^ 56 places
+
+pub reader-back : (f : List ℕ) → OpenedRead (packedOpened (openedOf f)) (openedOf f)
+unfolding openedOf OpenedRead packedOpened
+reader-back f = by-number (frameRefusal f)
+  where
+    by-number : (k : ℕ) → OpenedRead (packedOpened (openedBy k)) (openedBy k)
+    by-number zero = (refl, refl)
+    by-number (suc k) = refusal-read (suc k)
+
+pub next-back : (f : List ℕ) (at : ℕ) → length f < 0x100_0000_0000_0000 → ReadRead (packedRead (nextOf f at)) (nextOf f at)
+unfolding ReadRead packedRead
+next-back f at h = by-test (leb (at + 16) (length f)) refl
+  where
+    by-test : (t : Bool) → leb (at + 16) (length f) ≡ t → ReadRead (packedRead (nextOf f at)) (nextOf f at)
+    by-test true e =
+        let k : at + 16 ≤ length f = leb-true _ _ e in
+        rw (next-whole f at k) (omega arith, div-eq-of-lt (omega arith), mod-eq-of-lt (omega arith))
+    by-test false e = rw (next-end f at (leb-false _ _ e))
+
+-- ---- a replay that was run: its answer is not the one of buffers that hold no list of calls
+
+pub replay-back : {cs : List (Call ReadCall)} {width r : ℕ} {m m′ : Memory} → Ran cs width r m m′ → length (m .xs) < 0x100_0000_0000_0000
+    → (numberIn r ≡ 0) × (countIn r ≡ r)
+replay-back {cs} {width} {r} {m} ran h = (div-eq-of-lt (omega (arith, below)), mod-eq-of-lt (omega (arith, below)))
+  where
+    n : ℕ
+    n = final (opened (m .xs) (m .ys) (m .sums)) cs .count
+
+    column : List Float
+    column = final (opened (m .xs) (m .ys) (m .sums)) cs .columns ofX
+
+    l : List Sample
+    l = ledgerEnd (lentOf (m .xs) (m .ys) (m .sums)) [] cs
+
+    -- the book is the length of a part of the lent column
+    below : r ≤ length (m .xs)
+    below =
+        let a = ran .whole .agrees in
+        let lent : length column ≡ length (m .xs) = ap (λ (k : Lent). getD (k .columns) 0 0) (a .lent) in
+        let part : length (take n column) ≡ length l = ap length (a .below ofX) ∙ length-map l (value ofX) in
+        omega (arith, ran .book, lent, part, length-take n column)
