@@ -176,7 +176,7 @@ fn sample_at(frame: &[u8], at: usize) -> Option<(Sample, usize)> {
     assert!(short == 1 << 56, "one place for a sample: {short:#x}");
     let (behind, [x, y, _]) = read_into(2, frame, at);
     assert!(behind == 0 || behind == at as u64 + 16, "behind {at}: {behind:#x}");
-    (behind != 0).then(|| (Sample { x, y }, behind as usize))
+    (behind != 0).then_some((Sample { x, y }, behind as usize))
 }
 
 impl Calls for Port {
