@@ -2,6 +2,7 @@
 // A count is worked out from a degree as polyfit's `Basis::k` does; nothing asks for the way back.
 ghost use mathlib.Core.Path.{_≡_};
 ghost use Prim.Native.Nat.{_≤_};
+ghost use Rattle.basis.specs.Sizes.{highestDegree};
 ghost use Rattle.basis.specs.Counts.{countOf};
 
 // At most 16 terms, so that degree 15 is the highest.
@@ -37,7 +38,7 @@ pub enum OptionDegree {
 impl Degree {
     // `Basis::k`.
     pub fn k(self, basis: Basis) -> CoefficientCount
-        requires { ⌜ self .0 ≤ 15 ⌝ }
+        requires { ⌜ self .0 ≤ highestDegree ⌝ }
         ensures { λ r. ⌜ r .0 ≡ countOf basis (self .0) ⌝ }
     {
         let d = self.0;

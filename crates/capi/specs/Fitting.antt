@@ -2,7 +2,7 @@
 -- pruned terms, at most 4,096 outliers, and refusals 1 to 12.
 use mathlib.Core.Path.{_≡_, refl, ap, _∙_}
 use mathlib.Core.Bool.{Bool, true, false, cond, not, _&&_}
-use mathlib.Core.List.{List, [], _∷_, map, List·Memᴰ, List·Memᴰ·head, List·Memᴰ·tail}
+use mathlib.Core.List.{List, [], _∷_, map}
 use Prim.Native.Nat.{ℕ, zero, suc, _+_, _-_, _≤_, max}
 use native.Mathlib.Numerals.{add-one}
 use native.Mathlib.Omega.{arith}
@@ -11,7 +11,8 @@ use lib.ListN.{length, getD, take, length-map}
 use lib.Ieee.{Float, nan}
 use Rattle.loops.specs.Fold.{fold}
 use Rattle.loops.specs.Loop.{from, turns}
-use Rattle.loops.specs.Places.{table, length-table}
+use Rattle.loops.specs.Places.{table}
+use Rattle.loops.specs.PlaceLaws.{length-table}
 use Rattle.basis.specs.declared.OptionDegree.{OptionDegree}
 use Rattle.basis.specs.declared.OptionDegree.the-variants.{Some, None}
 use Rattle.statistics.specs.Degrees.{maxDegree}

@@ -12,6 +12,7 @@ ghost use mathlib.Core.Path.{_≡_};
 ghost use mathlib.Core.List.{[]};
 ghost use Prim.Native.Nat.{_≤_};
 ghost use lib.ListN.{length};
+ghost use Rattle.basis.specs.Sizes.{highestDegree, maxSamples, maxTerms};
 ghost use Rattle.book.specs.Calls.{openOut, addOut, correctOut, withdrawOut, addFrameOut};
 ghost use Rattle.samples.specs.Columns.{columnsOf};
 ghost use Rattle.lent.specs.Slices.{before};
@@ -26,7 +27,7 @@ ghost use Rattle.capi.specs.Packed.{packedCounts, packedReport, ReportFi
 
 // The four numbers of a report, each in its field.
 fn counts(degree: usize, solved: usize, outliers: usize, pruned: usize) -> u64
-    requires { ⌜ (degree ≤ 15) × (solved ≤ 16) × (outliers ≤ 4096) × (pruned ≤ 16) ⌝ }
+    requires { ⌜ (degree ≤ highestDegree) × (solved ≤ maxTerms) × (outliers ≤ maxSamples) × (pruned ≤ maxTerms) ⌝ }
     ensures { λ r. ⌜ r ≡ packedCounts degree solved outliers pruned ⌝ }
 {
     let all = degree + solved * 0x100 + pruned * 0x1_0000 + outliers * 0x1_0000_0000;

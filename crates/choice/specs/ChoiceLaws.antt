@@ -4,7 +4,7 @@ use mathlib.Core.Bool.{Bool, cond}
 use mathlib.Core.List.{List}
 use Prim.Native.Nat.{ℕ, _+_, _<_}
 use lib.Ieee.{Float, le}
-use Rattle.loops.specs.Loop.{from-same, seek-same}
+use Rattle.loops.specs.LoopLaws.{from-same, seek-same}
 use Rattle.choice.specs.declared.Scored.{Scored}
 use Rattle.value.specs.Numbers.{infinityF}
 use Rattle.choice.specs.Choice.{yields, leastOf, near, degreeOf, chosenOf, solvedCount, flagCount, scoredAt}

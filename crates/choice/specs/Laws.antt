@@ -13,7 +13,8 @@ use lib.Ieee.{Float, nan, inf, fin, binary64, sub, add, neg, sum, round, lt, le,
 use lib.Ieee.Fits.{down-pos}
 use lib.Ieee.Order.{round-mono}
 use Rattle.loops.specs.Cases.{never, and-first, and-second}
-use Rattle.loops.specs.Loop.{last, done, First, seek-first, seek-none, seek-nowhere}
+use Rattle.loops.specs.Loop.{First}
+use Rattle.loops.specs.LoopLaws.{last, done, seek-first, seek-none, seek-nowhere}
 use Rattle.value.specs.Finite.{finite}
 use Rattle.choice.specs.declared.Scored.{Scored}
 use Rattle.basis.specs.declared.Degree.{Degree}

@@ -6,6 +6,7 @@ ghost use mathlib.Core.Path.{_≡_};
 ghost use Prim.Native.Nat.{_≤_};
 ghost use lib.Ieee.{nan};
 ghost use lib.ListN.{getD};
+ghost use Rattle.basis.specs.Sizes.{maxTerms};
 ghost use Rattle.choice.specs.Choice.{scoredAt, yields, near, leastOf, chosenOf, chosenScore, Below, flagCount};
 
 // A degree's score, where it is solved.
@@ -39,7 +40,7 @@ fn is_near(solved: bool, score: f64, a: f64) -> bool
 
 // The least score: it starts at +infinity and yields to each smaller one of a solved degree.
 pub fn least(solved: &[bool; TERMS], score: &[f64; TERMS], b: usize) -> f64
-    requires { ⌜ b ≤ 16 ⌝ }
+    requires { ⌜ b ≤ maxTerms ⌝ }
     ensures { λ r. ⌜ r ≡ leastOf (scoredAt (now (solved .entry)) (now (score .entry))) b ⌝ }
 {
     let mut a = f64::from_bits(0x7FF0_0000_0000_0000);
@@ -51,7 +52,7 @@ pub fn least(solved: &[bool; TERMS], score: &[f64; TERMS], b: usize) -> f64
 
 // The lowest solved degree with a score at most 2 above the least.
 pub fn lowest(solved: &[bool; TERMS], score: &[f64; TERMS], b: usize) -> OptionDegree
-    requires { ⌜ b ≤ 16 ⌝ }
+    requires { ⌜ b ≤ maxTerms ⌝ }
     ensures { λ r. ⌜ r ≡ chosenOf (scoredAt (now (solved .entry)) (now (score .entry))) b ⌝ }
 {
     let a = least(solved, score, b);
@@ -77,7 +78,7 @@ pub fn score_of(score: &[f64; TERMS], chosen: OptionDegree) -> f64
 
 // How many degrees are solved.
 pub fn solved_of(solved: &[bool; TERMS], b: usize) -> usize
-    requires { ⌜ b ≤ 16 ⌝ }
+    requires { ⌜ b ≤ maxTerms ⌝ }
     ensures { λ r. ⌜ r ≡ flagCount (now (solved .entry)) b ⌝ }
 {
     let mut m = 0;

@@ -4,7 +4,8 @@ use mathlib.Core.List.{List, _++_, map}
 use Prim.Native.Nat.{ℕ, _+_, _≤_, _<_}
 use lib.ListN.{length, set, drop}
 use lib.Ieee.{Float}
-use Rattle.loops.specs.Places.{each, table, each-again}
+use Rattle.loops.specs.Places.{each, table}
+use Rattle.loops.specs.PlaceLaws.{each-again}
 use Rattle.basis.specs.declared.Basis.{Basis}
 use Rattle.monomial.specs.Rows.{Row, rowAt, rowsAt}
 use Rattle.monomial.specs.RowLaws.{map-rows-at, each-rows-at}

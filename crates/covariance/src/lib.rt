@@ -9,6 +9,7 @@ ghost use mathlib.Core.Path.{_≡_};
 ghost use mathlib.Core.List.{_++_};
 ghost use Prim.Native.Nat.{_≤_, _<_};
 ghost use lib.ListN.{length, drop};
+ghost use Rattle.basis.specs.Sizes.{maxTerms};
 ghost use Rattle.monomial.specs.Terms.{termsAt};
 ghost use Rattle.monomial.specs.Rows.{rowsAt};
 ghost use Rattle.covariance.specs.Covariance.{covarianceOf, errorsOf, columnOf, predictionVariance};
@@ -32,7 +33,7 @@ pub fn covariance(inverse: &[f64; MATRIX], variance: f64) -> [f64; MATRIX]
 
 // The roots of the first k diagonal places, then +0.
 pub fn errors(k: CoefficientCount, covariance: &[f64; MATRIX]) -> [f64; TERMS]
-    requires { ⌜ k .0 ≤ 16 ⌝ }
+    requires { ⌜ k .0 ≤ maxTerms ⌝ }
     ensures { λ r. ⌜ r ≡ errorsOf (k .0) (now (covariance .entry)) ⌝ }
 {
     let n = k.0;
@@ -45,7 +46,7 @@ pub fn errors(k: CoefficientCount, covariance: &[f64; MATRIX]) -> [f64; TERMS]
 
 // Term value × place, down column j.
 fn column(k: CoefficientCount, terms: &[f64; TERMS], covariance: &[f64; MATRIX], j: usize) -> f64
-    requires { ⌜ (k .0 ≤ 16) × (j < 16) ⌝ }
+    requires { ⌜ (k .0 ≤ maxTerms) × (j < maxTerms) ⌝ }
     ensures { λ r. ⌜ r ≡ columnOf (k .0) (now (terms .entry)) (now (covariance .entry)) j ⌝ }
 {
     let n = k.0;
@@ -62,7 +63,7 @@ pub fn prediction_variance(
     terms: &[f64; TERMS],
     covariance: &[f64; MATRIX],
 ) -> f64
-    requires { ⌜ k .0 ≤ 16 ⌝ }
+    requires { ⌜ k .0 ≤ maxTerms ⌝ }
     ensures { λ r. ⌜ r ≡ predictionVariance (k .0) (now (terms .entry)) (now (covariance .entry)) ⌝ }
 {
     let n = k.0;
@@ -124,7 +125,7 @@ pub fn band_at(
     x: f64,
     z: f64,
 ) -> Band
-    requires { ⌜ k .0 ≤ 16 ⌝ }
+    requires { ⌜ k .0 ≤ maxTerms ⌝ }
     ensures { λ r. ⌜ r ≡ bandAt (k .0) (now (c .entry)) (now (covariance .entry)) tolerance score sd (termsAt basis x z) ⌝ }
 {
     let terms = monomial::terms_at(basis, x, z);
@@ -163,9 +164,9 @@ pub fn put_pruned(
     t: f64,
     out: &mut [u8],
 ) -> usize
-    requires { ⌜ 16 ≤ length (now out) ⌝ }
+    requires { ⌜ maxTerms ≤ length (now out) ⌝ }
     ensures counted { λ r. ⌜ r ≡ ones (prunedBytes (k .0) (now (c .entry)) (now (errors .entry)) t) ⌝ }
-    ensures written { λ _. ⌜ now (out .exit) ≡ prunedBytes (k .0) (now (c .entry)) (now (errors .entry)) t ++ drop 16 (now (out .entry)) ⌝ }
+    ensures written { λ _. ⌜ now (out .exit) ≡ prunedBytes (k .0) (now (c .entry)) (now (errors .entry)) t ++ drop maxTerms (now (out .entry)) ⌝ }
 {
     let n = k.0;
     let mut count: usize = 0;
@@ -194,7 +195,7 @@ pub fn put_bands(
     upper: &mut [f64],
     outlier: &mut [u8],
 ) -> usize
-    requires { ⌜ (k .0 ≤ 16) × (n ≤ length (now xs)) × (n ≤ length (now zs)) × (n ≤ length (now ys)) × (n ≤ length (now lower)) × (n ≤ length (now upper)) × (n ≤ length (now outlier)) ⌝ }
+    requires { ⌜ (k .0 ≤ maxTerms) × (n ≤ length (now xs)) × (n ≤ length (now zs)) × (n ≤ length (now ys)) × (n ≤ length (now lower)) × (n ≤ length (now upper)) × (n ≤ length (now outlier)) ⌝ }
     ensures counted { λ r. ⌜ r ≡ ones (outliersOf (k .0) (now (c .entry)) (now (covariance .entry)) tolerance z sd (rowsAt basis n (now (xs .entry)) (now (zs .entry)) (now (ys .entry)))) ⌝ }
     ensures lowers { λ _. ⌜ now (lower .exit) ≡ lowersOf (k .0) (now (c .entry)) (now (covariance .entry)) tolerance z sd (rowsAt basis n (now (xs .entry)) (now (zs .entry)) (now (ys .entry))) ++ drop n (now (lower .entry)) ⌝ }
     ensures uppers { λ _. ⌜ now (upper .exit) ≡ uppersOf (k .0) (now (c .entry)) (now (covariance .entry)) tolerance z sd (rowsAt basis n (now (xs .entry)) (now (zs .entry)) (now (ys .entry))) ++ drop n (now (upper .entry)) ⌝ }

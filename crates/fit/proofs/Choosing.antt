@@ -7,7 +7,8 @@ use native.Mathlib.Omega.{arith}
 use lib.ListN.{getD, replicate}
 use lib.Ieee.{Float, nan}
 use Rattle.loops.specs.Fold.{fold}
-use Rattle.loops.specs.Places.{each, table, table-at, length-table, map-table}
+use Rattle.loops.specs.Places.{each, table}
+use Rattle.loops.specs.PlaceLaws.{table-at, length-table, map-table}
 use Rattle.value.specs.Numbers.{zeroF}
 use Rattle.basis.specs.declared.OptionDegree.{OptionDegree}
 use Rattle.basis.specs.Counts.{countOf}

@@ -8,7 +8,7 @@ use borrow.Author.Tests.{eq-eqb, ne-eqb}
 use lib.ListN.{length, drop, length-map}
 use lib.Ieee.{Float}
 use Rattle.loops.specs.Fold.{allOf}
-use Rattle.loops.specs.Within.{within-itself, within-written, front-written}
+use Rattle.loops.specs.WithinLaws.{within-itself, within-written, front-written}
 use Rattle.value.specs.Absolute.{absF}
 use Rattle.value.specs.Finite.{finite}
 use Rattle.monomial.specs.Rows.{Row}

@@ -6,7 +6,8 @@ use Prim.Native.Nat.{ℕ, _≤_, _<_}
 use native.Mathlib.Omega.{arith}
 use lib.ListN.{replicate}
 use lib.Ieee.{Float, nan}
-use Rattle.loops.specs.Places.{each, each-at}
+use Rattle.loops.specs.Places.{each}
+use Rattle.loops.specs.PlaceLaws.{each-at}
 use Rattle.value.specs.Numbers.{zeroF}
 use Rattle.choice.specs.Choice.{scoredAt}
 use Rattle.choice.specs.declared.Scored.{Scored}

@@ -9,6 +9,7 @@ ghost use mathlib.Core.Path.{_≡_};
 ghost use mathlib.Core.List.{_++_, map};
 ghost use Prim.Native.Nat.{_+_, _≤_};
 ghost use lib.ListN.{length, take, drop};
+ghost use Rattle.basis.specs.Sizes.{highestDegree, maxTerms, sumPlaces};
 ghost use Rattle.loops.specs.All.{All};
 ghost use Rattle.loops.specs.Fold.{allOf};
 ghost use Rattle.loops.specs.Within.{Within};
@@ -28,7 +29,7 @@ ghost use Rattle.fit.specs.Promises.{Attempted};
 
 // y less the fitted value at x and z.
 fn residual(basis: Basis, k: CoefficientCount, c: &[f64; TERMS], x: f64, z: f64, y: f64) -> f64
-    requires { ⌜ k .0 ≤ 16 ⌝ }
+    requires { ⌜ k .0 ≤ maxTerms ⌝ }
     ensures { λ r. ⌜ r ≡ residualF (k .0) (now (c .entry)) (record { terms = termsAt basis x z; y = y }) ⌝ }
 {
     y - monomial::fitted_at(basis, k, c, x, z)
@@ -45,7 +46,7 @@ pub fn sizes(
     c: &[f64; TERMS],
     scratch: &mut [f64],
 ) -> bool
-    requires { ⌜ (n ≤ length (now xs)) × (n ≤ length (now zs)) × (n ≤ length (now ys)) × (n ≤ length (now scratch)) × (k .0 ≤ 16) ⌝ }
+    requires { ⌜ (n ≤ length (now xs)) × (n ≤ length (now zs)) × (n ≤ length (now ys)) × (n ≤ length (now scratch)) × (k .0 ≤ maxTerms) ⌝ }
     ensures is { λ r. ⌜ r ≡ allOf finite (residuals (k .0) (now (c .entry)) (rowsAt basis n (now (xs .entry)) (now (zs .entry)) (now (ys .entry)))) ⌝ }
     ensures written { λ _. ⌜ now (scratch .exit) ≡ map absF (residuals (k .0) (now (c .entry)) (rowsAt basis n (now (xs .entry)) (now (zs .entry)) (now (ys .entry)))) ++ drop n (now (scratch .entry)) ⌝ }
 {
@@ -76,7 +77,7 @@ pub fn attempt(
     k: CoefficientCount,
     scratch: &mut [f64],
 ) -> Solution
-    requires { ⌜ (n ≤ length (now xs)) × (n ≤ length (now zs)) × (n ≤ length (now ys)) × (n ≤ length (now scratch)) × (272 ≤ length (now sums)) × (k .0 ≤ 16) ⌝ }
+    requires { ⌜ (n ≤ length (now xs)) × (n ≤ length (now zs)) × (n ≤ length (now ys)) × (n ≤ length (now scratch)) × (sumPlaces ≤ length (now sums)) × (k .0 ≤ maxTerms) ⌝ }
     ensures { λ r. ⌜ Attempted (now (sums .entry)) (rowsAt basis n (now (xs .entry)) (now (zs .entry)) (now (ys .entry))) (k .0) n (now (scratch .entry)) (now (scratch .exit)) r ⌝ }
 {
     let s = solve::solve(sums, k);
@@ -124,7 +125,7 @@ pub fn trial(
     criterion: Criterion,
     scratch: &mut [f64],
 ) -> Tried
-    requires { ⌜ (n ≤ length (now xs)) × (n ≤ length (now zs)) × (n ≤ length (now ys)) × (n ≤ length (now scratch)) × (272 ≤ length (now sums)) × (k .0 ≤ 16) ⌝ }
+    requires { ⌜ (n ≤ length (now xs)) × (n ≤ length (now zs)) × (n ≤ length (now ys)) × (n ≤ length (now scratch)) × (sumPlaces ≤ length (now sums)) × (k .0 ≤ maxTerms) ⌝ }
     ensures scored { λ r. ⌜ record { solved = r .solved; score = r .score } ≡ scoredBy criterion (now (sums .entry)) (rowsAt basis n (now (xs .entry)) (now (zs .entry)) (now (ys .entry))) (rowsAt basis n (now (xs .entry)) (now (zs .entry)) (now (ys .entry))) (k .0) ⌝ }
     ensures tests { λ r. ⌜ r .tests ≡ pivotTests (now (sums .entry)) (k .0) ⌝ }
     ensures within { λ _. ⌜ Within n (now (scratch .entry)) (now (scratch .exit)) ⌝ }
@@ -165,7 +166,7 @@ pub fn choose(
     criterion: Criterion,
     scratch: &mut [f64],
 ) -> Choice
-    requires { ⌜ (n ≤ length (now xs)) × (n ≤ length (now zs)) × (n ≤ length (now ys)) × (n ≤ length (now scratch)) × (272 ≤ length (now sums)) × (bound .0 ≤ 15) × (countOf basis (bound .0) ≤ 16) ⌝ }
+    requires { ⌜ (n ≤ length (now xs)) × (n ≤ length (now zs)) × (n ≤ length (now ys)) × (n ≤ length (now scratch)) × (sumPlaces ≤ length (now sums)) × (bound .0 ≤ highestDegree) × (countOf basis (bound .0) ≤ maxTerms) ⌝ }
     ensures is { λ r. ⌜ r ≡ choiceOf criterion (now (sums .entry)) (rowsAt basis n (now (xs .entry)) (now (zs .entry)) (now (ys .entry))) (countsOf basis (bound .0)) ⌝ }
     ensures within { λ _. ⌜ Within n (now (scratch .entry)) (now (scratch .exit)) ⌝ }
 {

@@ -8,7 +8,7 @@ use lib.Seq.{take-all}
 use lib.Ieee.{Float}
 use Rattle.loops.specs.All.{All}
 use Rattle.loops.specs.AllLaws.{all-part}
-use Rattle.loops.specs.Places.{part-take, map-part}
+use Rattle.loops.specs.PlaceLaws.{part-take, map-part}
 use Rattle.value.specs.Absolute.{absF}
 use Rattle.statistics.specs.Medians.{Size}
 use Rattle.monomial.specs.Rows.{Row}

@@ -8,7 +8,8 @@ use lib.ListN.{length, getD, replicate, length-append, length-replicate, getD-re
 use lib.Ieee.{Float, nan, binary64, add}
 use Rattle.loops.specs.Fold.{fold}
 use Rattle.loops.specs.FoldLaws.{fold-snoc}
-use Rattle.loops.specs.Places.{each, table, table-again, each-at, length-each, length-table}
+use Rattle.loops.specs.Places.{each, table}
+use Rattle.loops.specs.PlaceLaws.{table-again, each-at, length-each, length-table}
 use Rattle.value.specs.Numbers.{zeroF}
 use Rattle.value.specs.Total.{totalF}
 use Rattle.choice.specs.declared.Scored.{Scored}

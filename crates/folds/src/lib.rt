@@ -11,6 +11,7 @@ ghost use mathlib.Core.Path.{_≡_};
 ghost use Prim.Native.Nat.{_+_, _≤_, _<_};
 ghost use lib.Ieee.{nan};
 ghost use lib.ListN.{length, getD, drop};
+ghost use Rattle.basis.specs.Sizes.{highestDegree, maxTerms, sumPlaces};
 ghost use Rattle.loops.specs.Within.{Within};
 ghost use Rattle.basis.specs.Counts.{countOf};
 ghost use Rattle.basis.specs.declared.Basis.the-variants.{Curve};
@@ -52,8 +53,8 @@ fn fold_others(
     k: CoefficientCount,
     before: [f64; SUMS],
 ) -> [f64; SUMS]
-    requires { ⌜ (n ≤ length (now xs)) × (n ≤ length (now ys)) × (end ≤ n) × (k .0 ≤ 16) ⌝ }
-    ensures long { λ r. ⌜ length r ≡ 272 ⌝ }
+    requires { ⌜ (n ≤ length (now xs)) × (n ≤ length (now ys)) × (end ≤ n) × (k .0 ≤ maxTerms) ⌝ }
+    ensures long { λ r. ⌜ length r ≡ sumPlaces ⌝ }
     ensures same { λ r. ⌜ SameCorner (k .0) r (addRows before (drop end (rowsAt Curve n (now (xs .entry)) (now (xs .entry)) (now (ys .entry))))) ⌝ }
 {
     let mut sums = before;
@@ -71,9 +72,9 @@ fn pass_fold(
     k: CoefficientCount,
     before: &mut [f64],
 )
-    requires { ⌜ (n ≤ length (now xs)) × (n ≤ length (now ys)) × (f < folds) × (k .0 ≤ 16) × (length (now before) ≡ 272) ⌝ }
+    requires { ⌜ (n ≤ length (now xs)) × (n ≤ length (now ys)) × (f < folds) × (k .0 ≤ maxTerms) × (length (now before) ≡ sumPlaces) ⌝ }
     requires { ⌜ SameCorner (k .0) (now before) (sumsOf (rowsAt Curve (startOf n folds f) (now xs) (now xs) (now ys))) ⌝ }
-    ensures long { λ _. ⌜ length (now (before .exit)) ≡ 272 ⌝ }
+    ensures long { λ _. ⌜ length (now (before .exit)) ≡ sumPlaces ⌝ }
     ensures same { λ _. ⌜ SameCorner (k .0) (now (before .exit)) (sumsOf (rowsAt Curve (endOf n folds f) (now (xs .entry)) (now (xs .entry)) (now (ys .entry)))) ⌝ }
 {
     let start = start_of(n, folds, f);
@@ -93,7 +94,7 @@ fn score_fold(
     criterion: Criterion,
     scratch: &mut [f64],
 ) -> Scored
-    requires { ⌜ (n ≤ length (now xs)) × (n ≤ length (now ys)) × (n ≤ length (now scratch)) × (start ≤ end) × (end ≤ n) × (272 ≤ length (now sums)) × (degree .0 ≤ 15) ⌝ }
+    requires { ⌜ (n ≤ length (now xs)) × (n ≤ length (now ys)) × (n ≤ length (now scratch)) × (start ≤ end) × (end ≤ n) × (sumPlaces ≤ length (now sums)) × (degree .0 ≤ highestDegree) ⌝ }
     ensures scored { λ r. ⌜ r ≡ scoredBy criterion (now (sums .entry)) (rowsAt Curve n (now (xs .entry)) (now (xs .entry)) (now (ys .entry))) (ownOf start end (rowsAt Curve n (now (xs .entry)) (now (xs .entry)) (now (ys .entry)))) (countOf Curve (degree .0)) ⌝ }
     ensures within { λ _. ⌜ Within n (now (scratch .entry)) (now (scratch .exit)) ⌝ }
 {
@@ -148,7 +149,7 @@ fn add_fold(
     totals: &mut [f64],
     counts: &mut [usize],
 )
-    requires { ⌜ (n ≤ length (now xs)) × (n ≤ length (now ys)) × (n ≤ length (now scratch)) × (f < folds) × (b ≤ 16) ⌝ }
+    requires { ⌜ (n ≤ length (now xs)) × (n ≤ length (now ys)) × (n ≤ length (now scratch)) × (f < folds) × (b ≤ maxTerms) ⌝ }
     requires { ⌜ SameCorner b before (sumsOf (rowsAt Curve (startOf n folds f) (now xs) (now xs) (now ys))) ⌝ }
     requires { ⌜ Tallied (degreeScored criterion (rowsAt Curve n (now xs) (now xs) (now ys)) folds) f b (now totals) (now counts) ⌝ }
     ensures tallied { λ _. ⌜ Tallied (degreeScored criterion (rowsAt Curve n (now (xs .entry)) (now (xs .entry)) (now (ys .entry))) folds) (f + 1) b (now (totals .exit)) (now (counts .exit)) ⌝ }
@@ -192,7 +193,7 @@ fn mean(total: f64, m: usize) -> Scored
 
 // The choice among the degrees below b by their means.
 fn choose_by_means(totals: &[f64; TERMS], counts: &[usize; TERMS], b: usize) -> OptionDegree
-    requires { ⌜ b ≤ 16 ⌝ }
+    requires { ⌜ b ≤ maxTerms ⌝ }
     ensures { λ r. ⌜ r ≡ chosenOf (λ d. meanOf (getD (now (totals .entry)) d nan) (getD (now (counts .entry)) d 0)) b ⌝ }
 {
     let mut solved = [false; TERMS];
@@ -215,7 +216,7 @@ pub fn choose_by_folds(
     criterion: Criterion,
     scratch: &mut [f64],
 ) -> OptionDegree
-    requires { ⌜ (n ≤ length (now xs)) × (n ≤ length (now ys)) × (n ≤ length (now scratch)) × (bound .0 ≤ 15) ⌝ }
+    requires { ⌜ (n ≤ length (now xs)) × (n ≤ length (now ys)) × (n ≤ length (now scratch)) × (bound .0 ≤ highestDegree) ⌝ }
     ensures is { λ r. ⌜ r ≡ validatedChoice criterion (rowsAt Curve n (now (xs .entry)) (now (xs .entry)) (now (ys .entry))) folds (bound .0) ⌝ }
     ensures within { λ _. ⌜ Within n (now (scratch .entry)) (now (scratch .exit)) ⌝ }
 {

@@ -4,6 +4,7 @@ ghost use mathlib.Core.Path.{_≡_};
 ghost use mathlib.Core.List.{_++_};
 ghost use Prim.Native.Nat.{_≤_};
 ghost use lib.ListN.{length, drop};
+ghost use Rattle.basis.specs.Sizes.{maxTerms};
 ghost use Rattle.lent.specs.Written.{zeros};
 
 // The first n places become +0.
@@ -18,8 +19,8 @@ pub fn clear(s: &mut [f64], n: usize)
 
 // The first 16 places become the values.
 pub fn put_terms(values: [f64; TERMS], out: &mut [f64])
-    requires { ⌜ 16 ≤ length (now out) ⌝ }
-    ensures { λ _. ⌜ now (out .exit) ≡ values ++ drop 16 (now (out .entry)) ⌝ }
+    requires { ⌜ maxTerms ≤ length (now out) ⌝ }
+    ensures { λ _. ⌜ now (out .exit) ≡ values ++ drop maxTerms (now (out .entry)) ⌝ }
 {
     for i in 0..TERMS {
         out[i] = values[i];

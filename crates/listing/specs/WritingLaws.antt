@@ -9,7 +9,8 @@ use borrow.Author.Tests.{leb-true, leb-false}
 use lib.Dec.{leb}
 use lib.ListN.{length, set, drop, length-append}
 use lib.Seq.{sets, length-sets, set-out, sets-eq}
-use Rattle.loops.specs.Places.{table, table-again}
+use Rattle.loops.specs.Places.{table}
+use Rattle.loops.specs.PlaceLaws.{table-again}
 use Rattle.listing.specs.Writing.{lastPlace, upTo, Wrote}
 
 sets-append : (s : List ℕ) (i : ℕ) (t u : List ℕ) → sets s i (t ++ u) ≡ sets (sets s i t) (i + length t) u

@@ -6,7 +6,8 @@ use Prim.Native.Nat.{ℕ, _+_, _<_}
 use native.Mathlib.Numerals.{add-one}
 use lib.ListN.{length, getD, take}
 use lib.Seq.{take-suc}
-use Rattle.loops.specs.Places.{table, table-again}
+use Rattle.loops.specs.Places.{table}
+use Rattle.loops.specs.PlaceLaws.{table-again}
 use Rattle.loops.specs.Fold.{fold, allOf}
 
 -- one element more

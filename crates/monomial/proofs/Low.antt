@@ -8,7 +8,8 @@ use lib.ListN.{getD}
 use lib.Ieee.{Float, nan, binary64, add, mul, fits}
 use lib.Ieee.Fits.{mul-fits}
 use Rattle.loops.specs.Fold.{fold}
-use Rattle.loops.specs.Places.{table, table-at}
+use Rattle.loops.specs.Places.{table}
+use Rattle.loops.specs.PlaceLaws.{table-at}
 use Rattle.value.specs.Exact.{one-times}
 use Rattle.value.specs.Numbers.{zeroF, oneF}
 use Rattle.value.specs.Power.{powerF, powerFrom, powerTurns}

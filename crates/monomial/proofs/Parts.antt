@@ -7,7 +7,8 @@ use lib.ListN.{length, getD, set, take, drop}
 use lib.Ieee.{Float, nan, binary64, add, mul}
 use Rattle.loops.specs.Fold.{fold}
 use Rattle.loops.specs.FoldLaws.{fold-snoc}
-use Rattle.loops.specs.Places.{each, each-again, each-same, each-rest, each-split, tail-through}
+use Rattle.loops.specs.Places.{each}
+use Rattle.loops.specs.PlaceLaws.{each-again, each-same, each-rest, each-split, tail-through}
 use Rattle.value.specs.Numbers.{zeroF}
 use Rattle.samples.specs.Samples.{sampleAt, samplesOf}
 use Rattle.samples.specs.SampleLaws.{samples-again}

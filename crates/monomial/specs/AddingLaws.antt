@@ -7,7 +7,8 @@ use lib.ListN.{length, getD, take, drop, replicate, length-replicate, getD-repli
 use lib.Seq.{ext-getD, getD-drop, getD-take, length-take-le}
 use lib.Ieee.{Float, nan, binary64, add}
 use Rattle.loops.specs.Fold.{fold}
-use Rattle.loops.specs.Places.{each, each-append, each-fill, each-at, length-each}
+use Rattle.loops.specs.Places.{each}
+use Rattle.loops.specs.PlaceLaws.{each-append, each-fill, each-at, length-each}
 use Rattle.value.specs.Numbers.{zeroF}
 use Rattle.value.specs.Total.{totalF}
 use Rattle.monomial.specs.Adding.{addOne, addAll, sums}

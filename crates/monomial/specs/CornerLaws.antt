@@ -6,7 +6,7 @@ use native.Mathlib.Omega.{arith}
 use lib.ListN.{length, getD}
 use lib.Ieee.{Float, nan, binary64, add}
 use Rattle.loops.specs.Fold.{fold}
-use Rattle.loops.specs.Places.{each-at}
+use Rattle.loops.specs.PlaceLaws.{each-at}
 use Rattle.monomial.specs.Rows.{Row}
 use Rattle.monomial.specs.Sums.{productOf, addRow, addRows}
 use Rattle.monomial.specs.SumLaws.{length-add-row}

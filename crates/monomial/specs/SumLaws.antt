@@ -8,7 +8,8 @@ use lib.Dec.{ltb, lit≤}
 use lib.ListN.{length, getD, take, drop, replicate, take-append-drop, length-map}
 use lib.Ieee.{Float, nan, binary64, add, mul}
 use Rattle.loops.specs.FoldLaws.{fold-snoc, fold-append}
-use Rattle.loops.specs.Places.{each, table, table-at}
+use Rattle.loops.specs.Places.{each, table}
+use Rattle.loops.specs.PlaceLaws.{table-at}
 use Rattle.value.specs.Numbers.{zeroF}
 use Rattle.value.specs.Power.{powerF}
 use Rattle.value.specs.Total.{totalF}

@@ -8,6 +8,7 @@ ghost use mathlib.Core.List.{_++_};
 ghost use Prim.Native.Nat.{_+_, _≤_};
 ghost use lib.Ieee.{binary64, add};
 ghost use lib.ListN.{length, take, drop};
+ghost use Rattle.basis.specs.Sizes.{matrixPlaces, maxTerms, sumPlaces};
 ghost use Rattle.loops.specs.Places.{each, table};
 ghost use Rattle.value.specs.Numbers.{zeroF};
 ghost use Rattle.value.specs.Power.{powerF};
@@ -19,7 +20,7 @@ ghost use Rattle.monomial.specs.Corner.{CornerSet};
 
 // Coefficient × term value, ascending, for the k coefficients.
 pub fn fitted(k: CoefficientCount, c: &[f64; TERMS], terms: &[f64; TERMS]) -> f64
-    requires { ⌜ k .0 ≤ 16 ⌝ }
+    requires { ⌜ k .0 ≤ maxTerms ⌝ }
     ensures { λ r. ⌜ r ≡ fittedF (k .0) (now (c .entry)) (now (terms .entry)) ⌝ }
 {
     let n = k.0;
@@ -57,7 +58,7 @@ fn fitted_low(k: CoefficientCount, c: &[f64; TERMS], x: f64) -> f64
 
 // The fitted value of a curve at x.
 pub fn curve_at(k: CoefficientCount, c: &[f64; TERMS], x: f64) -> f64
-    requires { ⌜ k .0 ≤ 16 ⌝ }
+    requires { ⌜ k .0 ≤ maxTerms ⌝ }
     ensures { λ r. ⌜ r ≡ fittedF (k .0) (now (c .entry)) (table (powerF x) 16) ⌝ }
 {
     if k.0 <= 4 {
@@ -109,7 +110,7 @@ pub fn terms_at(basis: Basis, x: f64, z: f64) -> [f64; TERMS]
 
 // The fitted value of a surface at x and z.
 pub fn surface_at(k: CoefficientCount, c: &[f64; TERMS], x: f64, z: f64) -> f64
-    requires { ⌜ k .0 ≤ 16 ⌝ }
+    requires { ⌜ k .0 ≤ maxTerms ⌝ }
     ensures { λ r. ⌜ r ≡ fittedF (k .0) (now (c .entry)) (surfaceTerms x z) ⌝ }
 {
     let terms = surface_terms(x, z);
@@ -118,7 +119,7 @@ pub fn surface_at(k: CoefficientCount, c: &[f64; TERMS], x: f64, z: f64) -> f64
 
 // The fitted value at x and z.
 pub fn fitted_at(basis: Basis, k: CoefficientCount, c: &[f64; TERMS], x: f64, z: f64) -> f64
-    requires { ⌜ k .0 ≤ 16 ⌝ }
+    requires { ⌜ k .0 ≤ maxTerms ⌝ }
     ensures { λ r. ⌜ r ≡ fittedF (k .0) (now (c .entry)) (termsAt basis x z) ⌝ }
 {
     match basis {
@@ -129,8 +130,8 @@ pub fn fitted_at(basis: Basis, k: CoefficientCount, c: &[f64; TERMS], x: f64, z:
 
 // Adds the products of two term values to the 256 places of A.
 fn add_matrix(sums: &mut [f64], terms: &[f64; TERMS])
-    requires { ⌜ 256 ≤ length (now sums) ⌝ }
-    ensures { λ _. ⌜ now (sums .exit) ≡ each (λ k v. add binary64 v (productOf (now (terms .entry)) zeroF k)) 256 (now (sums .entry)) ⌝ }
+    requires { ⌜ matrixPlaces ≤ length (now sums) ⌝ }
+    ensures { λ _. ⌜ now (sums .exit) ≡ each (λ k v. add binary64 v (productOf (now (terms .entry)) zeroF k)) matrixPlaces (now (sums .entry)) ⌝ }
 {
     for i in 0..TERMS {
         let t = terms[i];
@@ -143,8 +144,8 @@ fn add_matrix(sums: &mut [f64], terms: &[f64; TERMS])
 
 // Adds the products of a term value and y to the 16 places of g.
 fn add_right(g: &mut [f64], terms: &[f64; TERMS], y: f64)
-    requires { ⌜ 16 ≤ length (now g) ⌝ }
-    ensures { λ _. ⌜ now (g .exit) ≡ each (λ i v. add binary64 v (productOf (now (terms .entry)) y (256 + i))) 16 (now (g .entry)) ⌝ }
+    requires { ⌜ maxTerms ≤ length (now g) ⌝ }
+    ensures { λ _. ⌜ now (g .exit) ≡ each (λ i v. add binary64 v (productOf (now (terms .entry)) y (matrixPlaces + i))) 16 (now (g .entry)) ⌝ }
 {
     for i in 0..TERMS {
         g[i] = g[i] + terms[i] * y;
@@ -153,7 +154,7 @@ fn add_right(g: &mut [f64], terms: &[f64; TERMS], y: f64)
 
 // Adds the products of a row to what stands at the 272 places.
 pub fn add_row(sums: &mut [f64], terms: &[f64; TERMS], y: f64)
-    requires { ⌜ 272 ≤ length (now sums) ⌝ }
+    requires { ⌜ sumPlaces ≤ length (now sums) ⌝ }
     ensures { λ _. ⌜ now (sums .exit) ≡ addRow (now (sums .entry)) (record { terms = now (terms .entry); y = y }) ⌝ }
 {
     add_matrix(&mut *sums, terms);
@@ -162,7 +163,7 @@ pub fn add_row(sums: &mut [f64], terms: &[f64; TERMS], y: f64)
 
 // Adds a sample's products to what stands at the 272 places.
 pub fn add_sample(sums: &mut [f64], x: f64, y: f64)
-    requires { ⌜ 272 ≤ length (now sums) ⌝ }
+    requires { ⌜ sumPlaces ≤ length (now sums) ⌝ }
     ensures { λ _. ⌜ now (sums .exit) ≡ addRow (now (sums .entry)) (rowOf (record { x = x; y = y })) ⌝ }
 {
     let terms = value::powers(x);
@@ -171,7 +172,7 @@ pub fn add_sample(sums: &mut [f64], x: f64, y: f64)
 
 // Adds the products of a row in the corner of k rows and columns of A and in the first k places of g, line by line.
 fn add_lines(sums: &mut [f64], k: CoefficientCount, terms: &[f64; TERMS], y: f64)
-    requires { ⌜ (272 ≤ length (now sums)) × (k .0 ≤ 16) ⌝ }
+    requires { ⌜ (sumPlaces ≤ length (now sums)) × (k .0 ≤ maxTerms) ⌝ }
     ensures { λ _. ⌜ CornerSet (k .0) (addRow (now (sums .entry)) (record { terms = now (terms .entry); y = y })) (now (sums .entry)) (now (sums .exit)) ⌝ }
 {
     let n = k.0;
@@ -188,7 +189,7 @@ fn add_lines(sums: &mut [f64], k: CoefficientCount, terms: &[f64; TERMS], y: f64
 
 // The same. The 16 of the whole is written out, so that its loops are unrolled.
 fn add_row_corner(sums: &mut [f64], k: CoefficientCount, terms: &[f64; TERMS], y: f64)
-    requires { ⌜ (272 ≤ length (now sums)) × (k .0 ≤ 16) ⌝ }
+    requires { ⌜ (sumPlaces ≤ length (now sums)) × (k .0 ≤ maxTerms) ⌝ }
     ensures { λ _. ⌜ CornerSet (k .0) (addRow (now (sums .entry)) (record { terms = now (terms .entry); y = y })) (now (sums .entry)) (now (sums .exit)) ⌝ }
 {
     if k.0 == 16 {
@@ -209,7 +210,7 @@ fn add_rows_corner(
     k: CoefficientCount,
     sums: &mut [f64],
 )
-    requires { ⌜ (start ≤ end) × (end ≤ length (now xs)) × (end ≤ length (now zs)) × (end ≤ length (now ys)) × (k .0 ≤ 16) × (272 ≤ length (now sums)) ⌝ }
+    requires { ⌜ (start ≤ end) × (end ≤ length (now xs)) × (end ≤ length (now zs)) × (end ≤ length (now ys)) × (k .0 ≤ maxTerms) × (sumPlaces ≤ length (now sums)) ⌝ }
     ensures { λ _. ⌜ CornerSet (k .0) (addRows (now (sums .entry)) (drop start (rowsAt basis end (now (xs .entry)) (now (zs .entry)) (now (ys .entry))))) (now (sums .entry)) (now (sums .exit)) ⌝ }
 {
     for t in start..end {
@@ -228,7 +229,7 @@ fn add_rows_cubic(
     end: usize,
     sums: &mut [f64],
 )
-    requires { ⌜ (start ≤ end) × (end ≤ length (now xs)) × (end ≤ length (now zs)) × (end ≤ length (now ys)) × (272 ≤ length (now sums)) ⌝ }
+    requires { ⌜ (start ≤ end) × (end ≤ length (now xs)) × (end ≤ length (now zs)) × (end ≤ length (now ys)) × (sumPlaces ≤ length (now sums)) ⌝ }
     ensures { λ _. ⌜ CornerSet 4 (addRows (now (sums .entry)) (drop start (rowsAt basis end (now (xs .entry)) (now (zs .entry)) (now (ys .entry))))) (now (sums .entry)) (now (sums .exit)) ⌝ }
 {
     for t in start..end {
@@ -248,7 +249,7 @@ pub fn add_corner(
     k: CoefficientCount,
     sums: &mut [f64],
 )
-    requires { ⌜ (start ≤ end) × (end ≤ length (now xs)) × (end ≤ length (now zs)) × (end ≤ length (now ys)) × (k .0 ≤ 16) × (272 ≤ length (now sums)) ⌝ }
+    requires { ⌜ (start ≤ end) × (end ≤ length (now xs)) × (end ≤ length (now zs)) × (end ≤ length (now ys)) × (k .0 ≤ maxTerms) × (sumPlaces ≤ length (now sums)) ⌝ }
     ensures { λ _. ⌜ CornerSet (k .0) (addRows (now (sums .entry)) (drop start (rowsAt basis end (now (xs .entry)) (now (zs .entry)) (now (ys .entry))))) (now (sums .entry)) (now (sums .exit)) ⌝ }
 {
     if k.0 == 4 {
@@ -260,9 +261,9 @@ pub fn add_corner(
 
 // The 272 places become the sums over the first n places of the columns, folded afresh.
 pub fn fold_sums(xs: &[f64], ys: &[f64], n: usize, sums: &mut [f64])
-    requires { ⌜ 272 ≤ length (now sums) ⌝ }
+    requires { ⌜ sumPlaces ≤ length (now sums) ⌝ }
     requires { ⌜ (n ≤ length (now xs)) × (n ≤ length (now ys)) ⌝ }
-    ensures { λ _. ⌜ now (sums .exit) ≡ sumsOf (rowsOf (samplesOf n (now (xs .entry)) (now (ys .entry)))) ++ drop 272 (now (sums .entry)) ⌝ }
+    ensures { λ _. ⌜ now (sums .exit) ≡ sumsOf (rowsOf (samplesOf n (now (xs .entry)) (now (ys .entry)))) ++ drop sumPlaces (now (sums .entry)) ⌝ }
 {
     for k in 0..SUMS {
         sums[k] = 0.0;
@@ -274,9 +275,9 @@ pub fn fold_sums(xs: &[f64], ys: &[f64], n: usize, sums: &mut [f64])
 
 // The first 16 places become g over the first n places of the columns, folded afresh.
 fn fold_right(xs: &[f64], ys: &[f64], n: usize, g: &mut [f64])
-    requires { ⌜ 16 ≤ length (now g) ⌝ }
+    requires { ⌜ maxTerms ≤ length (now g) ⌝ }
     requires { ⌜ (n ≤ length (now xs)) × (n ≤ length (now ys)) ⌝ }
-    ensures { λ _. ⌜ now (g .exit) ≡ drop 256 (sumsOf (rowsOf (samplesOf n (now (xs .entry)) (now (ys .entry))))) ++ drop 16 (now (g .entry)) ⌝ }
+    ensures { λ _. ⌜ now (g .exit) ≡ drop matrixPlaces (sumsOf (rowsOf (samplesOf n (now (xs .entry)) (now (ys .entry))))) ++ drop maxTerms (now (g .entry)) ⌝ }
 {
     for k in 0..TERMS {
         g[k] = 0.0;
@@ -289,9 +290,9 @@ fn fold_right(xs: &[f64], ys: &[f64], n: usize, g: &mut [f64])
 
 // The 16 places of g are folded afresh over the first n places of the columns. A and all other places are untouched.
 pub fn refold_right(xs: &[f64], ys: &[f64], n: usize, sums: &mut [f64])
-    requires { ⌜ 272 ≤ length (now sums) ⌝ }
+    requires { ⌜ sumPlaces ≤ length (now sums) ⌝ }
     requires { ⌜ (n ≤ length (now xs)) × (n ≤ length (now ys)) ⌝ }
-    ensures { λ _. ⌜ now (sums .exit) ≡ take 256 (now (sums .entry)) ++ (drop 256 (sumsOf (rowsOf (samplesOf n (now (xs .entry)) (now (ys .entry))))) ++ drop 272 (now (sums .entry))) ⌝ }
+    ensures { λ _. ⌜ now (sums .exit) ≡ take matrixPlaces (now (sums .entry)) ++ (drop matrixPlaces (sumsOf (rowsOf (samplesOf n (now (xs .entry)) (now (ys .entry))))) ++ drop sumPlaces (now (sums .entry))) ⌝ }
 {
     fold_right(xs, ys, n, &mut sums[256..]);
 }

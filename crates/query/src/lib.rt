@@ -14,6 +14,7 @@ use statistics::DegreeBound;
 use statistics::Tolerance;
 ghost use Prim.Native.Nat.{_≤_};
 ghost use lib.ListN.{length, take};
+ghost use Rattle.basis.specs.Sizes.{highestDegree, maxTerms, sumPlaces};
 ghost use Rattle.samples.specs.Samples.{samplesOf};
 ghost use Rattle.query.specs.Fits.{FitIs, fitPast, fitOut, validateOut};
 ghost use Rattle.query.specs.Bands.{BandIs, bandOut};
@@ -40,8 +41,8 @@ fn solve_at(
     scratch: &mut [f64],
     coefficients: &mut [f64],
 ) -> FitAnswer
-    requires { ⌜ (n ≤ length (now xs)) × (n ≤ length (now ys)) × (n ≤ length (now scratch)) × (272 ≤ length (now sums)) × (16 ≤ length (now coefficients)) × (degree .0 ≤ 15) ⌝ }
-    ensures { λ r. ⌜ FitIs (fitPast n (degree .0) (samplesOf n (now (xs .entry)) (now (ys .entry))) (take 272 (now (sums .entry)))) r (now (scratch .entry)) (now (scratch .exit)) (now (coefficients .entry)) (now (coefficients .exit)) ⌝ }
+    requires { ⌜ (n ≤ length (now xs)) × (n ≤ length (now ys)) × (n ≤ length (now scratch)) × (sumPlaces ≤ length (now sums)) × (maxTerms ≤ length (now coefficients)) × (degree .0 ≤ highestDegree) ⌝ }
+    ensures { λ r. ⌜ FitIs (fitPast n (degree .0) (samplesOf n (now (xs .entry)) (now (ys .entry))) (take sumPlaces (now (sums .entry)))) r (now (scratch .entry)) (now (scratch .exit)) (now (coefficients .entry)) (now (coefficients .exit)) ⌝ }
 {
     let k = degree.k(Basis::Curve);
     let s = fit::attempt(Basis::Curve, xs, xs, ys, n, &sums[..SUMS], k, &mut *scratch);

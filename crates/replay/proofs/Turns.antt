@@ -10,7 +10,8 @@ use lib.ListN.{length, getD, take, drop}
 use lib.Ieee.{Float, nan}
 use Rattle.loops.specs.Fold.{fold}
 use Rattle.loops.specs.FoldLaws.{fold-table}
-use Rattle.loops.specs.Places.{table, length-table}
+use Rattle.loops.specs.Places.{table}
+use Rattle.loops.specs.PlaceLaws.{length-table}
 use Rattle.runs.specs.Runs.{replies as repliesOf}
 use Rattle.runs.specs.RunLaws.{length-replies, replies-table}
 use Rattle.lent.specs.Written.{over}

@@ -4,7 +4,7 @@ use mathlib.Core.List.{List, _++_, map}
 use Prim.Native.Nat.{ℕ, _+_}
 use lib.ListN.{length, drop, replicate, length-map, length-replicate}
 use lib.Ieee.{Float}
-use Rattle.loops.specs.Places.{length-each, length-table}
+use Rattle.loops.specs.PlaceLaws.{length-each, length-table}
 use Rattle.value.specs.Numbers.{zeroF}
 use Rattle.statistics.specs.Scores.{zScore, tScore, degreesOfFreedom}
 use Rattle.statistics.specs.Variances.{stddevAndMean}

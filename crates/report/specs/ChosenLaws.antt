@@ -5,7 +5,7 @@ use mathlib.Core.List.{List}
 use Prim.Native.Nat.{ℕ, _+_, _≤_}
 use native.Mathlib.Omega.{arith}
 use lib.Ieee.{Float}
-use Rattle.loops.specs.Places.{length-table, table-at}
+use Rattle.loops.specs.PlaceLaws.{length-table, table-at}
 use Rattle.basis.specs.Counts.{countOf}
 use Rattle.basis.specs.declared.Basis.the-variants.{Curve}
 use Rattle.basis.specs.declared.Degree.{Degree}

@@ -13,6 +13,7 @@ use fit::Choice;
 use settings::Settings;
 ghost use Prim.Native.Nat.{_+_, _≤_, _<_};
 ghost use lib.ListN.{length};
+ghost use Rattle.basis.specs.Sizes.{highestDegree, maxTerms, sumPlaces};
 ghost use Rattle.samples.specs.Samples.{samplesOf};
 ghost use Rattle.statistics.specs.Degrees.{maxDegree};
 ghost use Rattle.report.specs.Outputs.{outputs};
@@ -59,7 +60,7 @@ fn choose(
     sums: &[f64],
     scratch: &mut [f64],
 ) -> Chosen
-    requires { ⌜ (n ≤ length (now xs)) × (n ≤ length (now ys)) × (n ≤ length (now scratch)) × (272 ≤ length (now sums)) × (maxDegree (settings .bound) n ≤ 15) ⌝ }
+    requires { ⌜ (n ≤ length (now xs)) × (n ≤ length (now ys)) × (n ≤ length (now scratch)) × (sumPlaces ≤ length (now sums)) × (maxDegree (settings .bound) n ≤ highestDegree) ⌝ }
     ensures { λ r. ⌜ Chooses n settings (samplesOf n (now (xs .entry)) (now (ys .entry))) (now (sums .entry)) (now (scratch .entry)) (now (scratch .exit)) r ⌝ }
 {
     let bound = settings.bound;
@@ -119,8 +120,8 @@ fn write(
     upper: &mut [f64],
     outliers: &mut [u8],
 ) -> ReportAnswer
-    requires { ⌜ (n ≤ length (now xs)) × (n ≤ length (now ys)) × (degree .0 < n) × (degree .0 ≤ 15) ⌝ }
-    requires { ⌜ (n ≤ length (now scratch)) × (16 ≤ length (now coefficients)) × (16 ≤ length (now errors)) × (16 ≤ length (now pruned)) × (n ≤ length (now lower)) × (n ≤ length (now upper)) × (n ≤ length (now outliers)) ⌝ }
+    requires { ⌜ (n ≤ length (now xs)) × (n ≤ length (now ys)) × (degree .0 < n) × (degree .0 ≤ highestDegree) ⌝ }
+    requires { ⌜ (n ≤ length (now scratch)) × (maxTerms ≤ length (now coefficients)) × (maxTerms ≤ length (now errors)) × (maxTerms ≤ length (now pruned)) × (n ≤ length (now lower)) × (n ≤ length (now upper)) × (n ≤ length (now outliers)) ⌝ }
     ensures { λ r. ⌜ Does (writtenBy n settings (samplesOf n (now (xs .entry)) (now (ys .entry))) (degree .0) solved c v) r (outputs scratch coefficients errors pruned lower upper outliers) ⌝ }
 {
     let k = degree.k(Basis::Curve);

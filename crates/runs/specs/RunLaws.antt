@@ -7,7 +7,8 @@ use Prim.Native.Nat.{ℕ, suc, _+_, _≤_}
 use native.Mathlib.Omega.{arith}
 use lib.ListN.{length}
 use Rattle.loops.specs.Fold.{fold}
-use Rattle.loops.specs.Places.{table, table-again}
+use Rattle.loops.specs.Places.{table}
+use Rattle.loops.specs.PlaceLaws.{table-again}
 use Rattle.runs.specs.Runs.{Machine, replies, history, Each, front, frontOf, sifted, repliesTo, only, pick, along, passed}
 
 -- ---- of one machine

@@ -4,7 +4,8 @@ use mathlib.Core.List.{List, [], _∷_, _++_, map}
 use Prim.Native.Nat.{ℕ, _+_, _≤_}
 use lib.ListN.{length, take, drop}
 use lib.Ieee.{Float, nan}
-use Rattle.loops.specs.Places.{each, table, table-again, length-table, map-table, table-take, each-write}
+use Rattle.loops.specs.Places.{each, table}
+use Rattle.loops.specs.PlaceLaws.{table-again, length-table, map-table, table-take, each-write}
 use Rattle.samples.specs.Samples.{Sample, sampleAt, samplesOf, xsOf, ysOf}
 
 pub length-samples : (n : ℕ) (xs ys : List Float) → length (samplesOf n xs ys) ≡ n

@@ -9,8 +9,10 @@ use lib.Dec.{eqb}
 use lib.ListN.{length, getD, set, replicate, length-set, length-replicate}
 use lib.Seq.{getD-set-same, getD-set-other, getD-take, length-take-le}
 use lib.Ieee.{Float, nan, binary64, add, sub, mul, div}
-use Rattle.loops.specs.Loop.{Together, from-related, while-related}
-use Rattle.loops.specs.Places.{each, each-same, each-at, length-each}
+use Rattle.loops.specs.Loop.{Together}
+use Rattle.loops.specs.LoopLaws.{from-related, while-related}
+use Rattle.loops.specs.Places.{each}
+use Rattle.loops.specs.PlaceLaws.{each-same, each-at, length-each}
 use Rattle.value.specs.Numbers.{zeroF, epsilon}
 use Rattle.monomial.specs.Corner.{SameCorner}
 use Rattle.solve.specs.Solve.{System, cell, pivotHolds, lessCell, clearRow, clearBelow, eliminate, lessTerm, backRow, back, matrixOf, rightOf, solved, solve, ridgeCell, ridge, unit, unitColumn, columnHolds, inverseColumn, inverseColumns, inverse}

@@ -8,9 +8,11 @@ use borrow.Author.Tests.{le-leb, lt-leb}
 use lib.Dec.{ltb, leb}
 use lib.ListN.{length, getD, replicate, length-set}
 use lib.Ieee.{Float, nan}
-use Rattle.loops.specs.Loop.{Stopped, from-related, from-keeps, while-related, while-keeps, while-all, while-fails}
-use Rattle.loops.specs.Places.{each-rest, length-each}
-use Rattle.loops.specs.Within.{Within, within-itself, within-then, within-set}
+use Rattle.loops.specs.Loop.{Stopped}
+use Rattle.loops.specs.LoopLaws.{from-related, from-keeps, while-related, while-keeps, while-all, while-fails}
+use Rattle.loops.specs.PlaceLaws.{each-rest, length-each}
+use Rattle.loops.specs.Within.{Within}
+use Rattle.loops.specs.WithinLaws.{within-itself, within-then, within-set}
 use Rattle.value.specs.Numbers.{zeroF}
 use Rattle.solve.specs.Solve.{System, pivotHolds, clearRow, clearBelow, eliminate, backRow, back, matrixOf, rightOf, solved, solve, ridgeCell, ridge, unit, unitColumn, columnHolds, inverseColumn, inverseColumns, inverse}
 

@@ -4,7 +4,7 @@ use Prim.Native.Nat.{ℕ, _-_, _≤_}
 use native.Mathlib.Omega.{arith}
 use lib.ListN.{replicate}
 use lib.Ieee.{Float}
-use Rattle.loops.specs.Loop.{while-at-most}
+use Rattle.loops.specs.LoopLaws.{while-at-most}
 use Rattle.value.specs.Numbers.{zeroF}
 use Rattle.solve.specs.Solve.{System, pivotHolds, clearBelow, eliminate, matrixOf, rightOf, solved, solve, ridge, columnHolds, inverseColumn, inverseColumns, inverse}
 

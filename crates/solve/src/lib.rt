@@ -6,6 +6,7 @@ use basis::TERMS;
 ghost use mathlib.Core.Path.{_≡_};
 ghost use Prim.Native.Nat.{_≤_, _<_};
 ghost use lib.ListN.{length};
+ghost use Rattle.basis.specs.Sizes.{matrixPlaces, maxTerms, sumPlaces};
 ghost use Rattle.solve.specs.Solve.{eliminate as eliminateF, back, matrixOf, rightOf, solve as solveF, ridge as ridgeF, putColumn, inverse as inverseF};
 ghost use Rattle.solve.specs.Corner.{firstRows};
 
@@ -23,7 +24,7 @@ pub fn eliminate(
     m: &mut [f64; MATRIX],
     b: &mut [f64; TERMS],
 ) -> usize
-    requires { ⌜ (256 ≤ length (now start)) × (k .0 ≤ 16) ⌝ }
+    requires { ⌜ (matrixPlaces ≤ length (now start)) × (k .0 ≤ maxTerms) ⌝ }
     ensures { λ held. ⌜ record { at = held; state = record { m = now (m .exit); b = now (b .exit) } } ≡ eliminateF (now (start .entry)) (k .0) (record { m = now (m .entry); b = now (b .entry) }) ⌝ }
 {
     let n = k.0;
@@ -49,7 +50,7 @@ pub fn eliminate(
 
 // From the last row of m up, b becomes the k coefficients.
 pub fn back_substitution(k: CoefficientCount, m: &[f64; MATRIX], b: &mut [f64; TERMS])
-    requires { ⌜ k .0 ≤ 16 ⌝ }
+    requires { ⌜ k .0 ≤ maxTerms ⌝ }
     ensures { λ _. ⌜ now (b .exit) ≡ back (k .0) (now (m .entry)) (now (b .entry)) ⌝ }
 {
     let n = k.0;
@@ -65,7 +66,7 @@ pub fn back_substitution(k: CoefficientCount, m: &[f64; MATRIX], b: &mut [f64; T
 
 // The 256 places of A.
 fn matrix_of(sums: &[f64]) -> [f64; MATRIX]
-    requires { ⌜ 256 ≤ length (now sums) ⌝ }
+    requires { ⌜ matrixPlaces ≤ length (now sums) ⌝ }
     ensures { λ r. ⌜ r ≡ matrixOf (now (sums .entry)) ⌝ }
 {
     let mut a = [0.0; MATRIX];
@@ -77,7 +78,7 @@ fn matrix_of(sums: &[f64]) -> [f64; MATRIX]
 
 // The first k rows of A, then +0, which no step for k coefficients reads.
 fn first_rows(sums: &[f64], k: CoefficientCount) -> [f64; MATRIX]
-    requires { ⌜ (256 ≤ length (now sums)) × (k .0 ≤ 16) ⌝ }
+    requires { ⌜ (matrixPlaces ≤ length (now sums)) × (k .0 ≤ maxTerms) ⌝ }
     ensures { λ r. ⌜ r ≡ firstRows (now (sums .entry)) (k .0) ⌝ }
 {
     let n = 16 * k.0;
@@ -90,7 +91,7 @@ fn first_rows(sums: &[f64], k: CoefficientCount) -> [f64; MATRIX]
 
 // The first k places of g, then +0.
 fn right_of(sums: &[f64], k: CoefficientCount) -> [f64; TERMS]
-    requires { ⌜ (272 ≤ length (now sums)) × (k .0 ≤ 16) ⌝ }
+    requires { ⌜ (sumPlaces ≤ length (now sums)) × (k .0 ≤ maxTerms) ⌝ }
     ensures { λ r. ⌜ r ≡ rightOf (now (sums .entry)) (k .0) ⌝ }
 {
     let n = k.0;
@@ -109,7 +110,7 @@ pub struct Solved {
 
 // The k coefficients, from the corner of A and from g.
 pub fn solve(sums: &[f64], k: CoefficientCount) -> Solved
-    requires { ⌜ (272 ≤ length (now sums)) × (k .0 ≤ 16) ⌝ }
+    requires { ⌜ (sumPlaces ≤ length (now sums)) × (k .0 ≤ maxTerms) ⌝ }
     ensures { λ r. ⌜ r ≡ solveF (now (sums .entry)) (k .0) ⌝ }
 {
     let mut m = first_rows(sums, k);
@@ -127,7 +128,7 @@ pub fn solve(sums: &[f64], k: CoefficientCount) -> Solved
 
 // Adds 2⁻⁵² to each diagonal place of the corner.
 fn ridge(k: CoefficientCount, m: &mut [f64; MATRIX])
-    requires { ⌜ k .0 ≤ 16 ⌝ }
+    requires { ⌜ k .0 ≤ maxTerms ⌝ }
     ensures { λ _. ⌜ now (m .exit) ≡ ridgeF (k .0) (now (m .entry)) ⌝ }
 {
     let n = k.0;
@@ -139,7 +140,7 @@ fn ridge(k: CoefficientCount, m: &mut [f64; MATRIX])
 
 // Column j of v becomes the first k places of b.
 fn put_column(k: CoefficientCount, j: usize, b: &[f64; TERMS], v: &mut [f64; MATRIX])
-    requires { ⌜ (k .0 ≤ 16) × (j < 16) ⌝ }
+    requires { ⌜ (k .0 ≤ maxTerms) × (j < maxTerms) ⌝ }
     ensures { λ _. ⌜ now (v .exit) ≡ putColumn (k .0) j (now (b .entry)) (now (v .entry)) ⌝ }
 {
     let n = k.0;
@@ -156,7 +157,7 @@ pub struct Inverted {
 
 // The inverse of the corner of A with 2⁻⁵² first added to each diagonal place, one unit column after the other.
 pub fn inverse(sums: &[f64], k: CoefficientCount) -> Inverted
-    requires { ⌜ (256 ≤ length (now sums)) × (k .0 ≤ 16) ⌝ }
+    requires { ⌜ (matrixPlaces ≤ length (now sums)) × (k .0 ≤ maxTerms) ⌝ }
     ensures { λ r. ⌜ r ≡ inverseF (now (sums .entry)) (k .0) ⌝ }
 {
     let n = k.0;

@@ -16,7 +16,7 @@ use lib.Ieee.Fits.{round-is, sub-fits}
 use Rattle.loops.specs.All.{All}
 use Rattle.loops.specs.AllLaws.{all-at, all-map}
 use Rattle.loops.specs.Cases.{choose}
-use Rattle.loops.specs.Places.{map-at}
+use Rattle.loops.specs.PlaceLaws.{map-at}
 use Rattle.value.specs.Absolute.{absF}
 use Rattle.value.specs.AbsoluteLaws.{flat}
 use Rattle.value.specs.Exact.{round-itself}

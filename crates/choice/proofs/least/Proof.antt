@@ -2,7 +2,8 @@
 use mathlib.Core.Path.{_≡_, refl, sym, _∙_}
 use Prim.Native.Nat.{_-_}
 use Rattle.choice.specs.Choice.{yields, leastOf, scoredAt}
-use Rattle.loops.specs.Loop.{from, again, done}
+use Rattle.loops.specs.Loop.{from}
+use Rattle.loops.specs.LoopLaws.{again, done}
 use lib.Ieee.{nanBits, ofBits}
 use borrow.Author.Needs.{needs}
 use Rattle.choice.proofs.least.Statement.{statement}

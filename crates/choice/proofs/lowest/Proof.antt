@@ -2,7 +2,8 @@
 use mathlib.Core.Path.{_≡_, refl, sym, ap, _∙_}
 use Prim.Native.Nat.{_-_}
 use Rattle.choice.specs.Choice.{near, chosenOf, degreeOf, scoredAt}
-use Rattle.loops.specs.Loop.{seek, seek-again, seek-found, seek-done}
+use Rattle.loops.specs.Loop.{seek}
+use Rattle.loops.specs.LoopLaws.{seek-again, seek-found, seek-done}
 use borrow.Author.Needs.{needs}
 use Rattle.choice.proofs.lowest.Statement.{statement}
 use Rattle.choice.proofs.lowest.Tie as tie

@@ -5,7 +5,8 @@ use Rattle.choice.specs.Choice.{flagCount}
 use mathlib.Core.Bool.{cond, false}
 use mathlib.Core.Logic.{⊎-elim}
 use lib.ListN.{getD}
-use Rattle.loops.specs.Loop.{from, again, done}
+use Rattle.loops.specs.Loop.{from}
+use Rattle.loops.specs.LoopLaws.{again, done}
 use borrow.Author.Needs.{needs}
 use native.Mathlib.Omega.{arith}
 use Rattle.choice.proofs.solved_of.Statement.{statement}

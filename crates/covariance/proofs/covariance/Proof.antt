@@ -5,7 +5,8 @@ use native.Mathlib.Omega.{arith}
 use borrow.Author.Needs.{needs}
 use lib.ListN.{getD}
 use lib.Ieee.{nan, binary64, mul}
-use Rattle.loops.specs.Places.{each, each-again, each-table}
+use Rattle.loops.specs.Places.{each}
+use Rattle.loops.specs.PlaceLaws.{each-again, each-table}
 use Rattle.covariance.specs.Covariance.{covarianceOf}
 use Rattle.covariance.proofs.covariance.Statement.{statement}
 use Rattle.covariance.proofs.covariance.Tie as tie

@@ -4,7 +4,8 @@ use Prim.Native.Nat.{_-_, _≤_}
 use native.Mathlib.Omega.{arith}
 use borrow.Author.Needs.{needs}
 use lib.Ieee.{nan}
-use Rattle.loops.specs.Places.{each, each-again}
+use Rattle.loops.specs.Places.{each}
+use Rattle.loops.specs.PlaceLaws.{each-again}
 use Rattle.value.specs.Root.{rootF}
 use Rattle.solve.specs.Solve.{cell}
 use Rattle.covariance.specs.Covariance.{errorsOf}

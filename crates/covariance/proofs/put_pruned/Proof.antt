@@ -5,7 +5,8 @@ use native.Mathlib.Omega.{arith}
 use borrow.Author.Needs.{needs}
 use lib.ListN.{length, length-set}
 use Rattle.loops.specs.Fold.{fold}
-use Rattle.loops.specs.Places.{each, each-again, each-write, table}
+use Rattle.loops.specs.Places.{each, table}
+use Rattle.loops.specs.PlaceLaws.{each-again, each-write}
 use Rattle.covariance.specs.Marks.{mark, ones}
 use Rattle.covariance.specs.MarkLaws.{ones-again}
 use Rattle.covariance.specs.Pruning.{prunedAt}

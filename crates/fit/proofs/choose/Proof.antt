@@ -7,8 +7,10 @@ use borrow.Author.Needs.{needs}
 use lib.Ieee.{nan}
 use Rattle.loops.specs.Fold.{fold}
 use Rattle.loops.specs.FoldLaws.{fold-table}
-use Rattle.loops.specs.Places.{each, each-again, table}
-use Rattle.loops.specs.Within.{Within, within-itself, within-then}
+use Rattle.loops.specs.Places.{each, table}
+use Rattle.loops.specs.PlaceLaws.{each-again}
+use Rattle.loops.specs.Within.{Within}
+use Rattle.loops.specs.WithinLaws.{within-itself, within-then}
 use Rattle.basis.specs.Counts.{countOf}
 use Rattle.basis.specs.CountLaws.{count-mono}
 use Rattle.monomial.specs.Rows.{rowsAt}

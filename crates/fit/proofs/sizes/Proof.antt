@@ -8,7 +8,8 @@ use lib.ListN.{length, length-set}
 use lib.Ieee.{nan}
 use Rattle.loops.specs.Fold.{fold, allOf}
 use Rattle.loops.specs.FoldLaws.{fold-table}
-use Rattle.loops.specs.Places.{each, each-again, table}
+use Rattle.loops.specs.Places.{each, table}
+use Rattle.loops.specs.PlaceLaws.{each-again}
 use Rattle.value.specs.Finite.{finite}
 use Rattle.value.specs.Absolute.{absF}
 use Rattle.monomial.specs.Rows.{Row, rowAt, rowsAt}

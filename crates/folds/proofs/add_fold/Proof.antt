@@ -6,8 +6,10 @@ use native.Mathlib.Omega.{arith}
 use borrow.Author.Needs.{needs}
 use lib.ListN.{length, getD, length-set}
 use lib.Ieee.{nan}
-use Rattle.loops.specs.Places.{each, each-again, each-past}
-use Rattle.loops.specs.Within.{Within, within-itself, within-then}
+use Rattle.loops.specs.Places.{each}
+use Rattle.loops.specs.PlaceLaws.{each-again, each-past}
+use Rattle.loops.specs.Within.{Within}
+use Rattle.loops.specs.WithinLaws.{within-itself, within-then}
 use Rattle.basis.specs.Counts.{countOf}
 use Rattle.basis.specs.declared.Basis.the-variants.{Curve}
 use Rattle.monomial.specs.Rows.{rowsAt}

@@ -4,7 +4,8 @@ use Prim.Native.Nat.{_-_, _≤_, _<_}
 use native.Mathlib.Omega.{arith}
 use borrow.Author.Needs.{needs}
 use lib.ListN.{length}
-use Rattle.loops.specs.Within.{Within, within-itself, within-then}
+use Rattle.loops.specs.Within.{Within}
+use Rattle.loops.specs.WithinLaws.{within-itself, within-then}
 use Rattle.basis.specs.declared.Basis.the-variants.{Curve}
 use Rattle.monomial.specs.Rows.{rowsAt}
 use Rattle.monomial.specs.Sums.{sumsOf}

@@ -6,7 +6,8 @@ use native.Mathlib.Omega.{arith}
 use borrow.Author.Needs.{needs}
 use lib.ListN.{getD}
 use lib.Ieee.{nan}
-use Rattle.loops.specs.Places.{each, each-again}
+use Rattle.loops.specs.Places.{each}
+use Rattle.loops.specs.PlaceLaws.{each-again}
 use Rattle.choice.specs.Choice.{scoredAt}
 use Rattle.choice.specs.ChoiceLaws.{chosen-same}
 use Rattle.choice.specs.declared.Scored.{Scored}

@@ -5,7 +5,8 @@ use native.Mathlib.Omega.{arith}
 use borrow.Author.Needs.{needs}
 use lib.ListN.{length, length-set}
 use lib.Ieee.{nan}
-use Rattle.loops.specs.Places.{each, each-again, each-fill}
+use Rattle.loops.specs.Places.{each}
+use Rattle.loops.specs.PlaceLaws.{each-again, each-fill}
 use Rattle.value.specs.Numbers.{zeroF}
 use Rattle.lent.proofs.clear.Statement.{statement}
 use Rattle.lent.proofs.clear.Tie as tie

@@ -6,7 +6,8 @@ use borrow.Author.Needs.{needs}
 use lib.ListN.{length, getD, length-set}
 use lib.Ieee.{nan}
 use lib.Seq.{take-all}
-use Rattle.loops.specs.Places.{each, each-again, each-copy}
+use Rattle.loops.specs.Places.{each}
+use Rattle.loops.specs.PlaceLaws.{each-again, each-copy}
 use Rattle.lent.proofs.put_terms.Statement.{statement}
 use Rattle.lent.proofs.put_terms.Tie as tie
 

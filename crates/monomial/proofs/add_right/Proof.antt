@@ -5,7 +5,8 @@ use native.Mathlib.Omega.{arith}
 use borrow.Author.Needs.{needs}
 use lib.ListN.{length, length-set}
 use lib.Ieee.{nan}
-use Rattle.loops.specs.Places.{each, each-again}
+use Rattle.loops.specs.Places.{each}
+use Rattle.loops.specs.PlaceLaws.{each-again}
 use Rattle.monomial.specs.SumLaws.{product-right}
 use Rattle.monomial.proofs.Parts.{addedG}
 use Rattle.monomial.proofs.add_right.Statement.{statement}

@@ -7,7 +7,8 @@ use lib.ListN.{length, length-set}
 use lib.Ieee.{nan}
 use Rattle.value.specs.Numbers.{zeroF}
 use Rattle.loops.specs.Fold.{fold}
-use Rattle.loops.specs.Places.{each, each-again, table}
+use Rattle.loops.specs.Places.{each, table}
+use Rattle.loops.specs.PlaceLaws.{each-again}
 use Rattle.samples.specs.Samples.{samplesOf}
 use Rattle.monomial.specs.Rows.{rowsOf}
 use Rattle.monomial.specs.Sums.{addRow, addRows}

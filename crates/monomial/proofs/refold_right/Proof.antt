@@ -1,7 +1,7 @@
 -- `monomial::refold_right` meets its contract: g is folded in the tail that is lent.
 use borrow.Author.Needs.{needs}
 use lib.ListN.{drop}
-use Rattle.loops.specs.Places.{tail-back}
+use Rattle.loops.specs.PlaceLaws.{tail-back}
 use Rattle.samples.specs.Samples.{samplesOf}
 use Rattle.monomial.specs.Rows.{rowsOf}
 use Rattle.monomial.specs.Sums.{sumsOf}

@@ -3,7 +3,8 @@ use mathlib.Core.Path.{_≡_, refl, sym, _∙_}
 use native.Mathlib.Omega.{arith}
 use Prim.Native.Nat.{_-_}
 use borrow.Author.Needs.{needs}
-use Rattle.loops.specs.Loop.{from, again, done}
+use Rattle.loops.specs.Loop.{from}
+use Rattle.loops.specs.LoopLaws.{again, done}
 use Rattle.solve.specs.Solve.{lessTerm, backRow, back}
 use Rattle.solve.proofs.back_substitution.Statement.{statement}
 use Rattle.solve.proofs.back_substitution.Tie as tie

@@ -4,7 +4,8 @@ use native.Mathlib.Omega.{arith}
 use Prim.Native.Nat.{_-_}
 use borrow.Author.Needs.{needs}
 use borrow.Author.Tests.{not-true, not-false}
-use Rattle.loops.specs.Loop.{from, again, done, while, while-again, while-fails, while-done}
+use Rattle.loops.specs.Loop.{from, while}
+use Rattle.loops.specs.LoopLaws.{again, done, while-again, while-fails, while-done}
 use Rattle.solve.specs.Solve.{lessCell, clearRow, clearBelow, pivotHolds, eliminate}
 use Rattle.solve.proofs.eliminate.Statement.{statement}
 use Rattle.solve.proofs.eliminate.Tie as tie

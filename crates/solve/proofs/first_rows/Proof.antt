@@ -5,7 +5,8 @@ use native.Mathlib.Omega.{arith}
 use borrow.Author.Needs.{needs}
 use lib.ListN.{getD}
 use lib.Ieee.{nan}
-use Rattle.loops.specs.Places.{each, each-again}
+use Rattle.loops.specs.Places.{each}
+use Rattle.loops.specs.PlaceLaws.{each-again}
 use Rattle.solve.specs.Corner.{firstRows}
 use Rattle.solve.proofs.first_rows.Statement.{statement}
 use Rattle.solve.proofs.first_rows.Tie as tie

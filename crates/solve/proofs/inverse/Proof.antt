@@ -4,7 +4,8 @@ use Prim.Native.Nat.{_-_}
 use borrow.Author.Needs.{needs}
 use borrow.Author.Tests.{le-leb, lt-leb}
 use native.Mathlib.Omega.{arith}
-use Rattle.loops.specs.Loop.{while, while-again, while-fails, while-done}
+use Rattle.loops.specs.Loop.{while}
+use Rattle.loops.specs.LoopLaws.{while-again, while-fails, while-done}
 use Rattle.solve.specs.Solve.{columnHolds, inverseColumn, inverseColumns, ridge}
 use Rattle.solve.proofs.Steps.{inverse-is, length-ridged, column-is, holds-is}
 use Rattle.solve.proofs.inverse.Statement.{statement}

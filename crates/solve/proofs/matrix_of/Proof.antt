@@ -7,7 +7,8 @@ use lib.ListN.{getD, replicate}
 use lib.Ieee.{nan}
 use mathlib.Core.List.{append-nil}
 use lib.Dec.{lit≤}
-use Rattle.loops.specs.Places.{each, each-again, each-copy}
+use Rattle.loops.specs.Places.{each}
+use Rattle.loops.specs.PlaceLaws.{each-again, each-copy}
 use Rattle.value.specs.Numbers.{zeroF}
 use Rattle.solve.proofs.matrix_of.Statement.{statement}
 use Rattle.solve.proofs.matrix_of.Tie as tie

@@ -2,7 +2,8 @@
 use mathlib.Core.Path.{_≡_, refl, sym, _∙_}
 use native.Mathlib.Omega.{arith}
 use Prim.Native.Nat.{_-_}
-use Rattle.loops.specs.Loop.{from, again, done}
+use Rattle.loops.specs.Loop.{from}
+use Rattle.loops.specs.LoopLaws.{again, done}
 use Rattle.solve.specs.Solve.{putCell, putColumn}
 use Rattle.solve.proofs.put_column.Statement.{statement}
 use Rattle.solve.proofs.put_column.Tie as tie

@@ -3,7 +3,7 @@ use Prim.Native.Nat.{_+_, _-_, _*_}
 use native.Mathlib.Omega.{arith}
 use borrow.Author.Needs.{needs}
 use lib.Ieee.{ofBits, round}
-use Rattle.loops.specs.Places.{map-at}
+use Rattle.loops.specs.PlaceLaws.{map-at}
 use Rattle.statistics.specs.Table.{thousandths, tableEntry}
 use Rattle.statistics.specs.Scores.{milli, entryAt}
 use Rattle.statistics.proofs.table.entry.Statement.{statement}
