@@ -20,15 +20,16 @@ use Rattle.report.specs.Outputs.{LentOutputs}
 use Rattle.replay.specs.declared.Replayed.{Replayed}
 use Rattle.replay.specs.Records.{callsOf}
 use Rattle.replay.specs.Replay.{LentMemory, Ran, ReplayIs}
-use Rattle.lent.specs.Slices.{Slice, before, after}
+use Rattle.lent.specs.Slices.{Slice, before, after, contents}
 use Rattle.lent.specs.Written.{over}
 use Rattle.capi.specs.Packed.{packedRefusal, packedBook, packedFit, packedBand, packedReport, bandNumbers, bandInto, BookPacked, FitPacked, BandPacked, ReportPacked, packedRead, readNumbers, ReadPacked, packedReplay, ReplayPacked}
+use Rattle.samples.specs.Columns.{Columns}
 
-pub book-packed : {o : Out} {a : Answer} {r : ℕ} {xs ys sums : List Float} → Is o a xs ys sums → r ≡ packedBook a → BookPacked o r xs ys sums
+pub book-packed : {o : Out} {a : Answer} {r : ℕ} {columns : Columns} {sums : List Float} → Is o a columns sums → r ≡ packedBook a → BookPacked o r columns sums
 book-packed i e =
-    record { answer = e ∙ ap packedBook (i .answer); lent = record { answer = refl; xs = i .xs; ys = i .ys; sums = i .sums } }
+    record { answer = e ∙ ap packedBook (i .answer); lent = record { answer = refl; columns = i .columns; sums = i .sums } }
 
-pub fit-packed : {o : FitOut} {a : FitAnswer} {r : ℕ} (s c : Slice Float) → FitIs o a (before s) (after s) (before c) (after c) → r ≡ packedFit a → FitPacked o r s c
+pub fit-packed : {o : FitOut} {a : FitAnswer} {r : ℕ} (s c : Slice Float) → FitIs o a (contents s) (contents c) → r ≡ packedFit a → FitPacked o r s c
 fit-packed s c i e =
     record { answer = e ∙ ap packedFit (i .answer); lent = record { answer = refl; scratch = i .scratch; coefficients = i .coefficients } }
 
@@ -48,7 +49,7 @@ module _ (o : BandOut) (places : ℕ) (s v : Slice Float) where
   unfolding bandInto packedBand bandNumbers
   band-short h es ev r e = rw h (record { answer = e; lent = record { answer = refl; scratch = es }; numbers = ev })
 
-  pub band-packed : ltb places 3 ≡ false → (a : BandAnswer) (r : ℕ) → BandIs o a (before s) (after s) → r ≡ packedBand a
+  pub band-packed : ltb places 3 ≡ false → (a : BandAnswer) (r : ℕ) → BandIs o a (contents s) → r ≡ packedBand a
       → after v ≡ over (bandNumbers a) (before v) → BandPacked (bandInto places o) r s v
   unfolding bandInto
   band-packed h a r i e n =

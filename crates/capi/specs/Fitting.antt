@@ -19,8 +19,9 @@ use Rattle.statistics.specs.Degrees.{maxDegree}
 use Rattle.statistics.specs.declared.DegreeBound.{DegreeBound}
 use Rattle.statistics.specs.declared.Confidence.{Confidence}
 use Rattle.statistics.specs.declared.Tolerance.{Tolerance}
-use Rattle.samples.specs.Samples.{Sample, samplesOf}
-use Rattle.samples.specs.SampleLaws.{length-samples}
+use Rattle.samples.specs.Samples.{Sample}
+use Rattle.samples.specs.Columns.{samplesOf, Columns, lengths, noColumns}
+use Rattle.samples.specs.ColumnLaws.{length-samples}
 use Rattle.monomial.specs.Rows.{Row, rowOf, rowsOf}
 use Rattle.score.specs.declared.Criterion.{Criterion}
 use Rattle.choice.specs.Choice.{solvedCount}
@@ -43,7 +44,6 @@ use Rattle.refusal.specs.Laws.{among, numbered}
 use Rattle.refusal.specs.Refusals.{mostNumber, by, settle}
 use Rattle.book.specs.RefusalLaws.{open-numbers, add-numbers, correct-numbers, withdraw-numbers, frame-numbers, add-room, correct-room, withdraw-room, frame-room}
 use Rattle.book.specs.Calls.{Out, stateOf, refused, openOut, addOut, correctOut, withdrawOut, addFrameOut}
-use Rattle.samples.specs.Columns.{columnsOf}
 use Rattle.book.specs.ManyLaws.{many-added, added-is}
 use Rattle.measure.specs.Measures.{inverseFails, measureRefusal, covarianceAt}
 use Rattle.query.specs.Refusals.{fitRefusal, validateRefusal, bandRefusal}
@@ -103,45 +103,45 @@ solved-most S b =
 
 -- ---- the calls that change a book
 
-book-fits : (k : ℕ) (good : Out) (xs ys sums : List Float) → k ≤ mostNumber → (k ≡ 0 → BookFits (good .answer)) → BookFits (settle k good (refused k (columnsOf xs ys) sums) .answer)
+book-fits : (k : ℕ) (good : Out) (columns : Columns) (sums : List Float) → k ≤ mostNumber → (k ≡ 0 → BookFits (good .answer)) → BookFits (settle k good (refused k columns sums) .answer)
 unfolding BookFits
-book-fits zero good xs ys sums h g = g refl
-book-fits (suc k) good xs ys sums h g = (omega arith, h)
+book-fits zero good columns sums h g = g refl
+book-fits (suc k) good columns sums h g = (omega arith, h)
 
 pub open-fits : (sums : List Float) → BookFits (openOut sums .answer)
 unfolding openOut BookFits
 open-fits sums =
-    book-fits (openRefusal (length sums)) _ [] [] sums (omega (arith, among _ (open-numbers (length sums)))) (λ e. omega arith)
+    book-fits (openRefusal (length sums)) _ noColumns sums (omega (arith, among _ (open-numbers (length sums)))) (λ e. omega arith)
 
-module _ (n : ℕ) (xs ys sums : List Float) where
-  pub add-fits : (p : Sample) → BookFits (addOut n p (columnsOf xs ys) sums .answer)
+module _ (n : ℕ) (columns : Columns) (sums : List Float) where
+  pub add-fits : (p : Sample) → BookFits (addOut n p columns sums .answer)
   unfolding addOut BookFits
   add-fits p =
-      book-fits (addRefusal n p (length xs ∷ length ys ∷ []) (length sums)) _ xs ys sums
-      (omega (arith, among _ (add-numbers n (length xs ∷ length ys ∷ []) (length sums) p)))
-      (λ e. add-room n (length xs ∷ length ys ∷ []) (length sums) p e .0 .most)
+      book-fits (addRefusal n p (lengths columns) (length sums)) _ columns sums
+      (omega (arith, among _ (add-numbers n (lengths columns) (length sums) p)))
+      (λ e. add-room n (lengths columns) (length sums) p e .0 .most)
 
-  pub correct-fits : (i : ℕ) (y : Float) → BookFits (correctOut n i y (columnsOf xs ys) sums .answer)
+  pub correct-fits : (i : ℕ) (y : Float) → BookFits (correctOut n i y columns sums .answer)
   unfolding correctOut BookFits
   correct-fits i y =
-      book-fits (correctRefusal n i y (length xs ∷ length ys ∷ []) (length sums)) _ xs ys sums
-      (omega (arith, among _ (correct-numbers n (length xs ∷ length ys ∷ []) (length sums) i y)))
-      (λ e. correct-room n (length xs ∷ length ys ∷ []) (length sums) i y e .0 .most)
+      book-fits (correctRefusal n i y (lengths columns) (length sums)) _ columns sums
+      (omega (arith, among _ (correct-numbers n (lengths columns) (length sums) i y)))
+      (λ e. correct-room n (lengths columns) (length sums) i y e .0 .most)
 
-  pub withdraw-fits : (i : ℕ) → BookFits (withdrawOut n i (columnsOf xs ys) sums .answer)
+  pub withdraw-fits : (i : ℕ) → BookFits (withdrawOut n i columns sums .answer)
   unfolding withdrawOut BookFits
   withdraw-fits i =
-      book-fits (withdrawRefusal n i (length xs ∷ length ys ∷ []) (length sums)) _ xs ys sums
-      (omega (arith, among _ (withdraw-numbers n (length xs ∷ length ys ∷ []) (length sums) i)))
-      (λ e. omega (arith, withdraw-room n (length xs ∷ length ys ∷ []) (length sums) i e .0 .most))
+      book-fits (withdrawRefusal n i (lengths columns) (length sums)) _ columns sums
+      (omega (arith, among _ (withdraw-numbers n (lengths columns) (length sums) i)))
+      (λ e. omega (arith, withdraw-room n (lengths columns) (length sums) i e .0 .most))
 
-  pub frame-fits : (f : List ℕ) → BookFits (addFrameOut n f (columnsOf xs ys) sums .answer)
+  pub frame-fits : (f : List ℕ) → BookFits (addFrameOut n f columns sums .answer)
   unfolding addFrameOut BookFits
   frame-fits f =
-      let s = stateOf n xs ys sums in
-      book-fits (frameAddRefusal n f (length xs ∷ length ys ∷ []) (length sums)) _ xs ys sums
-      (omega (arith, among _ (frame-numbers n (length xs ∷ length ys ∷ []) (length sums) f)))
-      (λ e. let r = frame-room n (length xs ∷ length ys ∷ []) (length sums) f e in rw (many-added (decode f) s (r .0) (r .2) ∙ added-is (decode f) s) (r .0 .most))
+      let s = stateOf n columns sums in
+      book-fits (frameAddRefusal n f (lengths columns) (length sums)) _ columns sums
+      (omega (arith, among _ (frame-numbers n (lengths columns) (length sums) f)))
+      (λ e. let r = frame-room n (lengths columns) (length sums) f e in rw (many-added (decode f) s (r .0) (r .2) ∙ added-is (decode f) s) (r .0 .most))
 
 -- ---- fit and validation
 
@@ -158,31 +158,31 @@ unfolding FitFits
 fit-settles zero good h g = g refl
 fit-settles (suc k) good h g = (omega arith, h)
 
-module _ (n : ℕ) (xs ys sums scratch coefficients : List Float) where
-  pub fit-fits : (degree : ℕ) → FitFits (fitOut n xs ys sums scratch coefficients degree .answer)
+module _ (n : ℕ) (columns : Columns) (sums scratch coefficients : List Float) where
+  pub fit-fits : (degree : ℕ) → FitFits (fitOut n columns sums scratch coefficients degree .answer)
   unfolding fitOn
   fit-fits degree =
-      fit-settles (fitRefusal n degree (samplesOf n xs ys) (length xs ∷ length ys ∷ []) (length sums) (length scratch) (length coefficients)) _
-      (omega (arith, among _ (fit-numbers n (samplesOf n xs ys) (length xs ∷ length ys ∷ []) (length sums) (length scratch) degree (length coefficients))))
+      fit-settles (fitRefusal n degree (samplesOf n columns) (lengths columns) (length sums) (length scratch) (length coefficients)) _
+      (omega (arith, among _ (fit-numbers n (samplesOf n columns) (lengths columns) (length sums) (length scratch) degree (length coefficients))))
       (λ e.
-      past-fits n degree _ _ (fit-room n (samplesOf n xs ys) (length xs ∷ length ys ∷ []) (length sums) (length scratch) degree (length coefficients) e .1))
+      past-fits n degree _ _ (fit-room n (samplesOf n columns) (lengths columns) (length sums) (length scratch) degree (length coefficients) e .1))
 
   pub validate-fits : (folds : ℕ) (bound : DegreeBound) (criterion : Criterion)
-      → FitFits (validateOut n xs ys sums scratch coefficients folds bound criterion .answer)
+      → FitFits (validateOut n columns sums scratch coefficients folds bound criterion .answer)
   unfolding validateOn validatePast validatedChoice FitFits
   validate-fits folds bound criterion =
-      let samples = samplesOf n xs ys in
-      fit-settles (validateRefusal n folds bound samples (length xs ∷ length ys ∷ []) (length sums) (length scratch) (length coefficients)) _
-      (omega (arith, among _ (validate-numbers n samples (length xs ∷ length ys ∷ []) (length sums) (length scratch) folds bound (length coefficients))))
+      let samples = samplesOf n columns in
+      fit-settles (validateRefusal n folds bound samples (lengths columns) (length sums) (length scratch) (length coefficients)) _
+      (omega (arith, among _ (validate-numbers n samples (lengths columns) (length sums) (length scratch) folds bound (length coefficients))))
       (λ e.
-      chosen-fits (validate-room n samples (length xs ∷ length ys ∷ []) (length sums) (length scratch) folds bound (length coefficients) e .1)
+      chosen-fits (validate-room n samples (lengths columns) (length sums) (length scratch) folds bound (length coefficients) e .1)
       (validatedChoice criterion (rowsOf samples) folds (maxDegree bound n)) refl)
     where
-      chosen-fits : maxDegree bound n ≤ 15 → (o : OptionDegree) → validatedChoice criterion (rowsOf (samplesOf n xs ys)) folds (maxDegree bound n) ≡ o
-          → FitFits (validatePast n o (samplesOf n xs ys) (take 272 sums) .answer)
+      chosen-fits : maxDegree bound n ≤ 15 → (o : OptionDegree) → validatedChoice criterion (rowsOf (samplesOf n columns)) folds (maxDegree bound n) ≡ o
+          → FitFits (validatePast n o (samplesOf n columns) (take 272 sums) .answer)
       chosen-fits h None e = (omega arith, omega arith)
       chosen-fits h (Some d) e =
-          let w = chosen (λ d. validated criterion (rowsOf (samplesOf n xs ys)) folds (countOf Curve d)) (maxDegree bound n + 1) (d .0) e in
+          let w = chosen (λ d. validated criterion (rowsOf (samplesOf n columns)) folds (countOf Curve d)) (maxDegree bound n + 1) (d .0) e in
           past-fits n (d .0) _ _ (omega (arith, w .within))
 
 -- ---- the band
@@ -209,14 +209,14 @@ into-fits places o h = go (ltb places 3)
     go true = (omega arith, omega arith)
     go false = h
 
-pub band-fits : (n : ℕ) (x : Float) (degree : ℕ) (confidence : Confidence) (tolerance : Tolerance) (xs ys sums scratch : List Float) (places : ℕ)
-    → BandFits (bandInto places (bandOut n x degree confidence tolerance xs ys sums scratch) .answer)
+pub band-fits : (n : ℕ) (x : Float) (degree : ℕ) (confidence : Confidence) (tolerance : Tolerance) (columns : Columns) (sums scratch : List Float) (places : ℕ)
+    → BandFits (bandInto places (bandOut n x degree confidence tolerance columns sums scratch) .answer)
 unfolding bandFor bandPast
-band-fits n x degree confidence tolerance xs ys sums scratch places =
-    let samples = samplesOf n xs ys in
+band-fits n x degree confidence tolerance columns sums scratch places =
+    let samples = samplesOf n columns in
     into-fits places _
-    (out-settles (bandRefusal n x degree confidence tolerance samples (length xs ∷ length ys ∷ []) (length sums) (length scratch)) _
-    (omega (arith, among _ (band-numbers n samples (length xs ∷ length ys ∷ []) (length sums) (length scratch) x degree confidence tolerance)))
+    (out-settles (bandRefusal n x degree confidence tolerance samples (lengths columns) (length sums) (length scratch)) _
+    (omega (arith, among _ (band-numbers n samples (lengths columns) (length sums) (length scratch) x degree confidence tolerance)))
     (band-settles (measureRefusal (take 272 sums) (rowsOf samples) (countOf Curve degree)) _ (measure-most _ _ _)))
 
 -- ---- the report
@@ -263,13 +263,13 @@ unfolding ReportFits
 report-settles zero good h g = g refl
 report-settles (suc k) good h g = (omega arith, h)
 
-pub report-fits : (n : ℕ) (settings : Settings) (xs ys sums : List Float) (places : Places) → ReportFits (reportOut n settings xs ys sums places .answer)
+pub report-fits : (n : ℕ) (settings : Settings) (columns : Columns) (sums : List Float) (places : Places) → ReportFits (reportOut n settings columns sums places .answer)
 unfolding reportOn reportPast
-report-fits n settings xs ys sums places =
-    let samples = samplesOf n xs ys in
-    report-settles (reportRefusal n settings samples (length xs ∷ length ys ∷ []) (length sums) places) _
-    (omega (arith, among _ (report-numbers n settings samples (length xs ∷ length ys ∷ []) (length sums) places)))
+report-fits n settings columns sums places =
+    let samples = samplesOf n columns in
+    report-settles (reportRefusal n settings samples (lengths columns) (length sums) places) _
+    (omega (arith, among _ (report-numbers n settings samples (lengths columns) (length sums) places)))
     (λ e.
-    let w = report-room n settings samples (length xs ∷ length ys ∷ []) (length sums) places e in
-    chosen-fits n settings samples (take 272 sums) (omega (arith, w .room .most, length-samples n xs ys)) (w .most)
+    let w = report-room n settings samples (lengths columns) (length sums) places e in
+    chosen-fits n settings samples (take 272 sums) (omega (arith, w .room .most, length-samples n columns)) (w .most)
     (reportChoice n settings samples (take 272 sums) .chosen) refl)

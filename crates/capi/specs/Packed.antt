@@ -30,8 +30,9 @@ use Rattle.replay.specs.declared.Replayed.{Replayed}
 use Rattle.replay.specs.declared.Replayed.the-variants as replays
 use Rattle.replay.specs.Records.{callsOf, wellFormed}
 use Rattle.replay.specs.Replay.{LentMemory, buffersIn, Ran}
-use Rattle.lent.specs.Slices.{Slice, before, after}
+use Rattle.lent.specs.Slices.{Slice, before, after, contents}
 use Rattle.lent.specs.Written.{over}
+use Rattle.samples.specs.Columns.{Columns}
 
 -- ---- packed answers
 
@@ -117,28 +118,28 @@ ReportFits (reports.Refused k) = RefusalFits k
 
 -- ---- what each call promises: the packed answer of the book's own call, and every lent list as that call leaves it
 
-pub record BookPacked (o : Out) (r : ℕ) (xs ys sums : List Float) : Type 0 where
+pub record BookPacked (o : Out) (r : ℕ) (columns : Columns) (sums : List Float) : Type 0 where
   pub answer : r ≡ packedBook (o .answer)
-  pub lent : Is o (o .answer) xs ys sums
+  pub lent : Is o (o .answer) columns sums
 
 -- s and c: scratch and the coefficients
 pub record FitPacked (o : FitOut) (r : ℕ) (s c : Slice Float) : Type 0 where
   pub answer : r ≡ packedFit (o .answer)
-  pub lent : FitIs o (o .answer) (before s) (after s) (before c) (after c)
+  pub lent : FitIs o (o .answer) (contents s) (contents c)
 
 -- s and v: scratch, and the lent places for the band's three numbers
 pub record BandPacked (o : BandOut) (r : ℕ) (s v : Slice Float) : Type 0 where
   pub answer : r ≡ packedBand (o .answer)
-  pub lent : BandIs o (o .answer) (before s) (after s)
+  pub lent : BandIs o (o .answer) (contents s)
   pub numbers : after v ≡ over (bandNumbers (o .answer)) (before v)
 
 pub record ReportPacked (o : ReportOut) (r : ℕ) (w : LentOutputs) : Type 0 where
   pub answer : r ≡ packedReport (o .answer)
   pub lent : Does o (o .answer) w
 
--- of a report of the columns xs and ys and these sums
-abbrev pub ReportPackedIs : ℕ → Settings → List Float → List Float → List Float → ℕ → LentOutputs → Type 0
-ReportPackedIs n settings xs ys sums r w = ReportPacked (reportOut n settings xs ys sums (placesOf (w .found))) r w
+-- of a report of these columns and sums
+abbrev pub ReportPackedIs : ℕ → Settings → Columns → List Float → ℕ → LentOutputs → Type 0
+ReportPackedIs n settings columns sums r w = ReportPacked (reportOut n settings columns sums (placesOf (w .found))) r w
 
 -- v: the lent places for x and y
 pub record ReadPacked (a : Read) (r : ℕ) (v : Slice Float) : Type 0 where

@@ -17,7 +17,7 @@ use Rattle.score.specs.declared.Criterion.{Criterion}
 use Rattle.book.specs.declared.Answer.{Answer}
 use Rattle.book.specs.declared.Answer.the-variants as books
 use Rattle.book.specs.Calls.{openOut, addOut, correctOut, withdrawOut, addFrameOut}
-use Rattle.samples.specs.Columns.{columnsOf, ofX, value}
+use Rattle.samples.specs.Columns.{ofX, value, Columns}
 use Rattle.frame.specs.Frame.{frameRefusal}
 use Rattle.frame.specs.Handed.{nextOf, openedBy, openedOf}
 use Rattle.frame.specs.HandedLaws.{next-whole, next-end}
@@ -113,35 +113,35 @@ report-read (reports.Refused k) h = refusal-read k
 pub open-back : (sums : List Float) → BookRead (packedBook (openOut sums .answer)) (openOut sums .answer)
 open-back sums = book-read _ (open-fits sums)
 
-module _ (n : ℕ) (xs ys sums : List Float) where
-  pub add-back : (p : Sample) → BookRead (packedBook (addOut n p (columnsOf xs ys) sums .answer)) (addOut n p (columnsOf xs ys) sums .answer)
-  add-back p = book-read _ (add-fits n xs ys sums p)
+module _ (n : ℕ) (columns : Columns) (sums : List Float) where
+  pub add-back : (p : Sample) → BookRead (packedBook (addOut n p columns sums .answer)) (addOut n p columns sums .answer)
+  add-back p = book-read _ (add-fits n columns sums p)
 
-  pub correct-back : (i : ℕ) (y : Float) → BookRead (packedBook (correctOut n i y (columnsOf xs ys) sums .answer)) (correctOut n i y (columnsOf xs ys) sums .answer)
-  correct-back i y = book-read _ (correct-fits n xs ys sums i y)
+  pub correct-back : (i : ℕ) (y : Float) → BookRead (packedBook (correctOut n i y columns sums .answer)) (correctOut n i y columns sums .answer)
+  correct-back i y = book-read _ (correct-fits n columns sums i y)
 
-  pub withdraw-back : (i : ℕ) → BookRead (packedBook (withdrawOut n i (columnsOf xs ys) sums .answer)) (withdrawOut n i (columnsOf xs ys) sums .answer)
-  withdraw-back i = book-read _ (withdraw-fits n xs ys sums i)
+  pub withdraw-back : (i : ℕ) → BookRead (packedBook (withdrawOut n i columns sums .answer)) (withdrawOut n i columns sums .answer)
+  withdraw-back i = book-read _ (withdraw-fits n columns sums i)
 
-  pub frame-back : (f : List ℕ) → BookRead (packedBook (addFrameOut n f (columnsOf xs ys) sums .answer)) (addFrameOut n f (columnsOf xs ys) sums .answer)
-  frame-back f = book-read _ (frame-fits n xs ys sums f)
+  pub frame-back : (f : List ℕ) → BookRead (packedBook (addFrameOut n f columns sums .answer)) (addFrameOut n f columns sums .answer)
+  frame-back f = book-read _ (frame-fits n columns sums f)
 
   module _ (scratch coefficients : List Float) where
-    pub fit-back : (degree : ℕ) → (let a = fitOut n xs ys sums scratch coefficients degree .answer in FitRead (packedFit a) a)
-    fit-back degree = fit-read _ (fit-fits n xs ys sums scratch coefficients degree)
+    pub fit-back : (degree : ℕ) → (let a = fitOut n columns sums scratch coefficients degree .answer in FitRead (packedFit a) a)
+    fit-back degree = fit-read _ (fit-fits n columns sums scratch coefficients degree)
 
     pub validate-back : (folds : ℕ) (bound : DegreeBound) (criterion : Criterion)
-        → (let a = validateOut n xs ys sums scratch coefficients folds bound criterion .answer in FitRead (packedFit a) a)
-    validate-back folds bound criterion = fit-read _ (validate-fits n xs ys sums scratch coefficients folds bound criterion)
+        → (let a = validateOut n columns sums scratch coefficients folds bound criterion .answer in FitRead (packedFit a) a)
+    validate-back folds bound criterion = fit-read _ (validate-fits n columns sums scratch coefficients folds bound criterion)
 
   pub band-back : (x : Float) (degree : ℕ) (confidence : Confidence) (tolerance : Tolerance) (scratch : List Float) (places : ℕ)
-      → (let a = bandInto places (bandOut n x degree confidence tolerance xs ys sums scratch) .answer in BandRead (packedBand a) a)
+      → (let a = bandInto places (bandOut n x degree confidence tolerance columns sums scratch) .answer in BandRead (packedBand a) a)
   band-back x degree confidence tolerance scratch places =
-      band-read _ (band-fits n x degree confidence tolerance xs ys sums scratch places)
+      band-read _ (band-fits n x degree confidence tolerance columns sums scratch places)
 
   pub report-back : (settings : Settings) (places : Places)
-      → (let a = reportOut n settings xs ys sums places .answer in ReportRead (packedReport a) a)
-  report-back settings places = report-read _ (report-fits n settings xs ys sums places)
+      → (let a = reportOut n settings columns sums places .answer in ReportRead (packedReport a) a)
+  report-back settings places = report-read _ (report-fits n settings columns sums places)
 
 -- ---- the reader. No memory has 2 ^ 56 places
 
@@ -165,23 +165,23 @@ next-back f at h = by-test (leb (at + 16) (length f)) refl
 
 -- ---- a replay that was run: its answer is not the one of buffers that hold no list of calls
 
-pub replay-back : {cs : List (Call ReadCall)} {width r : ℕ} {m m′ : Memory} → Ran cs width r m m′ → length (m .xs) < 0x100_0000_0000_0000
+pub replay-back : {cs : List (Call ReadCall)} {width r : ℕ} {m m′ : Memory} → Ran cs width r m m′ → length (m .columns ofX) < 0x100_0000_0000_0000
     → (numberIn r ≡ 0) × (countIn r ≡ r)
 replay-back {cs} {width} {r} {m} ran h = (div-eq-of-lt (omega (arith, below)), mod-eq-of-lt (omega (arith, below)))
   where
     n : ℕ
-    n = final (opened (m .xs) (m .ys) (m .sums)) cs .count
+    n = final (opened (m .columns) (m .sums)) cs .count
 
     column : List Float
-    column = final (opened (m .xs) (m .ys) (m .sums)) cs .columns ofX
+    column = final (opened (m .columns) (m .sums)) cs .columns ofX
 
     l : List Sample
-    l = ledgerEnd (lentOf (m .xs) (m .ys) (m .sums)) [] cs
+    l = ledgerEnd (lentOf (m .columns) (m .sums)) [] cs
 
     -- the book is the length of a part of the lent column
-    below : r ≤ length (m .xs)
+    below : r ≤ length (m .columns ofX)
     below =
         let a = ran .whole .agrees in
-        let lent : length column ≡ length (m .xs) = ap (λ (k : Lent). getD (k .columns) 0 0) (a .lent) in
+        let lent : length column ≡ length (m .columns ofX) = ap (λ (k : Lent). getD (k .columns) 0 0) (a .lent) in
         let part : length (take n column) ≡ length l = ap length (a .below ofX) ∙ length-map l (value ofX) in
         omega (arith, ran .book, lent, part, length-take n column)

@@ -14,8 +14,8 @@ ghost use Prim.Native.Nat.{_≤_};
 ghost use lib.ListN.{length};
 ghost use Rattle.basis.specs.Sizes.{highestDegree, maxSamples, maxTerms};
 ghost use Rattle.book.specs.Calls.{openOut, addOut, correctOut, withdrawOut, addFrameOut};
-ghost use Rattle.samples.specs.Columns.{columnsOf};
-ghost use Rattle.lent.specs.Slices.{before};
+ghost use Rattle.samples.specs.Columns.{columnsOf, noColumns};
+ghost use Rattle.lent.specs.Slices.{before, after};
 ghost use Rattle.lent.specs.Written.{over};
 ghost use Rattle.frame.specs.Handed.{openedOf, nextOf};
 ghost use Rattle.query.specs.Fits.{fitOut, validateOut};
@@ -53,7 +53,7 @@ fn packed_report(answer: ReportAnswer) -> u64
 // A band: 0, and its value, lower and upper are written.
 fn packed_band(answer: BandAnswer, numbers: &mut [f64]) -> u64
     requires { ⌜ 3 ≤ length (now numbers) ⌝ }
-    ensures { λ r. ⌜ (r ≡ packedBand answer) × (now (numbers .exit) ≡ over (bandNumbers answer) (now (numbers .entry))) ⌝ }
+    ensures { λ r. ⌜ (r ≡ packedBand answer) × (after numbers ≡ over (bandNumbers answer) (before numbers)) ⌝ }
 {
     match answer {
         BandAnswer::Band(b) => {
@@ -69,7 +69,7 @@ fn packed_band(answer: BandAnswer, numbers: &mut [f64]) -> u64
 // What a reader finds: the offset behind the sample, whose x and y are written; 0, which is behind no sample, at the end.
 fn packed_read(answer: Read, numbers: &mut [f64]) -> u64
     requires { ⌜ 2 ≤ length (now numbers) ⌝ }
-    ensures { λ r. ⌜ (r ≡ packedRead answer) × (now (numbers .exit) ≡ over (readNumbers answer) (now (numbers .entry))) ⌝ }
+    ensures { λ r. ⌜ (r ≡ packedRead answer) × (after numbers ≡ over (readNumbers answer) (before numbers)) ⌝ }
 {
     match answer {
         Read::Sample(x, y, c) => {
@@ -84,7 +84,7 @@ fn packed_read(answer: Read, numbers: &mut [f64]) -> u64
 // An empty book: the sums become those of no sample.
 #[no_mangle]
 pub extern "C" fn stakebook_open(sums: &mut [f64]) -> u64
-    ensures { λ r. ⌜ BookPacked (openOut (now (sums .entry))) r [] [] (now (sums .exit)) ⌝ }
+    ensures { λ r. ⌜ BookPacked (openOut (before sums)) r noColumns (after sums) ⌝ }
 {
     packed::book(book::open(sums))
 }
@@ -99,7 +99,7 @@ pub extern "C" fn stakebook_add(
     ys: &mut [f64],
     sums: &mut [f64],
 ) -> u64
-    ensures { λ r. ⌜ BookPacked (addOut count (record { x = x; y = y }) (columnsOf (now (xs .entry)) (now (ys .entry))) (now (sums .entry))) r (now (xs .exit)) (now (ys .exit)) (now (sums .exit)) ⌝ }
+    ensures { λ r. ⌜ BookPacked (addOut count (record { x = x; y = y }) (columnsOf (before xs) (before ys)) (before sums)) r (columnsOf (after xs) (after ys)) (after sums) ⌝ }
 {
     packed::book(book::add(Book { count }, x, y, xs, ys, sums))
 }
@@ -114,7 +114,7 @@ pub extern "C" fn stakebook_correct(
     ys: &mut [f64],
     sums: &mut [f64],
 ) -> u64
-    ensures { λ r. ⌜ BookPacked (correctOut count i y (columnsOf (now (xs .entry)) (now (ys .entry))) (now (sums .entry))) r (now (xs .entry)) (now (ys .exit)) (now (sums .exit)) ⌝ }
+    ensures { λ r. ⌜ BookPacked (correctOut count i y (columnsOf (before xs) (before ys)) (before sums)) r (columnsOf (before xs) (after ys)) (after sums) ⌝ }
 {
     packed::book(book::correct(Book { count }, i, y, xs, ys, sums))
 }
@@ -128,7 +128,7 @@ pub extern "C" fn stakebook_withdraw(
     ys: &mut [f64],
     sums: &mut [f64],
 ) -> u64
-    ensures { λ r. ⌜ BookPacked (withdrawOut count i (columnsOf (now (xs .entry)) (now (ys .entry))) (now (sums .entry))) r (now (xs .exit)) (now (ys .exit)) (now (sums .exit)) ⌝ }
+    ensures { λ r. ⌜ BookPacked (withdrawOut count i (columnsOf (before xs) (before ys)) (before sums)) r (columnsOf (after xs) (after ys)) (after sums) ⌝ }
 {
     packed::book(book::withdraw(Book { count }, i, xs, ys, sums))
 }
@@ -142,7 +142,7 @@ pub extern "C" fn stakebook_add_frame(
     ys: &mut [f64],
     sums: &mut [f64],
 ) -> u64
-    ensures { λ r. ⌜ BookPacked (addFrameOut count (now (frame .entry)) (columnsOf (now (xs .entry)) (now (ys .entry))) (now (sums .entry))) r (now (xs .exit)) (now (ys .exit)) (now (sums .exit)) ⌝ }
+    ensures { λ r. ⌜ BookPacked (addFrameOut count (before frame) (columnsOf (before xs) (before ys)) (before sums)) r (columnsOf (after xs) (after ys)) (after sums) ⌝ }
 {
     packed::book(book::add_frame(Book { count }, frame, xs, ys, sums))
 }
@@ -158,7 +158,7 @@ pub extern "C" fn stakebook_fit(
     scratch: &mut [f64],
     coefficients: &mut [f64],
 ) -> u64
-    ensures { λ r. ⌜ FitPacked (fitOut count (before xs) (before ys) (before sums) (before scratch) (before coefficients) degree) r scratch coefficients ⌝ }
+    ensures { λ r. ⌜ FitPacked (fitOut count (columnsOf (before xs) (before ys)) (before sums) (before scratch) (before coefficients) degree) r scratch coefficients ⌝ }
 {
     packed::fit(query::fit(
         Book { count },
@@ -185,7 +185,7 @@ pub extern "C" fn stakebook_validate(
     scratch: &mut [f64],
     coefficients: &mut [f64],
 ) -> u64
-    ensures { λ r. ⌜ FitPacked (validateOut count (before xs) (before ys) (before sums) (before scratch) (before coefficients) folds (boundOf bound most) (criterionOf criterion)) r scratch coefficients ⌝ }
+    ensures { λ r. ⌜ FitPacked (validateOut count (columnsOf (before xs) (before ys)) (before sums) (before scratch) (before coefficients) folds (boundOf bound most) (criterionOf criterion)) r scratch coefficients ⌝ }
 {
     let by = settings::bound(bound, most);
     let scored = settings::criterion(criterion);
@@ -218,7 +218,7 @@ pub extern "C" fn stakebook_band(
     scratch: &mut [f64],
     numbers: &mut [f64],
 ) -> u64
-    ensures { λ r. ⌜ BandPacked (bandInto (length (before numbers)) (bandOut count x degree (confidenceOf confidence score) (toleranceOf tolerance value) (before xs) (before ys) (before sums) (before scratch))) r scratch numbers ⌝ }
+    ensures { λ r. ⌜ BandPacked (bandInto (length (before numbers)) (bandOut count x degree (confidenceOf confidence score) (toleranceOf tolerance value) (columnsOf (before xs) (before ys)) (before sums) (before scratch))) r scratch numbers ⌝ }
 {
     if numbers.len() < 3 {
         return packed::refused(1);
@@ -261,7 +261,7 @@ pub extern "C" fn stakebook_report(
     upper: &mut [f64],
     outliers: &mut [u8],
 ) -> u64
-    ensures { λ r. ⌜ ReportPackedIs count (settingsOf bound most criterion confidence score tolerance value) (before xs) (before ys) (before sums) r (outputs scratch coefficients errors pruned lower upper outliers) ⌝ }
+    ensures { λ r. ⌜ ReportPackedIs count (settingsOf bound most criterion confidence score tolerance value) (columnsOf (before xs) (before ys)) (before sums) r (outputs scratch coefficients errors pruned lower upper outliers) ⌝ }
 {
     let settings = settings::numbered(bound, most, criterion, confidence, score, tolerance, value);
     packed_report(report::report(

@@ -23,9 +23,9 @@ ledger-words m l settings places h = words-of settings l (ledgerReport m l setti
 
 pub whole-book : AnyList
 unfolding ledgerReply readOn
-whole-book xs ys sums h cs =
-    let m = lentOf xs ys sums in
-    let w = whole-list readOn xs ys sums h cs in
+whole-book columns sums h cs =
+    let m = lentOf columns sums in
+    let w = whole-list readOn columns sums h cs in
     record {
       agrees = w;
       each-report = λ before settings places after e.

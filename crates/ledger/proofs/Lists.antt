@@ -9,7 +9,8 @@ use lib.ListN.{length, getD, set, take, drop, length-append, length-drop}
 use lib.Seq.{take-suc-set, take-take, take-at, drop-at, drop-drop, getD-drop, paste, length-paste, take-nil, take-paste, drop-paste, length-take-le}
 use lib.Ieee.{Float, nan}
 use Rattle.loops.specs.Places.{table}
-use Rattle.samples.specs.Samples.{Sample, samplesOf, xsOf, ysOf}
+use Rattle.samples.specs.Samples.{Sample, xsOf, ysOf}
+use Rattle.samples.specs.Columns.{samplesOf, columnsOf, Columns, Column, ofX, ofY, value}
 use Rattle.monomial.specs.Rows.{rowOf, rowsOf}
 use Rattle.monomial.specs.Sums.{addRow, sumsOf}
 use Rattle.monomial.specs.SumLaws.{length-sums, add-row-append, sums-again, corrected, terms-same, rows-again}
@@ -94,8 +95,8 @@ module _ (i n : ℕ) (c : List Float) (h : i < n) (k : n ≤ length c) where
       ∙ drop-paste c i (drop (i + 1) c) m (omega arith) (rw length-drop (omega arith))
       ∙ ap (λ j. drop j c) (sym e)
 
--- the samples that two columns hold
-holding : (l : List Sample) (a b : List Float) → take (length l) a ≡ xsOf l → take (length l) b ≡ ysOf l → samplesOf (length l) a b ≡ l
+-- the samples that columns hold
+holding : (l : List Sample) (a b : List Float) → take (length l) a ≡ xsOf l → take (length l) b ≡ ysOf l → samplesOf (length l) (columnsOf a b) ≡ l
 unfolding samplesOf table
 holding [] a b e f = refl
 holding (p ∷ l) [] b e f = absurd (omega (arith, ap length e))
@@ -105,8 +106,9 @@ holding (p ∷ l) (u ∷ a) (v ∷ b) e f =
     let y : v ≡ p .y = ap (λ r. getD r 0 nan) f in
     ap₂ (λ q r. q ∷ r) (λ i. record { x = x i; y = y i }) (holding l a b (ap (drop 1) e) (ap (drop 1) f))
 
-pub samples-are : (l : List Sample) (n : ℕ) (a b : List Float) → n ≡ length l → take n a ≡ xsOf l → take n b ≡ ysOf l → samplesOf n a b ≡ l
-samples-are l n a b q e f = rw q (holding l a b (rw q at e) (rw q at f))
+pub samples-are : (l : List Sample) (n : ℕ) (c : Columns) → n ≡ length l → ((k : Column) → take n (c k) ≡ map (value k) l) → samplesOf n c ≡ l
+unfolding samplesOf
+samples-are l n c q e = rw q (holding l (c ofX) (c ofY) (rw q at (e ofX)) (rw q at (e ofY)))
 
 -- ---- the sums u: those of the ledger l, then the places past the 272, which hold rest
 

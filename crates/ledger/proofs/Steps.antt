@@ -23,7 +23,7 @@ use Rattle.refusal.specs.Refusals.{firstOf, settle}
 use Rattle.refusal.specs.Laws.{first-none}
 use Rattle.refusal.specs.Rooms.{Room, room, room-of, long-enough}
 use Rattle.refusal.specs.Tests.{capacity, sampleFinite}
-use Rattle.samples.specs.Columns.{lengths, Column, ofX, ofY, value, samplesAt, withY}
+use Rattle.samples.specs.Columns.{lengths, Column, ofX, ofY, value, samplesOf, withY}
 use Rattle.book.specs.Calls.{Out, State, stateAfter, bookOf, bookAnswered, refused, addOut, correctOut, withdrawOut, withoutAt, addNext, addMany, addFrameOut}
 use Rattle.book.specs.Many.{added, RoomFor}
 use Rattle.book.specs.ManyLaws.{room-one, room-rest, one-added, many-added, added-is}
@@ -37,13 +37,13 @@ use Rattle.ledger.proofs.Lists.{length-new, new-x, new-y, length-less, 
 abbrev correctedState : State → ℕ → Float → State
 correctedState s i y =
     let c = withY i y (s .columns) in
-    record { count = s .count; columns = c; sums = take 256 (s .sums) ++ (drop 256 (sumsOf (rowsOf (samplesAt (s .count) c))) ++ drop 272 (s .sums)) }
+    record { count = s .count; columns = c; sums = take 256 (s .sums) ++ (drop 256 (sumsOf (rowsOf (samplesOf (s .count) c))) ++ drop 272 (s .sums)) }
 
 -- sample i goes
 abbrev withdrawnState : State → ℕ → State
 withdrawnState s i =
     let c : Column → List Float = λ k. withoutAt i (s .count) (s .columns k) in
-    record { count = s .count - 1; columns = c; sums = sumsOf (rowsOf (samplesAt (s .count - 1) c)) ++ drop 272 (s .sums) }
+    record { count = s .count - 1; columns = c; sums = sumsOf (rowsOf (samplesOf (s .count - 1) c)) ++ drop 272 (s .sums) }
 
 abbrev done : State → Change → State
 done s (adds p) = added s p
@@ -67,8 +67,8 @@ out-is s (windows p) = refl
 same-lent : (s t : State) → ((k : Column) → length (t .columns k) ≡ length (s .columns k)) → length (t .sums) ≡ length (s .sums) → lentBy t ≡ lentBy s
 same-lent s t e q = λ i. record { columns = e ofX i ∷ e ofY i ∷ []; sums = q i }
 
-pub held-by : (l : List Sample) (s : State) → s .count ≡ length l → ((k : Column) → take (s .count) (s .columns k) ≡ map (value k) l) → samplesAt (s .count) (s .columns) ≡ l
-held-by l s q e = samples-are l (s .count) (s .columns ofX) (s .columns ofY) q (e ofX) (e ofY)
+pub held-by : (l : List Sample) (s : State) → s .count ≡ length l → ((k : Column) → take (s .count) (s .columns k) ≡ map (value k) l) → samplesOf (s .count) (s .columns) ≡ l
+held-by l s q e = samples-are l (s .count) (s .columns) q e
 
 -- a count within capacity has room in every column
 roomy : (s : State) (n : ℕ) → n ≤ capacity (lentBy s .columns) → 272 ≤ length (s .sums) → Room n (lengths (s .columns)) (sumsLent (length (s .sums)))

@@ -14,7 +14,7 @@ use Rattle.book.specs.declared.Answer.the-variants as answers
 use Rattle.book.specs.Refusals.{openRefusal}
 use Rattle.book.specs.RefusalLaws.{open-room}
 use Rattle.book.specs.Calls.{State, stateOf, bookOf, openOut}
-use Rattle.samples.specs.Columns.{Column, ofX, ofY, value, columnsOf}
+use Rattle.samples.specs.Columns.{Column, ofX, ofY, value, Columns, lengths}
 use Rattle.ledger.specs.Ledger.{Call, changes, reads, said, told, Reading, Lent, lentOf, next, reply, program, final, programReplies, opened, ledgerNext, ledgerReply, ledger, ledgerEnd, ledgerReplies, seen, held, Agrees, WholeList}
 use Rattle.ledger.proofs.Lists.{seen-is, seen-kept, sums-first, sums-rest}
 use Rattle.ledger.proofs.Steps.{Holds, Leaves, leaves-all, held-by, step}
@@ -63,39 +63,39 @@ not-refused sums (suc k) e h =
     let z : _≡_ {A = ℕ} 0 1 = cc in
     absurd (omega arith)
 
-abbrev emptyState : List Float → List Float → List Float → State
-emptyState xs ys sums = stateOf 0 xs ys (sumsOf [] ++ drop 272 sums)
+abbrev emptyState : Columns → List Float → State
+emptyState columns sums = stateOf 0 columns (sumsOf [] ++ drop 272 sums)
 
-opened-is : (xs ys sums : List Float) → openRefusal (length sums) ≡ 0 → emptyState xs ys sums ≡ opened xs ys sums
+opened-is : (columns : Columns) (sums : List Float) → openRefusal (length sums) ≡ 0 → emptyState columns sums ≡ opened columns sums
 unfolding openOut
-opened-is xs ys sums e = rw e
+opened-is columns sums e = rw e
 
-opened-holds : (xs ys sums : List Float) → 272 ≤ length sums → Holds (lentOf xs ys sums) (drop 272 sums) [] (emptyState xs ys sums)
-opened-holds xs ys sums h =
+opened-holds : (columns : Columns) (sums : List Float) → 272 ≤ length sums → Holds (lentOf columns sums) (drop 272 sums) [] (emptyState columns sums)
+opened-holds columns sums h =
     let t : length (sumsOf [] ++ drop 272 sums) ≡ length sums =
     length-append (sumsOf []) (drop 272 sums) ∙ omega (arith, length-drop 272 sums, length-sums []) in
     record {
       count = refl;
-      lent = λ i. record { columns = length xs ∷ length ys ∷ []; sums = t i };
+      lent = λ i. record { columns = lengths columns; sums = t i };
       room = omega arith;
       long = rw t h;
       below = none;
       sums = refl;
     }
   where
-    none : (k : Column) → take 0 (columnsOf xs ys k) ≡ map (value k) []
+    none : (k : Column) → take 0 (columns k) ≡ map (value k) []
     none ofX = refl
     none ofY = refl
 
 pub whole-list : {R W : Type 0} (readOn : Reading R W) → WholeList readOn
-whole-list readOn xs ys sums h cs =
+whole-list readOn columns sums h cs =
     let e = not-refused sums (openRefusal (length sums)) refl h in
-    let m = lentOf xs ys sums in
+    let m = lentOf columns sums in
     let rest = drop 272 sums in
-    let s = emptyState xs ys sums in
-    let g = opened-holds xs ys sums (open-room (length sums) e) in
+    let s = emptyState columns sums in
+    let g = opened-holds columns sums (open-room (length sums) e) in
     let w = whole-from readOn m rest s [] g cs in
-    subst (λ (t : State). Agrees readOn xs ys sums t [] cs) (opened-is xs ys sums e)
+    subst (λ (t : State). Agrees readOn columns sums t [] cs) (opened-is columns sums e)
     (record {
       answered = w .0;
       book = w .1 .count;

@@ -19,7 +19,7 @@ use Rattle.book.specs.declared.Answer.the-variants as answers
 use Rattle.book.specs.Refusals.{addRefusal, correctRefusal, withdrawRefusal, frameAddRefusal}
 use Rattle.refusal.specs.Tests.{capacity}
 use Rattle.book.specs.Calls.{Out, State, stateOf, stateAfter, bookOf, bookAfter, openOut, addOut, correctOut, withdrawOut, addFrameOut}
-use Rattle.samples.specs.Columns.{Column, value, lengths, columnsOf, samplesAt}
+use Rattle.samples.specs.Columns.{Column, value, lengths, samplesOf, Columns}
 use Rattle.refusal.specs.Refusals.{settle}
 use Rattle.book.specs.Window.{windowRefusal, windowOut}
 
@@ -56,8 +56,8 @@ pub record Lent : Type 0 where
 abbrev pub lentBy : State → Lent
 lentBy s = record { columns = lengths (s .columns); sums = length (s .sums) }
 
-abbrev pub lentOf : List Float → List Float → List Float → Lent
-lentOf xs ys sums = lentBy (stateOf 0 xs ys sums)
+abbrev pub lentOf : Columns → List Float → Lent
+lentOf columns sums = lentBy (stateOf 0 columns sums)
 
 -- ---- the program: each call gets the book last returned, and the columns and sums as the call before left them
 
@@ -76,7 +76,7 @@ next s (reads q) = s
 unfoldable pub reply : {R W : Type 0} → Reading R W → State → Call R → Reply W
 reply readOn s (changes c) = said (outOf s c .answer)
 reply readOn s (reads q) =
-    told (readOn q (s .count) (samplesAt (s .count) (s .columns)) (take sumPlaces (s .sums)) (lengths (s .columns)) (length (s .sums)))
+    told (readOn q (s .count) (samplesOf (s .count) (s .columns)) (take sumPlaces (s .sums)) (lengths (s .columns)) (length (s .sums)))
 
 abbrev pub program : {R W : Type 0} → Reading R W → Machine State (Call R) (Reply W)
 program readOn = record { step = next; reply = reply readOn }
@@ -88,8 +88,8 @@ abbrev pub programReplies : {R W : Type 0} → Reading R W → State → List (C
 programReplies readOn s cs = repliesOf (program readOn) s cs
 
 -- a book just opened, over columns that hold anything
-abbrev pub opened : List Float → List Float → List Float → State
-opened xs ys sums = record { count = bookAfter 0 (openOut sums .answer); columns = columnsOf xs ys; sums = openOut sums .sums }
+abbrev pub opened : Columns → List Float → State
+opened columns sums = record { count = bookAfter 0 (openOut sums .answer); columns = columns; sums = openOut sums .sums }
 
 -- ---- the plain ledger: a list of samples, fed the calls' arguments and the lengths of the lent memory
 
@@ -150,25 +150,25 @@ abbrev pub held : {R : Type 0} → (Sample → Float) → Float → Lent → Lis
 held f v m l cs p = fold (λ u k. seen u (map f k) p) v (history (ledgerNext m) l cs)
 
 -- ---- the claim, about the whole list of calls cs: the program from the state s and the ledger from the list l agree, where the lent memory held
--- xs₀, ys₀ and sums₀ at opening
+-- columns₀ and sums₀ at opening
 
-pub record Agrees {R W : Type 0} (readOn : Reading R W) (xs₀ ys₀ sums₀ : List Float) (s : State) (l : List Sample) (cs : List (Call R)) : Type 0 where
+pub record Agrees {R W : Type 0} (readOn : Reading R W) (columns₀ : Columns) (sums₀ : List Float) (s : State) (l : List Sample) (cs : List (Call R)) : Type 0 where
   -- Each call's answer, and each place that a report writes, is the ledger's.
-  pub answered : programReplies readOn s cs ≡ ledgerReplies readOn (lentOf xs₀ ys₀ sums₀) l cs
+  pub answered : programReplies readOn s cs ≡ ledgerReplies readOn (lentOf columns₀ sums₀) l cs
   -- After the list, the book is the ledger's length,
-  pub book : final s cs .count ≡ length (ledgerEnd (lentOf xs₀ ys₀ sums₀) l cs)
+  pub book : final s cs .count ≡ length (ledgerEnd (lentOf columns₀ sums₀) l cs)
   -- the column places below it hold the ledger's samples,
-  pub below : (k : Column) → take (final s cs .count) (final s cs .columns k) ≡ map (value k) (ledgerEnd (lentOf xs₀ ys₀ sums₀) l cs)
+  pub below : (k : Column) → take (final s cs .count) (final s cs .columns k) ≡ map (value k) (ledgerEnd (lentOf columns₀ sums₀) l cs)
   -- and the 272 sums are the ledger's, bit for bit, NaNs as one value.
-  pub sums : take sumPlaces (final s cs .sums) ≡ sumsOf (rowsOf (ledgerEnd (lentOf xs₀ ys₀ sums₀) l cs))
+  pub sums : take sumPlaces (final s cs .sums) ≡ sumsOf (rowsOf (ledgerEnd (lentOf columns₀ sums₀) l cs))
   -- A column place at or past the count keeps what it held when it was last below the count, or else what it held at opening.
-  pub places : (k : Column) (p : ℕ) → getD (final s cs .columns k) p nan ≡ held (value k) (getD (s .columns k) p nan) (lentOf xs₀ ys₀ sums₀) l cs p
+  pub places : (k : Column) (p : ℕ) → getD (final s cs .columns k) p nan ≡ held (value k) (getD (s .columns k) p nan) (lentOf columns₀ sums₀) l cs p
   -- Places past the 272 are not the book's: they are left as they were.
   pub past : drop sumPlaces (final s cs .sums) ≡ drop sumPlaces sums₀
   -- The columns and the sums are the same lent memory in every call.
-  pub lent : lentBy (final s cs) ≡ lentOf xs₀ ys₀ sums₀
+  pub lent : lentBy (final s cs) ≡ lentOf columns₀ sums₀
 
 -- Take any list of calls, refused ones included, in any order, from a book just opened, whatever the columns held at opening.
 abbrev pub WholeList : {R W : Type 0} → Reading R W → Type 0
 WholeList {R} readOn =
-    (xs ys sums : List Float) → openOut sums .answer ≡ bookOf 0 → (cs : List (Call R)) → Agrees readOn xs ys sums (opened xs ys sums) [] cs
+    (columns : Columns) (sums : List Float) → openOut sums .answer ≡ bookOf 0 → (cs : List (Call R)) → Agrees readOn columns sums (opened columns sums) [] cs

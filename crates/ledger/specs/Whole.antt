@@ -15,6 +15,7 @@ use Rattle.report.specs.Reports.{ReportOut, reportOn}
 use Rattle.ledger.specs.Ledger.{Call, reads, Reply, told, Lent, lentOf, programReplies, opened, ledgerEnd, ledgerReplies, Agrees}
 use Rattle.ledger.specs.ReadCalls.{ReadCall, Told, reports, reportReply, readOn}
 use Rattle.ledger.specs.Words.{Words}
+use Rattle.samples.specs.Columns.{Columns}
 
 -- a report of the plain ledger
 abbrev pub ledgerReport : Lent → List Sample → Settings → Places → ReportOut
@@ -29,16 +30,16 @@ pub record ReportedIn (m : Lent) (before : List (Call ReadCall)) (settings : Set
   pub words : reportRefusal (length (ledgerEnd m [] before)) settings (ledgerEnd m [] before) (m .columns) (m .sums) places ≡ 0
       → Words settings (ledgerEnd m [] before) (ledgerReport m (ledgerEnd m [] before) settings places)
 
--- the claim about the list of calls cs, where the lent memory held xs, ys and sums at opening
-pub record WholeBook (xs ys sums : List Float) (cs : List (Call ReadCall)) : Type 0 where
+-- the claim about the list of calls cs, where the lent memory held these columns and sums at opening
+pub record WholeBook (columns : Columns) (sums : List Float) (cs : List (Call ReadCall)) : Type 0 where
   -- answers call by call, every value that a call writes, the book, the columns below the count and past it, the sums and the places past 272
-  pub agrees : Agrees readOn xs ys sums (opened xs ys sums) [] cs
+  pub agrees : Agrees readOn columns sums (opened columns sums) [] cs
   -- each report in it
   pub each-report : (before : List (Call ReadCall)) (settings : Settings) (places : Places) (after : List (Call ReadCall))
       → cs ≡ before ++ (reads (reports settings places) ∷ after)
-      → ReportedIn (lentOf xs ys sums) before settings places (programReplies readOn (opened xs ys sums) cs)
+      → ReportedIn (lentOf columns sums) before settings places (programReplies readOn (opened columns sums) cs)
 
 -- Take any list of adds, a window's adds, corrections, withdrawals, frames, fits, validations, bands and reports, refused ones included, in any order, from a book just
 -- opened.
 abbrev pub AnyList : Type 0
-AnyList = (xs ys sums : List Float) → openOut sums .answer ≡ bookOf 0 → (cs : List (Call ReadCall)) → WholeBook xs ys sums cs
+AnyList = (columns : Columns) (sums : List Float) → openOut sums .answer ≡ bookOf 0 → (cs : List (Call ReadCall)) → WholeBook columns sums cs

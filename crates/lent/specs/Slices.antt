@@ -15,3 +15,14 @@ before s = s .entry .now
 
 abbrev pub after : {A : Type 0} → Slice A → List A
 after s = s .exit .now
+
+-- what a lent slice holds, as the call finds it and as it leaves it
+pub record Contents (A : Type 0) : Type 0 where
+  pub found : List A
+  pub left : List A
+
+abbrev pub contentsOf : {A : Type 0} → List A → List A → Contents A
+contentsOf found left = record { found = found; left = left }
+
+abbrev pub contents : {A : Type 0} → Slice A → Contents A
+contents s = contentsOf (before s) (after s)

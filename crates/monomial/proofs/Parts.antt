@@ -10,8 +10,8 @@ use Rattle.loops.specs.FoldLaws.{fold-snoc}
 use Rattle.loops.specs.Places.{each}
 use Rattle.loops.specs.PlaceLaws.{each-again, each-same, each-rest, each-split, tail-through}
 use Rattle.value.specs.Numbers.{zeroF}
-use Rattle.samples.specs.Samples.{sampleAt, samplesOf}
-use Rattle.samples.specs.SampleLaws.{samples-again}
+use Rattle.samples.specs.Columns.{Columns, sampleAt, samplesOf}
+use Rattle.samples.specs.ColumnLaws.{samples-again}
 use Rattle.monomial.specs.Rows.{Row, rowOf, rowsOf}
 use Rattle.monomial.specs.Sums.{productOf, addRow}
 use Rattle.monomial.specs.SumLaws.{product-matrix, product-no-y, rows-again}
@@ -46,7 +46,7 @@ add-parts s m r h e =
     (λ k v q. ap (add binary64 v) (product-no-y (r .terms) (r .y) k q))))))
 
 -- one sample more, for any way to add a row
-pub fold-rows-again : (f : List Float → Row → List Float) (s : List Float) (t : ℕ) (xs ys : List Float)
-    → fold f s (rowsOf (samplesOf (t + 1) xs ys)) ≡ f (fold f s (rowsOf (samplesOf t xs ys))) (rowOf (sampleAt xs ys t))
-fold-rows-again f s t xs ys =
-    rw (samples-again t xs ys, rows-again (samplesOf t xs ys) (sampleAt xs ys t)) (fold-snoc f s (rowsOf (samplesOf t xs ys)) (rowOf (sampleAt xs ys t)))
+pub fold-rows-again : (f : List Float → Row → List Float) (s : List Float) (t : ℕ) (c : Columns)
+    → fold f s (rowsOf (samplesOf (t + 1) c)) ≡ f (fold f s (rowsOf (samplesOf t c))) (rowOf (sampleAt c t))
+fold-rows-again f s t c =
+    rw (samples-again t c, rows-again (samplesOf t c) (sampleAt c t)) (fold-snoc f s (rowsOf (samplesOf t c)) (rowOf (sampleAt c t)))

@@ -8,8 +8,8 @@ use Rattle.loops.specs.Places.{each, table}
 use Rattle.loops.specs.PlaceLaws.{table-again, take-table, length-table, map-table, each-write}
 use Rattle.basis.specs.declared.Basis.{Basis}
 use Rattle.basis.specs.declared.Basis.the-variants.{Curve}
-use Rattle.samples.specs.Samples.{samplesOf}
-use Rattle.samples.specs.SampleLaws.{map-samples}
+use Rattle.samples.specs.Columns.{samplesOf, columnsOf}
+use Rattle.samples.specs.ColumnLaws.{map-samples}
 use Rattle.monomial.specs.Terms.{termsAt}
 use Rattle.monomial.specs.Rows.{Row, rowAt, rowsAt, rowOf, rowsOf}
 
@@ -39,6 +39,6 @@ module _ (basis : Basis) (xs zs ys : List Float) where
   each-rows-at g n s h = each-write (λ t. g (rowAt basis xs zs ys t)) n s h ∙ ap (λ l. l ++ drop n s) (map-rows-at g n)
 
 -- a curve's rows are those of the samples, whatever is lent for zs
-pub curve-rows : (n : ℕ) (xs zs ys : List Float) → rowsAt Curve n xs zs ys ≡ rowsOf (samplesOf n xs ys)
+pub curve-rows : (n : ℕ) (xs zs ys : List Float) → rowsAt Curve n xs zs ys ≡ rowsOf (samplesOf n (columnsOf xs ys))
 unfolding rowsAt rowAt rowOf termsAt
-curve-rows n xs zs ys = map-samples rowOf n xs ys
+curve-rows n xs zs ys = map-samples n (columnsOf xs ys) rowOf

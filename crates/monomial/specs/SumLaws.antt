@@ -13,8 +13,7 @@ use Rattle.loops.specs.PlaceLaws.{table-at}
 use Rattle.value.specs.Numbers.{zeroF}
 use Rattle.value.specs.Power.{powerF}
 use Rattle.value.specs.Total.{totalF}
-use Rattle.samples.specs.Samples.{Sample, samplesOf, xsOf}
-use Rattle.samples.specs.SampleLaws.{length-samples}
+use Rattle.samples.specs.Samples.{Sample, xsOf}
 use Rattle.monomial.specs.Rows.{Row, rowOf, rowsOf}
 use Rattle.monomial.specs.Adding.{addOne, sums}
 use Rattle.monomial.specs.AddingLaws.{length-add-one, add-one-append, sums-afresh, sums-length, sums-place, sums-same, sums-take, sums-drop}
@@ -116,9 +115,6 @@ terms-same ps qs e = powers-of ps ∙ ap (λ l. map (λ x. table (powerF x) 16) 
   where
     powers-of : (ps : List Sample) → termsOf (rowsOf ps) ≡ map (λ x. table (powerF x) 16) (xsOf ps)
     powers-of ps = map-map (λ (r : Row). r .terms) rowOf ps ∙ sym (map-map (λ x. table (powerF x) 16) (λ (p : Sample). p .x) ps)
-
-pub length-rows : (n : ℕ) (xs ys : List Float) → length (rowsOf (samplesOf n xs ys)) ≡ n
-length-rows n xs ys = length-map (samplesOf n xs ys) rowOf ∙ length-samples n xs ys
 
 -- one sample more at the end
 pub rows-again : (ps : List Sample) (p : Sample) → rowsOf (ps ++ (p ∷ [])) ≡ rowsOf ps ++ (rowOf p ∷ [])

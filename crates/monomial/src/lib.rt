@@ -12,7 +12,7 @@ ghost use Rattle.basis.specs.Sizes.{matrixPlaces, maxTerms, sumPlaces};
 ghost use Rattle.loops.specs.Places.{each, table};
 ghost use Rattle.value.specs.Numbers.{zeroF};
 ghost use Rattle.value.specs.Power.{powerF};
-ghost use Rattle.samples.specs.Samples.{samplesOf};
+ghost use Rattle.samples.specs.Columns.{samplesOf, columnsOf};
 ghost use Rattle.monomial.specs.Terms.{surfaceTerms, termsAt};
 ghost use Rattle.monomial.specs.Rows.{rowOf, rowsOf, rowsAt, fitted as fittedF};
 ghost use Rattle.monomial.specs.Sums.{productOf, addRow, addRows, sumsOf};
@@ -263,7 +263,7 @@ pub fn add_corner(
 pub fn fold_sums(xs: &[f64], ys: &[f64], n: usize, sums: &mut [f64])
     requires { ⌜ sumPlaces ≤ length (now sums) ⌝ }
     requires { ⌜ (n ≤ length (now xs)) × (n ≤ length (now ys)) ⌝ }
-    ensures { λ _. ⌜ now (sums .exit) ≡ sumsOf (rowsOf (samplesOf n (now (xs .entry)) (now (ys .entry)))) ++ drop sumPlaces (now (sums .entry)) ⌝ }
+    ensures { λ _. ⌜ now (sums .exit) ≡ sumsOf (rowsOf (samplesOf n (columnsOf (now (xs .entry)) (now (ys .entry))))) ++ drop sumPlaces (now (sums .entry)) ⌝ }
 {
     for k in 0..SUMS {
         sums[k] = 0.0;
@@ -277,7 +277,7 @@ pub fn fold_sums(xs: &[f64], ys: &[f64], n: usize, sums: &mut [f64])
 fn fold_right(xs: &[f64], ys: &[f64], n: usize, g: &mut [f64])
     requires { ⌜ maxTerms ≤ length (now g) ⌝ }
     requires { ⌜ (n ≤ length (now xs)) × (n ≤ length (now ys)) ⌝ }
-    ensures { λ _. ⌜ now (g .exit) ≡ drop matrixPlaces (sumsOf (rowsOf (samplesOf n (now (xs .entry)) (now (ys .entry))))) ++ drop maxTerms (now (g .entry)) ⌝ }
+    ensures { λ _. ⌜ now (g .exit) ≡ drop matrixPlaces (sumsOf (rowsOf (samplesOf n (columnsOf (now (xs .entry)) (now (ys .entry)))))) ++ drop maxTerms (now (g .entry)) ⌝ }
 {
     for k in 0..TERMS {
         g[k] = 0.0;
@@ -292,7 +292,7 @@ fn fold_right(xs: &[f64], ys: &[f64], n: usize, g: &mut [f64])
 pub fn refold_right(xs: &[f64], ys: &[f64], n: usize, sums: &mut [f64])
     requires { ⌜ sumPlaces ≤ length (now sums) ⌝ }
     requires { ⌜ (n ≤ length (now xs)) × (n ≤ length (now ys)) ⌝ }
-    ensures { λ _. ⌜ now (sums .exit) ≡ take matrixPlaces (now (sums .entry)) ++ (drop matrixPlaces (sumsOf (rowsOf (samplesOf n (now (xs .entry)) (now (ys .entry))))) ++ drop sumPlaces (now (sums .entry))) ⌝ }
+    ensures { λ _. ⌜ now (sums .exit) ≡ take matrixPlaces (now (sums .entry)) ++ (drop matrixPlaces (sumsOf (rowsOf (samplesOf n (columnsOf (now (xs .entry)) (now (ys .entry)))))) ++ drop sumPlaces (now (sums .entry))) ⌝ }
 {
     fold_right(xs, ys, n, &mut sums[256..]);
 }

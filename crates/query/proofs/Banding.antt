@@ -19,25 +19,26 @@ use Rattle.covariance.specs.Bands.{bandAt}
 use Rattle.covariance.specs.declared.Band.{Band}
 use Rattle.refusal.specs.Refusals.{settle}
 use Rattle.measure.specs.Measures.{measureRefusal, covarianceAt}
+use Rattle.lent.specs.Slices.{contentsOf}
 use Rattle.lent.specs.Written.{over, zeros}
 use Rattle.query.specs.declared.BandAnswer.{BandAnswer}
 use Rattle.query.specs.declared.BandAnswer.the-variants as answers
 use Rattle.query.specs.Bands.{BandOut, BandIs, bandRefused, bandOn, bandPast}
 
 -- refused by r, one of 1 to 9
-pub band-early : (r q : ℕ) (past : BandOut) (s : List Float) → r ≡ q → (r ≡ 0 → ⊥) → BandIs (settle q past (bandRefused q)) (answers.Refused r) s s
+pub band-early : (r q : ℕ) (past : BandOut) (s : List Float) → r ≡ q → (r ≡ 0 → ⊥) → BandIs (settle q past (bandRefused q)) (answers.Refused r) (contentsOf s s)
 band-early zero q past s e h = absurd (h refl)
 band-early (suc k) q past s e h = rw (← e) (record { answer = refl; scratch = refl })
 
 -- let through by 1 to 9
-pub band-through : (q : ℕ) (past : BandOut) (r : BandAnswer) (s s′ : List Float) → q ≡ 0 → BandIs past r s s′ → BandIs (settle q past (bandRefused q)) r s s′
+pub band-through : (q : ℕ) (past : BandOut) (r : BandAnswer) (s s′ : List Float) → q ≡ 0 → BandIs past r (contentsOf s s′) → BandIs (settle q past (bandRefused q)) r (contentsOf s s′)
 band-through q past r s s′ e f = rw e f
 
 module _ (n : ℕ) (x : Float) (degree : ℕ) (confidence : Confidence) (tolerance : Tolerance) (samples : List Sample) (sums s s′ : List Float)
     (es : s′ ≡ over (zeros n) s) where
   -- by 10 or 12
   pub band-late : (r : ℕ) → r ≡ measureRefusal sums (rowsOf samples) (countOf Curve degree) → (r ≡ 0 → ⊥)
-      → BandIs (bandPast n x degree confidence tolerance samples sums) (answers.Refused r) s s′
+      → BandIs (bandPast n x degree confidence tolerance samples sums) (answers.Refused r) (contentsOf s s′)
   unfolding bandPast
   band-late zero e h = absurd (h refl)
   band-late (suc k) e h = rw (← e) (record { answer = refl; scratch = es })
@@ -46,6 +47,6 @@ module _ (n : ℕ) (x : Float) (degree : ℕ) (confidence : Confidence) (toleran
   pub band-made : 0 ≡ measureRefusal sums (rowsOf samples) (countOf Curve degree) → (c v : List Float) (z : Float) (w : StddevAndMean) (b : Band)
       → c ≡ solve sums (countOf Curve degree) .c → v ≡ covarianceAt sums (rowsOf samples) (countOf Curve degree) → z ≡ zScore confidence → w ≡ stddevAndMean (ysOf samples)
       → b ≡ bandAt (countOf Curve degree) c v tolerance z (w .stddev) (table (powerF x) 16)
-      → BandIs (bandPast n x degree confidence tolerance samples sums) (answers.Band b) s s′
+      → BandIs (bandPast n x degree confidence tolerance samples sums) (answers.Band b) (contentsOf s s′)
   unfolding bandPast bandOn
   band-made e c v z w b ec ev ez ew eb = rw (← e, eb, ec, ev, ez, ew) (record { answer = refl; scratch = es })

@@ -14,6 +14,7 @@ use Rattle.monomial.specs.Rows.{rowsOf}
 use Rattle.solve.specs.Solve.{solve}
 use Rattle.fit.specs.Solved.{isSolved}
 use Rattle.refusal.specs.Refusals.{settle}
+use Rattle.lent.specs.Slices.{contentsOf}
 use Rattle.lent.specs.Written.{over, zeros}
 use Rattle.lent.specs.WrittenLaws.{over-within}
 use Rattle.query.specs.declared.FitAnswer.{FitAnswer}
@@ -22,32 +23,32 @@ use Rattle.query.specs.Fits.{FitOut, FitIs, fitRefused, fitPast, validat
 use Rattle.query.specs.FitLaws.{past-scratch}
 
 -- refused by r, one of 1 to 9
-pub refused-early : (r q : ℕ) (past : FitOut) (s c : List Float) → r ≡ q → (r ≡ 0 → ⊥) → FitIs (settle q past (fitRefused q)) (answers.Refused r) s s c c
+pub refused-early : (r q : ℕ) (past : FitOut) (s c : List Float) → r ≡ q → (r ≡ 0 → ⊥) → FitIs (settle q past (fitRefused q)) (answers.Refused r) (contentsOf s s) (contentsOf c c)
 refused-early zero q past s c e h = absurd (h refl)
 refused-early (suc k) q past s c e h = rw (← e) (record { answer = refl; scratch = refl; coefficients = refl })
 
 -- let through by 1 to 9
-pub let-through : (q : ℕ) (past : FitOut) (r : FitAnswer) (s s′ c c′ : List Float) → q ≡ 0 → FitIs past r s s′ c c′ → FitIs (settle q past (fitRefused q)) r s s′ c c′
+pub let-through : (q : ℕ) (past : FitOut) (r : FitAnswer) (s s′ c c′ : List Float) → q ≡ 0 → FitIs past r (contentsOf s s′) (contentsOf c c′) → FitIs (settle q past (fitRefused q)) r (contentsOf s s′) (contentsOf c c′)
 let-through q past r s s′ c c′ e f = rw e f
 
 module _ (n degree : ℕ) (samples : List Sample) (sums s s′ c : List Float) (es : s′ ≡ over (zeros n) s) where
-  pub fit-unsolved : isSolved sums (rowsOf samples) (countOf Curve degree) ≡ false → FitIs (fitPast n degree samples sums) (answers.Refused 10) s s′ c c
+  pub fit-unsolved : isSolved sums (rowsOf samples) (countOf Curve degree) ≡ false → FitIs (fitPast n degree samples sums) (answers.Refused 10) (contentsOf s s′) (contentsOf c c)
   unfolding fitPast
   fit-unsolved h = rw h (record { answer = refl; scratch = es; coefficients = refl })
 
   pub fit-solved : isSolved sums (rowsOf samples) (countOf Curve degree) ≡ true → (c′ : List Float) → c′ ≡ over (solve sums (countOf Curve degree) .c) c
-      → FitIs (fitPast n degree samples sums) (answers.Fit (record { 0 = degree })) s s′ c c′
+      → FitIs (fitPast n degree samples sums) (answers.Fit (record { 0 = degree })) (contentsOf s s′) (contentsOf c c′)
   unfolding fitPast
   fit-solved h c′ ec = rw h (record { answer = refl; scratch = es; coefficients = ec })
 
 -- validation: none is chosen, or the single fit at the chosen degree, from scratch that the folds have used
 module _ (n : ℕ) (o : OptionDegree) (samples : List Sample) (sums s c : List Float) where
-  pub none-validated : o ≡ None → (s′ : List Float) → s′ ≡ over (zeros n) s → FitIs (validatePast n o samples sums) (answers.Refused 11) s s′ c c
+  pub none-validated : o ≡ None → (s′ : List Float) → s′ ≡ over (zeros n) s → FitIs (validatePast n o samples sums) (answers.Refused 11) (contentsOf s s′) (contentsOf c c)
   unfolding validatePast
   none-validated h s′ es = rw h (record { answer = refl; scratch = es; coefficients = refl })
 
   pub one-validated : (d : ℕ) → o ≡ Some (record { 0 = d }) → (r : FitAnswer) (u s′ c′ : List Float) → Within n s u
-      → FitIs (fitPast n d samples sums) r u s′ c c′ → FitIs (validatePast n o samples sums) r s s′ c c′
+      → FitIs (fitPast n d samples sums) r (contentsOf u s′) (contentsOf c c′) → FitIs (validatePast n o samples sums) r (contentsOf s s′) (contentsOf c c′)
   unfolding validatePast
   one-validated d h r u s′ c′ w f =
       rw h (record {

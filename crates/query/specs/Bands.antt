@@ -13,7 +13,8 @@ use Rattle.statistics.specs.declared.Confidence.{Confidence}
 use Rattle.statistics.specs.declared.Tolerance.{Tolerance}
 use Rattle.basis.specs.Counts.{countOf}
 use Rattle.basis.specs.declared.Basis.the-variants.{Curve}
-use Rattle.samples.specs.Samples.{Sample, samplesOf, ysOf}
+use Rattle.samples.specs.Samples.{Sample, ysOf}
+use Rattle.samples.specs.Columns.{samplesOf, Columns, lengths}
 use Rattle.monomial.specs.Rows.{rowsOf}
 use Rattle.solve.specs.Solve.{solve}
 use Rattle.covariance.specs.Bands.{bandAt}
@@ -24,6 +25,7 @@ use Rattle.lent.specs.Written.{over, zeros}
 use Rattle.query.specs.declared.BandAnswer.{BandAnswer}
 use Rattle.query.specs.declared.BandAnswer.the-variants as answers
 use Rattle.query.specs.Refusals.{bandRefusal}
+use Rattle.lent.specs.Slices.{Contents}
 
 -- the answer, and the values written to scratch
 pub record BandOut : Type 0 where
@@ -58,11 +60,11 @@ bandFor n x degree confidence tolerance samples sums columns places scratch =
     settle r (bandPast n x degree confidence tolerance samples sums) (bandRefused r)
 
 -- the same on what stands in memory: what the call does
-abbrev pub bandOut : ℕ → Float → ℕ → Confidence → Tolerance → List Float → List Float → List Float → List Float → BandOut
-bandOut n x degree confidence tolerance xs ys sums scratch =
-    bandFor n x degree confidence tolerance (samplesOf n xs ys) (take sumPlaces sums) (length xs ∷ length ys ∷ []) (length sums) (length scratch)
+abbrev pub bandOut : ℕ → Float → ℕ → Confidence → Tolerance → Columns → List Float → List Float → BandOut
+bandOut n x degree confidence tolerance columns sums scratch =
+    bandFor n x degree confidence tolerance (samplesOf n columns) (take sumPlaces sums) (lengths columns) (length sums) (length scratch)
 
--- the promise: the answer is the definition's, and so is scratch, s before and s′ after
-pub record BandIs (o : BandOut) (r : BandAnswer) (s s′ : List Float) : Type 0 where
+-- the promise: the answer is the definition's, and its values are written to scratch s
+pub record BandIs (o : BandOut) (r : BandAnswer) (s : Contents Float) : Type 0 where
   pub answer : r ≡ o .answer
-  pub scratch : s′ ≡ over (o .scratch) s
+  pub scratch : s .left ≡ over (o .scratch) (s .found)

@@ -12,7 +12,8 @@ use Rattle.statistics.specs.Degrees.{maxDegree}
 use Rattle.statistics.specs.declared.DegreeBound.{DegreeBound}
 use Rattle.basis.specs.Counts.{countOf}
 use Rattle.basis.specs.declared.Basis.the-variants.{Curve}
-use Rattle.samples.specs.Samples.{Sample, samplesOf}
+use Rattle.samples.specs.Samples.{Sample}
+use Rattle.samples.specs.Columns.{samplesOf, Columns, lengths}
 use Rattle.monomial.specs.Rows.{rowsOf}
 use Rattle.solve.specs.Solve.{solve}
 use Rattle.score.specs.declared.Criterion.{Criterion}
@@ -23,6 +24,7 @@ use Rattle.lent.specs.Written.{over, zeros}
 use Rattle.query.specs.declared.FitAnswer.{FitAnswer}
 use Rattle.query.specs.declared.FitAnswer.the-variants as answers
 use Rattle.query.specs.Refusals.{fitRefusal, validateRefusal}
+use Rattle.lent.specs.Slices.{Contents}
 
 -- the answer, and the values written to scratch and to the coefficients
 pub record FitOut : Type 0 where
@@ -63,17 +65,17 @@ validateOn n folds bound criterion samples sums columns places scratch coefficie
     settle r (validatePast n (validatedChoice criterion (rowsOf samples) folds (maxDegree bound n)) samples sums) (fitRefused r)
 
 -- the same on what stands in memory: what the calls do
-module _ (n : ℕ) (xs ys sums scratch coefficients : List Float) where
+module _ (n : ℕ) (columns : Columns) (sums scratch coefficients : List Float) where
   abbrev pub fitOut : ℕ → FitOut
   fitOut degree =
-      fitOn n degree (samplesOf n xs ys) (take sumPlaces sums) (length xs ∷ length ys ∷ []) (length sums) (length scratch) (length coefficients)
+      fitOn n degree (samplesOf n columns) (take sumPlaces sums) (lengths columns) (length sums) (length scratch) (length coefficients)
 
   abbrev pub validateOut : ℕ → DegreeBound → Criterion → FitOut
   validateOut folds bound criterion =
-      validateOn n folds bound criterion (samplesOf n xs ys) (take sumPlaces sums) (length xs ∷ length ys ∷ []) (length sums) (length scratch) (length coefficients)
+      validateOn n folds bound criterion (samplesOf n columns) (take sumPlaces sums) (lengths columns) (length sums) (length scratch) (length coefficients)
 
--- the promise: the answer is the definition's, and so are scratch and the coefficients, s and c before and s′ and c′ after
-pub record FitIs (o : FitOut) (r : FitAnswer) (s s′ c c′ : List Float) : Type 0 where
+-- the promise: the answer is the definition's, and its values are written to scratch s and the coefficients c
+pub record FitIs (o : FitOut) (r : FitAnswer) (s c : Contents Float) : Type 0 where
   pub answer : r ≡ o .answer
-  pub scratch : s′ ≡ over (o .scratch) s
-  pub coefficients : c′ ≡ over (o .coefficients) c
+  pub scratch : s .left ≡ over (o .scratch) (s .found)
+  pub coefficients : c .left ≡ over (o .coefficients) (c .found)

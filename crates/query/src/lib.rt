@@ -15,7 +15,8 @@ use statistics::Tolerance;
 ghost use Prim.Native.Nat.{_≤_};
 ghost use lib.ListN.{length, take};
 ghost use Rattle.basis.specs.Sizes.{highestDegree, maxTerms, sumPlaces};
-ghost use Rattle.samples.specs.Samples.{samplesOf};
+ghost use Rattle.samples.specs.Columns.{samplesOf, columnsOf};
+ghost use Rattle.lent.specs.Slices.{before, contents};
 ghost use Rattle.query.specs.Fits.{FitIs, fitPast, fitOut, validateOut};
 ghost use Rattle.query.specs.Bands.{BandIs, bandOut};
 
@@ -42,7 +43,7 @@ fn solve_at(
     coefficients: &mut [f64],
 ) -> FitAnswer
     requires { ⌜ (n ≤ length (now xs)) × (n ≤ length (now ys)) × (n ≤ length (now scratch)) × (sumPlaces ≤ length (now sums)) × (maxTerms ≤ length (now coefficients)) × (degree .0 ≤ highestDegree) ⌝ }
-    ensures { λ r. ⌜ FitIs (fitPast n (degree .0) (samplesOf n (now (xs .entry)) (now (ys .entry))) (take sumPlaces (now (sums .entry)))) r (now (scratch .entry)) (now (scratch .exit)) (now (coefficients .entry)) (now (coefficients .exit)) ⌝ }
+    ensures { λ r. ⌜ FitIs (fitPast n (degree .0) (samplesOf n (columnsOf (before xs) (before ys))) (take sumPlaces (before sums))) r (contents scratch) (contents coefficients) ⌝ }
 {
     let k = degree.k(Basis::Curve);
     let s = fit::attempt(Basis::Curve, xs, xs, ys, n, &sums[..SUMS], k, &mut *scratch);
@@ -65,7 +66,7 @@ pub fn fit(
     scratch: &mut [f64],
     coefficients: &mut [f64],
 ) -> FitAnswer
-    ensures { λ r. ⌜ FitIs (fitOut (book .count) (now (xs .entry)) (now (ys .entry)) (now (sums .entry)) (now (scratch .entry)) (now (coefficients .entry)) (degree .0)) r (now (scratch .entry)) (now (scratch .exit)) (now (coefficients .entry)) (now (coefficients .exit)) ⌝ }
+    ensures { λ r. ⌜ FitIs (fitOut (book .count) (columnsOf (before xs) (before ys)) (before sums) (before scratch) (before coefficients) (degree .0)) r (contents scratch) (contents coefficients) ⌝ }
 {
     let n = book.count;
     let refusal = refusals::fit_refusal(
@@ -95,7 +96,7 @@ pub fn validate(
     scratch: &mut [f64],
     coefficients: &mut [f64],
 ) -> FitAnswer
-    ensures { λ r. ⌜ FitIs (validateOut (book .count) (now (xs .entry)) (now (ys .entry)) (now (sums .entry)) (now (scratch .entry)) (now (coefficients .entry)) folds bound criterion) r (now (scratch .entry)) (now (scratch .exit)) (now (coefficients .entry)) (now (coefficients .exit)) ⌝ }
+    ensures { λ r. ⌜ FitIs (validateOut (book .count) (columnsOf (before xs) (before ys)) (before sums) (before scratch) (before coefficients) folds bound criterion) r (contents scratch) (contents coefficients) ⌝ }
 {
     let n = book.count;
     let refusal = refusals::validate_refusal(
@@ -132,7 +133,7 @@ pub fn band(
     sums: &[f64],
     scratch: &mut [f64],
 ) -> BandAnswer
-    ensures { λ r. ⌜ BandIs (bandOut (book .count) x (degree .0) confidence tolerance (now (xs .entry)) (now (ys .entry)) (now (sums .entry)) (now (scratch .entry))) r (now (scratch .entry)) (now (scratch .exit)) ⌝ }
+    ensures { λ r. ⌜ BandIs (bandOut (book .count) x (degree .0) confidence tolerance (columnsOf (before xs) (before ys)) (before sums) (before scratch)) r (contents scratch) ⌝ }
 {
     let n = book.count;
     let refusal = refusals::band_refusal(

@@ -8,8 +8,9 @@ use statistics::Tolerance;
 ghost use mathlib.Core.Path.{_≡_};
 ghost use mathlib.Core.List.{[], _∷_};
 ghost use lib.ListN.{length};
-ghost use Rattle.samples.specs.Samples.{samplesOf};
+ghost use Rattle.samples.specs.Columns.{samplesOf, columnsOf, lengths};
 ghost use Rattle.refusal.specs.Tests.{tooShort};
+ghost use Rattle.lent.specs.Slices.{before};
 ghost use Rattle.query.specs.Refusals.{fitNeeds, bandNeeds, fitRefusal, validateRefusal, bandRefusal};
 
 // 1, of a fit or a validation.
@@ -44,7 +45,7 @@ pub fn fit_refusal(
     scratch: usize,
     coefficients: usize,
 ) -> u8
-    ensures { λ r. ⌜ r ≡ fitRefusal n (degree .0) (samplesOf n (now (xs .entry)) (now (ys .entry))) (length (now (xs .entry)) ∷ length (now (ys .entry)) ∷ []) sums scratch coefficients ⌝ }
+    ensures { λ r. ⌜ r ≡ fitRefusal n (degree .0) (samplesOf n (columnsOf (before xs) (before ys))) (lengths (columnsOf (before xs) (before ys))) sums scratch coefficients ⌝ }
 {
     if fit_short(n, xs.len(), ys.len(), sums, scratch, coefficients) {
         return 1;
@@ -68,7 +69,7 @@ pub fn validate_refusal(
     scratch: usize,
     coefficients: usize,
 ) -> u8
-    ensures { λ r. ⌜ r ≡ validateRefusal n folds bound (samplesOf n (now (xs .entry)) (now (ys .entry))) (length (now (xs .entry)) ∷ length (now (ys .entry)) ∷ []) sums scratch coefficients ⌝ }
+    ensures { λ r. ⌜ r ≡ validateRefusal n folds bound (samplesOf n (columnsOf (before xs) (before ys))) (lengths (columnsOf (before xs) (before ys))) sums scratch coefficients ⌝ }
 {
     if fit_short(n, xs.len(), ys.len(), sums, scratch, coefficients) {
         return 1;
@@ -94,7 +95,7 @@ pub fn band_refusal(
     sums: usize,
     scratch: usize,
 ) -> u8
-    ensures { λ r. ⌜ r ≡ bandRefusal n x (degree .0) confidence tolerance (samplesOf n (now (xs .entry)) (now (ys .entry))) (length (now (xs .entry)) ∷ length (now (ys .entry)) ∷ []) sums scratch ⌝ }
+    ensures { λ r. ⌜ r ≡ bandRefusal n x (degree .0) confidence tolerance (samplesOf n (columnsOf (before xs) (before ys))) (lengths (columnsOf (before xs) (before ys))) sums scratch ⌝ }
 {
     if band_short(n, xs.len(), ys.len(), sums, scratch) {
         return 1;

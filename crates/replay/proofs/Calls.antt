@@ -8,8 +8,7 @@ use lib.Ieee.{Float}
 use Rattle.book.specs.declared.Answer.{Answer}
 use Rattle.book.specs.declared.Answer.the-variants as answers
 use Rattle.book.specs.Calls.{Is, State, stateOf, bookAfter, addOut, correctOut, withdrawOut}
-use Rattle.samples.specs.Columns.{columnsOf}
-use Rattle.samples.specs.ColumnLaws.{columns-are}
+use Rattle.samples.specs.Columns.{Columns}
 use Rattle.settings.specs.declared.Settings.{Settings}
 use Rattle.report.specs.declared.Places.{Places}
 use Rattle.report.specs.declared.ReportAnswer.{ReportAnswer}
@@ -46,37 +45,35 @@ report-results n (tells.Report d s o p) = refl
 report-results n (tells.Refused r) = refl
 
 -- a call that changes a book
-module _ (s : State) (c : Change) (r : Answer) (d : Done) (a b t : List Float) where
-  pub changed : Is (outOf s c) r a b t → d ≡ changeRecord (s .count) r → Changed s (changes c) d a b t
+module _ (s : State) (c : Change) (r : Answer) (d : Done) (left : Columns) (t : List Float) where
+  pub changed : Is (outOf s c) r left t → d ≡ changeRecord (s .count) r → Changed s (changes c) d left t
   unfolding next reply
   changed h e =
       let n = ap (λ (z : Done). z .count) e ∙ change-count (s .count) r ∙ ap (bookAfter (s .count)) (h .answer) in
       record {
-        state =
-            (λ i. stateOf (n i) (h .xs i) (h .ys i) (h .sums i))
-            ∙ (λ i. record { count = bookAfter (s .count) (outOf s c .answer); columns = columns-are (outOf s c .columns) i; sums = outOf s c .sums });
+        state = λ i. stateOf (n i) (h .columns i) (h .sums i);
         results = ap resultsIn e ∙ change-results (s .count) r ∙ ap (λ z. resultsOf (said z)) (h .answer);
       }
 
 -- by its kind
-module _ (kind i : ℕ) (x y : Float) (settings : Settings) (places : Places) (n : ℕ) (xs ys sums : List Float) where
-  module _ (r : Answer) (d : Done) (a b t : List Float) (e : d ≡ changeRecord n r) where
-    pub change-adds : kind ≡ 0 → Is (addOut n (record { x = x; y = y }) (columnsOf xs ys) sums) r a b t
-        → Changed (stateOf n xs ys sums) (callOf kind i x y settings places) d a b t
+module _ (kind i : ℕ) (x y : Float) (settings : Settings) (places : Places) (n : ℕ) (columns : Columns) (sums : List Float) where
+  module _ (r : Answer) (d : Done) (left : Columns) (t : List Float) (e : d ≡ changeRecord n r) where
+    pub change-adds : kind ≡ 0 → Is (addOut n (record { x = x; y = y }) columns sums) r left t
+        → Changed (stateOf n columns sums) (callOf kind i x y settings places) d left t
     unfolding callOf outOf
-    change-adds q h = rw q (changed (stateOf n xs ys sums) (adds (record { x = x; y = y })) r d a b t h e)
+    change-adds q h = rw q (changed (stateOf n columns sums) (adds (record { x = x; y = y })) r d left t h e)
 
-    pub change-corrects : kind ≡ 1 → Is (correctOut n i y (columnsOf xs ys) sums) r a b t
-        → Changed (stateOf n xs ys sums) (callOf kind i x y settings places) d a b t
+    pub change-corrects : kind ≡ 1 → Is (correctOut n i y columns sums) r left t
+        → Changed (stateOf n columns sums) (callOf kind i x y settings places) d left t
     unfolding callOf outOf
-    change-corrects q h = rw q (changed (stateOf n xs ys sums) (corrects i y) r d a b t h e)
+    change-corrects q h = rw q (changed (stateOf n columns sums) (corrects i y) r d left t h e)
 
-    pub change-withdraws : kind < 3 → (kind ≡ 0 → ⊥) → (kind ≡ 1 → ⊥) → Is (withdrawOut n i (columnsOf xs ys) sums) r a b t
-        → Changed (stateOf n xs ys sums) (callOf kind i x y settings places) d a b t
+    pub change-withdraws : kind < 3 → (kind ≡ 0 → ⊥) → (kind ≡ 1 → ⊥) → Is (withdrawOut n i columns sums) r left t
+        → Changed (stateOf n columns sums) (callOf kind i x y settings places) d left t
     unfolding callOf outOf
     change-withdraws l q₀ q₁ h =
         let q : kind ≡ 2 = omega (arith, q₀, q₁) in
-        rw q (changed (stateOf n xs ys sums) (withdraws i) r d a b t h e)
+        rw q (changed (stateOf n columns sums) (withdraws i) r d left t h e)
 
 -- a call that changes a book writes nothing else
 none-written : (at : ℕ) (w : Outputs) → w ≡ overAllAt at nothing w

@@ -19,7 +19,7 @@ use Rattle.book.specs.declared.Answer.{Answer}
 use Rattle.book.specs.Refusals.{openRefusal}
 use Rattle.refusal.specs.Refusals.{firstOf}
 use Rattle.book.specs.Calls.{Is, State, stateOf, bookOf, bookAfter, openOut}
-use Rattle.samples.specs.Columns.{ofX, ofY}
+use Rattle.samples.specs.Columns.{Columns, noColumns, Column}
 use Rattle.settings.specs.declared.Settings.{Settings}
 use Rattle.report.specs.declared.Places.{Places}
 use Rattle.report.specs.Reports.{reportOut}
@@ -50,30 +50,30 @@ module _ (kinds words : List ℕ) (numbers : List Float) (width k n : ℕ) (m : 
     back-is : back ≡ overAt (5 * k) (resultsIn d) (m .results)
     back-is = window-over (5 * k) (5 * k + 5 - 5 * k) (resultsIn d) (m .results) out put kept
 
-    pub turned-change : (a b t : List Float) → getD kinds (5 * k) 0 < 3
-        → Changed (stateOf n (m .xs) (m .ys) (m .sums))
-        (callOf (getD kinds (5 * k) 0) (getD words (9 * k) 0) (getD numbers (4 * k) nan) (getD numbers (4 * k + 1) nan) settings places) d a b t
-        → Turned (callAt kinds words numbers k) width k n (d .count) m (record { xs = a; ys = b; sums = t; results = back; outputs = m .outputs })
+    pub turned-change : (left : Columns) (t : List Float) → getD kinds (5 * k) 0 < 3
+        → Changed (stateOf n (m .columns) (m .sums))
+        (callOf (getD kinds (5 * k) 0) (getD words (9 * k) 0) (getD numbers (4 * k) nan) (getD numbers (4 * k + 1) nan) settings places) d left t
+        → Turned (callAt kinds words numbers k) width k n (d .count) m (record { columns = left; sums = t; results = back; outputs = m .outputs })
     unfolding callAt
-    turned-change a b t h c =
+    turned-change left t h c =
         rw (← is, ← ip)
         (record {
           state = c .state;
           results = back-is ∙ ap (λ v. overAt (5 * k) v (m .results)) (c .results);
-          outputs = nothing-else _ _ _ _ settings places h (stateOf n (m .xs) (m .ys) (m .sums)) (width * k) (m .outputs);
+          outputs = nothing-else _ _ _ _ settings places h (stateOf n (m .columns) (m .sums)) (width * k) (m .outputs);
         })
 
     pub turned-report : (w : Outputs) → 3 ≤ getD kinds (5 * k) 0
-        → Reported n (width * k) (reportOut n settings (m .xs) (m .ys) (m .sums) places) d (record { found = m .outputs; left = w })
-        → Turned (callAt kinds words numbers k) width k n (d .count) m (record { xs = m .xs; ys = m .ys; sums = m .sums; results = back; outputs = w })
+        → Reported n (width * k) (reportOut n settings (m .columns) (m .sums) places) d (record { found = m .outputs; left = w })
+        → Turned (callAt kinds words numbers k) width k n (d .count) m (record { columns = m .columns; sums = m .sums; results = back; outputs = w })
     unfolding callAt next reply readOn resultsOf writtenOf
     turned-report w h r =
-        let o = reportOut n settings (m .xs) (m .ys) (m .sums) places in
+        let o = reportOut n settings (m .columns) (m .sums) places in
         let q = is-report (getD kinds (5 * k) 0) (getD words (9 * k) 0) (getD numbers (4 * k) nan) (getD numbers (4 * k + 1) nan) settings places h in
         let e = ap (λ (z : Done). z .count) (r .done) ∙ report-count n (o .answer) in
         rw (← is, ← ip, q)
         (record {
-          state = λ i. stateOf (e i) (m .xs) (m .ys) (m .sums);
+          state = λ i. stateOf (e i) (m .columns) (m .sums);
           results = back-is ∙ ap (λ v. overAt (5 * k) v (m .results)) (ap resultsIn (r .done) ∙ report-results n (o .answer));
           outputs = r .wrote;
         })
@@ -97,14 +97,13 @@ written-more put s₀ s g k q b₀ b b′ e h =
 
 -- lent memory keeps its lengths
 pub record Same (m m′ : Memory) : Type 0 where
-  pub xs : length (m′ .xs) ≡ length (m .xs)
-  pub ys : length (m′ .ys) ≡ length (m .ys)
+  pub columns : (k : Column) → length (m′ .columns k) ≡ length (m .columns k)
   pub sums : length (m′ .sums) ≡ length (m .sums)
   pub results : length (m′ .results) ≡ length (m .results)
   pub outputs : placesOf (m′ .outputs) ≡ placesOf (m .outputs)
 
 abbrev pub withSums : Memory → List Float → Memory
-withSums m t = record { xs = m .xs; ys = m .ys; sums = t; results = m .results; outputs = m .outputs }
+withSums m t = record { columns = m .columns; sums = t; results = m .results; outputs = m .outputs }
 
 -- buffers that hold a list of calls still do, when the sums are t of the same length, and then all is m′
 pub still-formed : (kinds words : List ℕ) (numbers : List Float) (width : ℕ) (m : Memory) (t : List Float) (m′ : Memory) → length t ≡ length (m .sums)
@@ -118,26 +117,26 @@ still-formed kinds words numbers width m t m′ e s h =
 pub record Upto (kinds words : List ℕ) (numbers : List Float) (width : ℕ) (s₀ : State) (m₀ : Memory) (n : ℕ) (m : Memory) (k : ℕ) : Type 0 where
   pub upto : k ≤ callCount kinds
   pub same : Same m₀ m
-  pub state : stateOf n (m .xs) (m .ys) (m .sums) ≡ final s₀ (table (callAt kinds words numbers) k)
+  pub state : stateOf n (m .columns) (m .sums) ≡ final s₀ (table (callAt kinds words numbers) k)
   pub results : m .results ≡ writeAll putResults 0 (programReplies readOn s₀ (table (callAt kinds words numbers) k)) (m₀ .results)
   pub outputs : m .outputs ≡ writeAll (putOutputs width) 0 (programReplies readOn s₀ (table (callAt kinds words numbers) k)) (m₀ .outputs)
 
 module _ (kinds words : List ℕ) (numbers : List Float) (width : ℕ) where
-  pub none : (n : ℕ) (m : Memory) → Upto kinds words numbers width (stateOf n (m .xs) (m .ys) (m .sums)) m n m 0
+  pub none : (n : ℕ) (m : Memory) → Upto kinds words numbers width (stateOf n (m .columns) (m .sums)) m n m 0
   unfolding table fold repliesOf writeAll
   none n m =
-      record { upto = omega arith; same = record { xs = refl; ys = refl; sums = refl; results = refl; outputs = refl }; state = refl; results = refl; outputs = refl }
+      record { upto = omega arith; same = record { columns = λ k. refl; sums = refl; results = refl; outputs = refl }; state = refl; results = refl; outputs = refl }
 
   pub more : (s₀ : State) (m₀ : Memory) (n : ℕ) (m : Memory) (k : ℕ) → Upto kinds words numbers width s₀ m₀ n m k → k < callCount kinds
       → (n′ : ℕ) (m′ : Memory) → Turned (callAt kinds words numbers k) width k n n′ m m′ → Same m m′ → Upto kinds words numbers width s₀ m₀ n′ m′ (k + 1)
   more s₀ m₀ n m k u h n′ m′ t l =
       let g = callAt kinds words numbers in
-      let s = stateOf n (m .xs) (m .ys) (m .sums) in
+      let s = stateOf n (m .columns) (m .sums) in
       let q = u .same in
       record {
         upto = omega arith;
         same =
-            record { xs = l .xs ∙ q .xs; ys = l .ys ∙ q .ys; sums = l .sums ∙ q .sums; results = l .results ∙ q .results; outputs = l .outputs ∙ q .outputs };
+            record { columns = λ k. l .columns k ∙ q .columns k; sums = l .sums ∙ q .sums; results = l .results ∙ q .results; outputs = l .outputs ∙ q .outputs };
         state = t .state ∙ ap (λ z. next z (g k)) (u .state) ∙ sym (fold-table next s₀ g k);
         results = written-more putResults s₀ s g k (u .state) (m₀ .results) (m .results) (m′ .results) (u .results) (t .results);
         outputs = written-more (putOutputs width) s₀ s g k (u .state) (m₀ .outputs) (m .outputs) (m′ .outputs) (u .outputs) (t .outputs);
@@ -151,32 +150,31 @@ open-book t h = rw (le-ltb (length t) 272 h)
 
 module _ (kinds words : List ℕ) (numbers : List Float) (width : ℕ) (m : Memory) where
   -- from a book just opened
-  from-opened : (n : ℕ) (t : List Float) (m′ : Memory) → Upto kinds words numbers width (opened (m .xs) (m .ys) (m .sums)) (withSums m t) n m′ (callCount kinds)
+  from-opened : (n : ℕ) (t : List Float) (m′ : Memory) → Upto kinds words numbers width (opened (m .columns) (m .sums)) (withSums m t) n m′ (callCount kinds)
       → 272 ≤ length (m .sums) → Ran (callsOf kinds words numbers) width n m m′
   unfolding callsOf
   from-opened n t m′ u h =
       let cs = callsOf kinds words numbers in
-      let whole = whole-book (m .xs) (m .ys) (m .sums) (open-book (m .sums) h) cs in
+      let whole = whole-book (m .columns) (m .sums) (open-book (m .sums) h) cs in
       let e = whole .agrees .answered in
       record {
         whole = whole;
         book = ap (λ (z : State). z .count) (u .state) ∙ whole .agrees .book;
-        xs = ap (λ (z : State). z .columns ofX) (u .state);
-        ys = ap (λ (z : State). z .columns ofY) (u .state);
+        columns = ap (λ (z : State). z .columns) (u .state);
         sums = ap (λ (z : State). z .sums) (u .state);
         results = u .results ∙ ap (λ rs. writeAll putResults 0 rs (m .results)) e;
         outputs = u .outputs ∙ ap (λ rs. writeAll (putOutputs width) 0 rs (m .outputs)) e;
       }
 
   -- r is what open answers, and t what it leaves of the sums
-  pub all : (r : Answer) (t : List Float) → Is (openOut (m .sums)) r [] [] t → (n₀ : ℕ) → n₀ ≡ changeRecord 0 r .count → (n : ℕ) (m′ : Memory) (k : ℕ)
-      → Upto kinds words numbers width (stateOf n₀ (m .xs) (m .ys) t) (withSums m t) n m′ k → k ≡ callCount kinds → 272 ≤ length (m .sums)
+  pub all : (r : Answer) (t : List Float) → Is (openOut (m .sums)) r noColumns t → (n₀ : ℕ) → n₀ ≡ changeRecord 0 r .count → (n : ℕ) (m′ : Memory) (k : ℕ)
+      → Upto kinds words numbers width (stateOf n₀ (m .columns) t) (withSums m t) n m′ k → k ≡ callCount kinds → 272 ≤ length (m .sums)
       → Ran (callsOf kinds words numbers) width n m m′
   all r t o n₀ e n m′ k u q h =
       let c = e ∙ change-count 0 r ∙ ap (bookAfter 0) (o .answer) in
-      let s : stateOf n₀ (m .xs) (m .ys) t ≡ opened (m .xs) (m .ys) (m .sums) = λ i. stateOf (c i) (m .xs) (m .ys) (o .sums i) in
+      let s : stateOf n₀ (m .columns) t ≡ opened (m .columns) (m .sums) = λ i. stateOf (c i) (m .columns) (o .sums i) in
       from-opened n t m′
-      (subst (λ z. Upto kinds words numbers width z (withSums m t) n m′ (callCount kinds)) s (subst (λ j. Upto kinds words numbers width (stateOf n₀ (m .xs) (m .ys) t) (withSums m t) n m′ j) q u)) h
+      (subst (λ z. Upto kinds words numbers width z (withSums m t) n m′ (callCount kinds)) s (subst (λ j. Upto kinds words numbers width (stateOf n₀ (m .columns) t) (withSums m t) n m′ j) q u)) h
 
 -- ---- the promise of `replay`
 

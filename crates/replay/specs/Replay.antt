@@ -6,7 +6,7 @@ use Prim.Native.Nat.{ℕ, _+_, _*_}
 use lib.ListN.{length, take, drop}
 use lib.Ieee.{Float}
 use Rattle.book.specs.declared.Answer.the-variants as answers
-use Rattle.samples.specs.Columns.{ofX, ofY}
+use Rattle.samples.specs.Columns.{Columns, columnsOf}
 use Rattle.lent.specs.Written.{over}
 use Rattle.report.specs.declared.ReportAnswer.{ReportAnswer}
 use Rattle.report.specs.declared.ReportAnswer.the-variants as reports
@@ -75,8 +75,7 @@ putOutputs width j r w = overAllAt (width * j) (writtenOf r) w
 
 -- what is lent to be written: the columns, the sums, the results, and a window a call of each memory of a report
 pub record Memory : Type 0 where
-  pub xs : List Float
-  pub ys : List Float
+  pub columns : Columns
   pub sums : List Float
   pub results : List ℕ
   pub outputs : Outputs
@@ -89,21 +88,20 @@ pub record LentMemory : Type 0 where
 abbrev pub memory : Slice Float → Slice Float → Slice Float → Slice ℕ → LentOutputs → LentMemory
 memory xs ys sums results w =
     record {
-      found = record { xs = before xs; ys = before ys; sums = before sums; results = before results; outputs = w .found };
-      left = record { xs = after xs; ys = after ys; sums = after sums; results = after results; outputs = w .left };
+      found = record { columns = columnsOf (before xs) (before ys); sums = before sums; results = before results; outputs = w .found };
+      left = record { columns = columnsOf (after xs) (after ys); sums = after sums; results = after results; outputs = w .left };
     }
 
 -- the calls cs from a book just opened: n is the book, m the memory before and m′ after
 pub record Ran (cs : List (Call ReadCall)) (width n : ℕ) (m m′ : Memory) : Type 0 where
   -- demand 3 of these calls: columns and sums below are the plain ledger's
-  pub whole : WholeBook (m .xs) (m .ys) (m .sums) cs
-  pub book : n ≡ length (ledgerEnd (lentOf (m .xs) (m .ys) (m .sums)) [] cs)
-  pub xs : m′ .xs ≡ final (opened (m .xs) (m .ys) (m .sums)) cs .columns ofX
-  pub ys : m′ .ys ≡ final (opened (m .xs) (m .ys) (m .sums)) cs .columns ofY
-  pub sums : m′ .sums ≡ final (opened (m .xs) (m .ys) (m .sums)) cs .sums
+  pub whole : WholeBook (m .columns) (m .sums) cs
+  pub book : n ≡ length (ledgerEnd (lentOf (m .columns) (m .sums)) [] cs)
+  pub columns : m′ .columns ≡ final (opened (m .columns) (m .sums)) cs .columns
+  pub sums : m′ .sums ≡ final (opened (m .columns) (m .sums)) cs .sums
   -- and all that is recorded is what the plain ledger replies
-  pub results : m′ .results ≡ writeAll putResults 0 (ledgerReplies readOn (lentOf (m .xs) (m .ys) (m .sums)) [] cs) (m .results)
-  pub outputs : m′ .outputs ≡ writeAll (putOutputs width) 0 (ledgerReplies readOn (lentOf (m .xs) (m .ys) (m .sums)) [] cs) (m .outputs)
+  pub results : m′ .results ≡ writeAll putResults 0 (ledgerReplies readOn (lentOf (m .columns) (m .sums)) [] cs) (m .results)
+  pub outputs : m′ .outputs ≡ writeAll (putOutputs width) 0 (ledgerReplies readOn (lentOf (m .columns) (m .sums)) [] cs) (m .outputs)
 
 -- ---- the promise of `replay`
 

@@ -16,6 +16,7 @@ use Rattle.ledger.specs.ReadCalls.{ReadCall, readOn}
 use Rattle.replay.specs.declared.Done.{Done}
 use Rattle.report.specs.Outputs.{Outputs, LentOutputs}
 use Rattle.replay.specs.Replay.{Memory, LentMemory, Ran, resultsOf, overAllAt, putResults, putOutputs}
+use Rattle.samples.specs.Columns.{Columns}
 
 -- the five results
 abbrev pub resultsIn : Done → List ℕ
@@ -32,8 +33,8 @@ reportRecord n (reports.Report d s o p) = record { count = n; number = 0; size =
 reportRecord n (reports.Refused r) = record { count = n; number = r; size = 0; solved = 0; outliers = 0; pruned = 0 }
 
 -- a call that changes a book
-pub record Changed (s : State) (c : Call ReadCall) (d : Done) (a b t : List Float) : Type 0 where
-  pub state : stateOf (d .count) a b t ≡ next s c
+pub record Changed (s : State) (c : Call ReadCall) (d : Done) (left : Columns) (sums : List Float) : Type 0 where
+  pub state : stateOf (d .count) left sums ≡ next s c
   pub results : resultsIn d ≡ resultsOf (reply readOn s c)
 
 -- a report into windows that are cut from this place on
@@ -43,9 +44,9 @@ pub record Reported (n at : ℕ) (o : ReportOut) (d : Done) (w : LentOutputs) : 
 
 -- the call c, the k-th, from the book n and the memory m: n′ and m′ are left
 pub record Turned (c : Call ReadCall) (width k n n′ : ℕ) (m m′ : Memory) : Type 0 where
-  pub state : stateOf n′ (m′ .xs) (m′ .ys) (m′ .sums) ≡ next (stateOf n (m .xs) (m .ys) (m .sums)) c
-  pub results : m′ .results ≡ putResults k (reply readOn (stateOf n (m .xs) (m .ys) (m .sums)) c) (m .results)
-  pub outputs : m′ .outputs ≡ putOutputs width k (reply readOn (stateOf n (m .xs) (m .ys) (m .sums)) c) (m .outputs)
+  pub state : stateOf n′ (m′ .columns) (m′ .sums) ≡ next (stateOf n (m .columns) (m .sums)) c
+  pub results : m′ .results ≡ putResults k (reply readOn (stateOf n (m .columns) (m .sums)) c) (m .results)
+  pub outputs : m′ .outputs ≡ putOutputs width k (reply readOn (stateOf n (m .columns) (m .sums)) c) (m .outputs)
 
 -- in a contract
 abbrev pub TurnIs : Call ReadCall → ℕ → ℕ → ℕ → ℕ → LentMemory → Type 0

@@ -11,12 +11,13 @@ ghost use Prim.Native.Nat.{_+_, _*_, _≤_, _<_};
 ghost use lib.ListN.{length};
 ghost use Rattle.book.specs.Calls.{stateOf};
 ghost use Rattle.report.specs.Reports.{reportOut};
-ghost use Rattle.lent.specs.Slices.{before};
+ghost use Rattle.lent.specs.Slices.{before, after};
 ghost use Rattle.lent.specs.Written.{over};
 ghost use Rattle.report.specs.Outputs.{outputs, outputsNow};
 ghost use Rattle.replay.specs.Records.{settingsAt, placesAt, callOf, callAt, callsOf, holds, holdsAll, fitsIn, allFit, hasRoom, wellFormed};
 ghost use Rattle.replay.specs.Replay.{ReplayIs, memory, buffersOf};
 ghost use Rattle.replay.specs.Steps.{resultsIn, changeRecord, reportRecord, Changed, Reported, TurnIs, RunIs, Stands, Windows};
+ghost use Rattle.samples.specs.Columns.{columnsOf};
 
 // How a replay ends: with the book after the last call, or because the buffers do not hold a list of calls.
 pub enum Replayed {
@@ -45,7 +46,7 @@ pub struct Done {
 // The settings of the k-th record.
 fn settings_at(kinds: &[u32], words: &[usize], numbers: &[f64], k: usize) -> Settings
     requires { ⌜ Stands (now kinds) (now words) (now numbers) k ⌝ }
-    ensures { λ r. ⌜ r ≡ settingsAt (now (kinds .entry)) (now (words .entry)) (now (numbers .entry)) k ⌝ }
+    ensures { λ r. ⌜ r ≡ settingsAt (before kinds) (before words) (before numbers) k ⌝ }
 {
     let kind = 5 * k;
     let word = 9 * k;
@@ -63,7 +64,7 @@ fn settings_at(kinds: &[u32], words: &[usize], numbers: &[f64], k: usize) -> Set
 // The lengths of the k-th record.
 fn places_at(words: &[usize], k: usize) -> Places
     requires { ⌜ 9 * k + 9 ≤ length (now words) ⌝ }
-    ensures { λ r. ⌜ r ≡ placesAt (now (words .entry)) k ⌝ }
+    ensures { λ r. ⌜ r ≡ placesAt (before words) k ⌝ }
 {
     let word = 9 * k;
     Places {
@@ -103,7 +104,7 @@ fn fits_in(width: usize, p: Places) -> bool
 // Whether that of the first m records does.
 fn all_fit(words: &[usize], width: usize, m: usize) -> bool
     requires { ⌜ 9 * m ≤ length (now words) ⌝ }
-    ensures { λ r. ⌜ r ≡ allFit (now (words .entry)) width m ⌝ }
+    ensures { λ r. ⌜ r ≡ allFit (before words) width m ⌝ }
 {
     let mut fit = true;
     for k in 0..m {
@@ -140,7 +141,7 @@ fn has_room(m: usize, words: usize, numbers: usize, width: usize, b: Buffers) ->
 
 // Whether the buffers hold a list of calls, with room for all that is written.
 fn well_formed(kinds: &[u32], words: &[usize], numbers: &[f64], width: usize, b: Buffers) -> bool
-    ensures { λ r. ⌜ r ≡ wellFormed (now (kinds .entry)) (now (words .entry)) (now (numbers .entry)) width b ⌝ }
+    ensures { λ r. ⌜ r ≡ wellFormed (before kinds) (before words) (before numbers) width b ⌝ }
 {
     let calls = kinds.len() / 5;
     if !has_room(calls, words.len(), numbers.len(), width, b) {
@@ -219,7 +220,7 @@ fn record_report(old: Book, a: ReportAnswer) -> Done
 // The five results of a call.
 fn put(d: Done, out: &mut [usize])
     requires { ⌜ 5 ≤ length (now out) ⌝ }
-    ensures { λ _. ⌜ now (out .exit) ≡ over (resultsIn d) (now (out .entry)) ⌝ }
+    ensures { λ _. ⌜ after out ≡ over (resultsIn d) (before out) ⌝ }
 {
     out[0] = d.number;
     out[1] = d.size;
@@ -242,7 +243,7 @@ fn change(
     sums: &mut [f64],
 ) -> Done
     requires { ⌜ kind < 3 ⌝ }
-    ensures { λ r. ⌜ Changed (stateOf (book .count) (now (xs .entry)) (now (ys .entry)) (now (sums .entry))) (callOf kind index x y settings places) r (now (xs .exit)) (now (ys .exit)) (now (sums .exit)) ⌝ }
+    ensures { λ r. ⌜ Changed (stateOf (book .count) (columnsOf (before xs) (before ys)) (before sums)) (callOf kind index x y settings places) r (columnsOf (after xs) (after ys)) (after sums) ⌝ }
 {
     if kind == 0 {
         let a = book::add(book, x, y, xs, ys, sums);
@@ -274,7 +275,7 @@ fn report_at(
     outliers: &mut [u8],
 ) -> Done
     requires { ⌜ Windows at p (outputsNow scratch coefficients errors pruned lower upper outliers) ⌝ }
-    ensures { λ r. ⌜ Reported (book .count) at (reportOut (book .count) settings (before xs) (before ys) (before sums) p) r (outputs scratch coefficients errors pruned lower upper outliers) ⌝ }
+    ensures { λ r. ⌜ Reported (book .count) at (reportOut (book .count) settings (columnsOf (before xs) (before ys)) (before sums) p) r (outputs scratch coefficients errors pruned lower upper outliers) ⌝ }
 {
     let s = at + p.scratch;
     let c = at + p.coefficients;

@@ -11,7 +11,8 @@ use Rattle.basis.specs.declared.Basis.the-variants.{Curve}
 use Rattle.basis.specs.declared.OptionDegree.{OptionDegree}
 use Rattle.basis.specs.declared.OptionDegree.the-variants.{Some, None}
 use Rattle.basis.specs.declared.Degree.{Degree}
-use Rattle.samples.specs.Samples.{Sample, samplesOf}
+use Rattle.samples.specs.Samples.{Sample}
+use Rattle.samples.specs.Columns.{samplesOf, Columns, lengths}
 use Rattle.monomial.specs.Rows.{rowsOf}
 use Rattle.solve.specs.Solve.{solve}
 use Rattle.measure.specs.Measures.{inverseFails, covarianceAt}
@@ -71,23 +72,23 @@ unfolding writtenBy
 written-scratch n settings samples degree solved c v = refl
 
 -- a report of n samples, over the columns, the sums, and the memory w that it writes
-module _ (n : ℕ) (settings : Settings) (xs ys sums : List Float) (w : Outputs) where
+module _ (n : ℕ) (settings : Settings) (columns : Columns) (sums : List Float) (w : Outputs) where
   abbrev samples : List Sample
-  samples = samplesOf n xs ys
+  samples = samplesOf n columns
 
   abbrev refusal : ℕ
-  refusal = reportRefusal n settings samples (length xs ∷ length ys ∷ []) (length sums) (placesOf w)
+  refusal = reportRefusal n settings samples (lengths columns) (length sums) (placesOf w)
 
   -- r is the number of a refusal from 1 to 9
-  pub report-refused : (r : ℕ) → r ≡ refusal → (r ≡ 0 → ⊥) → ReportIs n settings xs ys sums (answers.Refused r) (record { found = w; left = w })
+  pub report-refused : (r : ℕ) → r ≡ refusal → (r ≡ 0 → ⊥) → ReportIs n settings columns sums (answers.Refused r) (record { found = w; left = w })
   unfolding reportOn
   report-refused zero q h = absurd (h refl)
   report-refused (suc k) q h = rw (← q) (record { answer = refl; outputs = refl })
 
   -- none of them holds
   module _ (r : ℕ) (is : r ≡ refusal) (none : r ≡ 0) where
-    pub has-room : ReportRoom n settings (length xs ∷ length ys ∷ []) (length sums) (placesOf w)
-    has-room = report-room n settings samples (length xs ∷ length ys ∷ []) (length sums) (placesOf w) (sym is ∙ none)
+    pub has-room : ReportRoom n settings (lengths columns) (length sums) (placesOf w)
+    has-room = report-room n settings samples (lengths columns) (length sums) (placesOf w) (sym is ∙ none)
 
     -- m is what was chosen, and u scratch after it
     module _ (m : Chosen) (u : List Float) (ch : Chooses n settings samples (take 272 sums) (w .scratch) u m) where
@@ -106,7 +107,7 @@ module _ (n : ℕ) (settings : Settings) (xs ys sums : List Float) (w : Outputs)
 
       -- 11 or 12: scratch is cleared
       pub report-late : (m .number ≡ 0 → ⊥) → (t : List Float) → t ≡ zeros n ++ drop n u
-          → ReportIs n settings xs ys sums (answers.Refused (m .number))
+          → ReportIs n settings columns sums (answers.Refused (m .number))
           (record {
             found = w;
             left = record { scratch = t; coefficients = w .coefficients; errors = w .errors; pruned = w .pruned; lower = w .lower; upper = w .upper; outliers = w .outliers };
@@ -129,7 +130,7 @@ module _ (n : ℕ) (settings : Settings) (xs ys sums : List Float) (w : Outputs)
             found = record { scratch = u; coefficients = w .coefficients; errors = w .errors; pruned = w .pruned; lower = w .lower; upper = w .upper; outliers = w .outliers };
             left = w′;
           })
-          → ReportIs n settings xs ys sums a (record { found = w; left = w′ })
+          → ReportIs n settings columns sums a (record { found = w; left = w′ })
       unfolding reportOn reportPast
       report-whole h a w′ d =
           let o = writtenBy n settings samples (m .degree .0) (m .choice .solved) (m .c) (m .covariance) in

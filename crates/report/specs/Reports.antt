@@ -12,7 +12,8 @@ use Rattle.basis.specs.declared.OptionDegree.{OptionDegree}
 use Rattle.basis.specs.declared.OptionDegree.the-variants.{Some, None}
 use Rattle.statistics.specs.Scores.{zScore, tScore, degreesOfFreedom}
 use Rattle.statistics.specs.Variances.{stddevAndMean}
-use Rattle.samples.specs.Samples.{Sample, samplesOf, ysOf}
+use Rattle.samples.specs.Samples.{Sample, ysOf}
+use Rattle.samples.specs.Columns.{samplesOf, Columns, lengths}
 use Rattle.monomial.specs.Rows.{rowsOf}
 use Rattle.solve.specs.Solve.{solve}
 use Rattle.covariance.specs.Covariance.{errorsOf}
@@ -92,9 +93,9 @@ reportOn n settings samples sums columns length places =
     settle r (reportPast n settings samples sums) (refusedEarly r)
 
 -- the same on what stands in memory: what the call does
-abbrev pub reportOut : ℕ → Settings → List Float → List Float → List Float → Places → ReportOut
-reportOut n settings xs ys sums places =
-    reportOn n settings (samplesOf n xs ys) (take sumPlaces sums) (length xs ∷ length ys ∷ []) (length sums) places
+abbrev pub reportOut : ℕ → Settings → Columns → List Float → Places → ReportOut
+reportOut n settings columns sums places =
+    reportOn n settings (samplesOf n columns) (take sumPlaces sums) (lengths columns) (length sums) places
 
 -- ---- the promise
 
@@ -103,6 +104,6 @@ pub record Does (o : ReportOut) (r : ReportAnswer) (w : LentOutputs) : Type 0 wh
   pub answer : r ≡ o .answer
   pub outputs : w .left ≡ overAll (o .written) (w .found)
 
--- a report of the columns xs and ys and these sums
-abbrev pub ReportIs : ℕ → Settings → List Float → List Float → List Float → ReportAnswer → LentOutputs → Type 0
-ReportIs n settings xs ys sums r w = Does (reportOut n settings xs ys sums (placesOf (w .found))) r w
+-- a report of these columns and sums
+abbrev pub ReportIs : ℕ → Settings → Columns → List Float → ReportAnswer → LentOutputs → Type 0
+ReportIs n settings columns sums r w = Does (reportOut n settings columns sums (placesOf (w .found))) r w

@@ -14,8 +14,9 @@ use settings::Settings;
 ghost use Prim.Native.Nat.{_+_, _≤_, _<_};
 ghost use lib.ListN.{length};
 ghost use Rattle.basis.specs.Sizes.{highestDegree, maxTerms, sumPlaces};
-ghost use Rattle.samples.specs.Samples.{samplesOf};
+ghost use Rattle.samples.specs.Columns.{samplesOf, columnsOf};
 ghost use Rattle.statistics.specs.Degrees.{maxDegree};
+ghost use Rattle.lent.specs.Slices.{before, after};
 ghost use Rattle.report.specs.Outputs.{outputs};
 ghost use Rattle.report.specs.Reports.{Does, ReportIs, writtenBy};
 ghost use Rattle.report.specs.Chosen.{Chooses};
@@ -61,7 +62,7 @@ fn choose(
     scratch: &mut [f64],
 ) -> Chosen
     requires { ⌜ (n ≤ length (now xs)) × (n ≤ length (now ys)) × (n ≤ length (now scratch)) × (sumPlaces ≤ length (now sums)) × (maxDegree (settings .bound) n ≤ highestDegree) ⌝ }
-    ensures { λ r. ⌜ Chooses n settings (samplesOf n (now (xs .entry)) (now (ys .entry))) (now (sums .entry)) (now (scratch .entry)) (now (scratch .exit)) r ⌝ }
+    ensures { λ r. ⌜ Chooses n settings (samplesOf n (columnsOf (before xs) (before ys))) (before sums) (before scratch) (after scratch) r ⌝ }
 {
     let bound = settings.bound;
     let criterion = settings.criterion;
@@ -122,7 +123,7 @@ fn write(
 ) -> ReportAnswer
     requires { ⌜ (n ≤ length (now xs)) × (n ≤ length (now ys)) × (degree .0 < n) × (degree .0 ≤ highestDegree) ⌝ }
     requires { ⌜ (n ≤ length (now scratch)) × (maxTerms ≤ length (now coefficients)) × (maxTerms ≤ length (now errors)) × (maxTerms ≤ length (now pruned)) × (n ≤ length (now lower)) × (n ≤ length (now upper)) × (n ≤ length (now outliers)) ⌝ }
-    ensures { λ r. ⌜ Does (writtenBy n settings (samplesOf n (now (xs .entry)) (now (ys .entry))) (degree .0) solved c v) r (outputs scratch coefficients errors pruned lower upper outliers) ⌝ }
+    ensures { λ r. ⌜ Does (writtenBy n settings (samplesOf n (columnsOf (before xs) (before ys))) (degree .0) solved c v) r (outputs scratch coefficients errors pruned lower upper outliers) ⌝ }
 {
     let k = degree.k(Basis::Curve);
     let df = n - k.0;
@@ -175,7 +176,7 @@ pub fn report(
     upper: &mut [f64],
     outliers: &mut [u8],
 ) -> ReportAnswer
-    ensures { λ r. ⌜ ReportIs (book .count) settings (now (xs .entry)) (now (ys .entry)) (now (sums .entry)) r (outputs scratch coefficients errors pruned lower upper outliers) ⌝ }
+    ensures { λ r. ⌜ ReportIs (book .count) settings (columnsOf (before xs) (before ys)) (before sums) r (outputs scratch coefficients errors pruned lower upper outliers) ⌝ }
 {
     let n = book.count;
     let places = Places {

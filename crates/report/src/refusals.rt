@@ -4,8 +4,9 @@ use basis::TERMS;
 ghost use mathlib.Core.Path.{_≡_};
 ghost use mathlib.Core.List.{[], _∷_};
 ghost use lib.ListN.{length};
-ghost use Rattle.samples.specs.Samples.{samplesOf};
+ghost use Rattle.samples.specs.Columns.{samplesOf, columnsOf, lengths};
 ghost use Rattle.refusal.specs.Tests.{tooShort};
+ghost use Rattle.lent.specs.Slices.{before};
 ghost use Rattle.report.specs.Refusals.{reportNeeds, reportRefusal};
 use crate::Places;
 use settings::Settings;
@@ -40,7 +41,7 @@ pub fn report_refusal(
     sums: usize,
     places: Places,
 ) -> u8
-    ensures { λ r. ⌜ r ≡ reportRefusal n settings (samplesOf n (now (xs .entry)) (now (ys .entry))) (length (now (xs .entry)) ∷ length (now (ys .entry)) ∷ []) sums places ⌝ }
+    ensures { λ r. ⌜ r ≡ reportRefusal n settings (samplesOf n (columnsOf (before xs) (before ys))) (lengths (columnsOf (before xs) (before ys))) sums places ⌝ }
 {
     if report_short(n, xs.len(), ys.len(), sums, places) {
         return 1;

@@ -1,10 +1,36 @@
 -- Laws of Columns.antt.
-use mathlib.Core.Path.{_≡_, refl, fun-ext}
-use Rattle.samples.specs.Columns.{Column, ofX, ofY, Columns, columnsOf}
+use mathlib.Core.Path.{_≡_, sym, fun-ext, _∙_}
+use mathlib.Core.List.{List, [], _∷_, _++_, map}
+use Prim.Native.Nat.{ℕ, _+_, _≤_}
+use lib.ListN.{length, take}
+use lib.Ieee.{Float, nan}
+use Rattle.loops.specs.Places.{table}
+use Rattle.loops.specs.PlaceLaws.{table-again, length-table, map-table, table-take}
+use Rattle.samples.specs.Samples.{Sample}
+use Rattle.samples.specs.Columns.{Column, ofX, ofY, value, Columns, columnsOf, sampleAt, samplesOf}
 
-pub columns-are : (c : Columns) → columnsOf (c ofX) (c ofY) ≡ c
-columns-are c = fun-ext by-column
-  where
-    by-column : (k : Column) → columnsOf (c ofX) (c ofY) k ≡ c k
-    by-column ofX = refl
-    by-column ofY = refl
+-- columns are what each of them is
+pub columns-are : {c : Columns} {xs ys : List Float} → xs ≡ c ofX → ys ≡ c ofY → columnsOf xs ys ≡ c
+columns-are e f = fun-ext (elim [ ofX ↦ e | ofY ↦ f ])
+
+-- ---- the samples of the first n places
+
+module _ (n : ℕ) (c : Columns) where
+  pub length-samples : length (samplesOf n c) ≡ n
+  unfolding samplesOf
+  length-samples = length-table (sampleAt c) n
+
+  -- one place more is one sample more at the end
+  pub samples-again : samplesOf (n + 1) c ≡ samplesOf n c ++ (sampleAt c n ∷ [])
+  unfolding samplesOf
+  samples-again = table-again (sampleAt c) n
+
+  -- what g makes of each sample
+  pub map-samples : {B : Type 0} (g : Sample → B) → table (λ t. g (sampleAt c t)) n ≡ map g (samplesOf n c)
+  unfolding samplesOf
+  map-samples g = map-table g (sampleAt c) n
+
+  -- the values of the samples are the first n places of their column
+  pub column-of-samples : (k : Column) → n ≤ length (c k) → map (value k) (samplesOf n c) ≡ take n (c k)
+  column-of-samples ofX h = sym (map-samples (value ofX)) ∙ table-take nan n (c ofX) h
+  column-of-samples ofY h = sym (map-samples (value ofY)) ∙ table-take nan n (c ofY) h

@@ -1,5 +1,4 @@
 -- Samples, and the columns that they stand in.
 pub mod Samples
-pub mod SampleLaws
 pub mod Columns
 pub mod ColumnLaws

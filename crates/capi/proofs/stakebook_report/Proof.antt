@@ -2,6 +2,7 @@
 use Prim.Native.Nat.{_-_}
 use borrow.Author.Needs.{needs}
 use Rattle.capi.specs.Fitting.{report-fits}
+use Rattle.samples.specs.Columns.{columnsOf}
 use Rattle.capi.proofs.Promises.{report-packed}
 use Rattle.capi.proofs.stakebook_report.Statement.{statement}
 use Rattle.capi.proofs.stakebook_report.Tie as tie
@@ -10,7 +11,7 @@ packed-report-requires : tie.Need-packed-report-requires
 packed-report-requires c κs =
     let at-report = c .before .before .before .before .before .before .before .before .before .before .before .before .before .before .report in
     let at-args = c .before .before .before .before .before .before .before .before .before .before .before .before .before .before .before .before .before .before .before .before .before .before .before .before .before .before .before .before .before .before .before .before .before .args in
-    rw (at-report .ensures .answer) (report-fits (at-args .count) _ (at-args .xs .now) (at-args .ys .now) (at-args .sums .now) _)
+    rw (at-report .ensures .answer) (report-fits (at-args .count) _ (columnsOf (at-args .xs .now) (at-args .ys .now)) (at-args .sums .now) _)
 
 returns : tie.Need-returns
 returns c =

@@ -9,7 +9,7 @@ use Rattle.value.specs.Numbers.{zeroF}
 use Rattle.loops.specs.Fold.{fold}
 use Rattle.loops.specs.Places.{each, table}
 use Rattle.loops.specs.PlaceLaws.{each-again}
-use Rattle.samples.specs.Samples.{samplesOf}
+use Rattle.samples.specs.Columns.{samplesOf, columnsOf}
 use Rattle.monomial.specs.Rows.{rowOf, rowsOf}
 use Rattle.monomial.specs.Adding.{addOne, addAll}
 use Rattle.monomial.specs.AddingLaws.{length-add-one, sums-afresh}
@@ -25,7 +25,7 @@ abbrev μ-loop : tie.MeasureT-loop
 μ-loop xs ys n g₀ k₀ g k = 16 - k
 
 abbrev Inv-loop2 : tie.InvT-loop2
-Inv-loop2 xs ys n g₀ t₀ g t = (t ≤ n) × (length g ≡ length g₀) × (g ≡ addAll rightProduct 16 g₀ (rowsOf (samplesOf t xs ys)))
+Inv-loop2 xs ys n g₀ t₀ g t = (t ≤ n) × (length g ≡ length g₀) × (g ≡ addAll rightProduct 16 g₀ (rowsOf (samplesOf t (columnsOf xs ys))))
 
 abbrev μ-loop2 : tie.MeasureT-loop2
 μ-loop2 xs ys n g₀ t₀ g t = n - t
@@ -47,7 +47,7 @@ loop2-again c =
     let at-loop2 = c .before .before .before .before .before .before .before .before .before .loop2 in
     let at-powers = c .before .before .before .before .before .before .powers in
     let at-args = c .before .before .before .before .before .before .before .before .before .before .before .before .before .before .before .args in
-    (search needs, ap length (c .before .before .add-right .ensures) ∙ length-add-one rightProduct 16 _ (record { terms = _; y = _ }) ∙ at-loop2 .inv .1, c .before .before .add-right .ensures ∙ (rw (at-powers .ensures, at-loop2 .inv .2) (sym (fold-rows-again (addOne rightProduct 16) _ (at-loop2 .t) (at-args .xs .now) (at-args .ys .now)))))
+    (search needs, ap length (c .before .before .add-right .ensures) ∙ length-add-one rightProduct 16 _ (record { terms = _; y = _ }) ∙ at-loop2 .inv .1, c .before .before .add-right .ensures ∙ (rw (at-powers .ensures, at-loop2 .inv .2) (sym (fold-rows-again (addOne rightProduct 16) _ (at-loop2 .t) (columnsOf (at-args .xs .now) (at-args .ys .now))))))
 
 returns : tie.Need-returns Inv-loop μ-loop Inv-loop2 μ-loop2
 returns c =

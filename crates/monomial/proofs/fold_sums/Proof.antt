@@ -9,7 +9,7 @@ use Rattle.value.specs.Numbers.{zeroF}
 use Rattle.loops.specs.Fold.{fold}
 use Rattle.loops.specs.Places.{each, table}
 use Rattle.loops.specs.PlaceLaws.{each-again}
-use Rattle.samples.specs.Samples.{samplesOf}
+use Rattle.samples.specs.Columns.{samplesOf, columnsOf}
 use Rattle.monomial.specs.Rows.{rowsOf}
 use Rattle.monomial.specs.Sums.{addRow, addRows}
 use Rattle.monomial.specs.SumLaws.{length-add-row, rows-afresh}
@@ -24,7 +24,7 @@ abbrev μ-loop : tie.MeasureT-loop
 μ-loop xs ys n sums₀ k₀ sums k = 272 - k
 
 abbrev Inv-loop2 : tie.InvT-loop2
-Inv-loop2 xs ys n sums₀ t₀ sums t = (t ≤ n) × (length sums ≡ length sums₀) × (sums ≡ addRows sums₀ (rowsOf (samplesOf t xs ys)))
+Inv-loop2 xs ys n sums₀ t₀ sums t = (t ≤ n) × (length sums ≡ length sums₀) × (sums ≡ addRows sums₀ (rowsOf (samplesOf t (columnsOf xs ys))))
 
 abbrev μ-loop2 : tie.MeasureT-loop2
 μ-loop2 xs ys n sums₀ t₀ sums t = n - t
@@ -44,7 +44,7 @@ loop2-again : tie.Need-loop2-again Inv-loop μ-loop Inv-loop2 μ-loop2
 loop2-again c =
     let at-loop2 = c .before .before .before .before .before .before .before .loop2 in
     let at-args = c .before .before .before .before .before .before .before .before .before .before .before .before .before .args in
-    (search needs, ap length (c .before .before .add-sample .ensures) ∙ length-add-row _ _ ∙ at-loop2 .inv .1, c .before .before .add-sample .ensures ∙ (rw (at-loop2 .inv .2) (sym (fold-rows-again addRow _ (at-loop2 .t) (at-args .xs .now) (at-args .ys .now)))))
+    (search needs, ap length (c .before .before .add-sample .ensures) ∙ length-add-row _ _ ∙ at-loop2 .inv .1, c .before .before .add-sample .ensures ∙ (rw (at-loop2 .inv .2) (sym (fold-rows-again addRow _ (at-loop2 .t) (columnsOf (at-args .xs .now) (at-args .ys .now))))))
 
 returns : tie.Need-returns Inv-loop μ-loop Inv-loop2 μ-loop2
 returns c =

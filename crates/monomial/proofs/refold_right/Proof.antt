@@ -2,7 +2,7 @@
 use borrow.Author.Needs.{needs}
 use lib.ListN.{drop}
 use Rattle.loops.specs.PlaceLaws.{tail-back}
-use Rattle.samples.specs.Samples.{samplesOf}
+use Rattle.samples.specs.Columns.{samplesOf, columnsOf}
 use Rattle.monomial.specs.Rows.{rowsOf}
 use Rattle.monomial.specs.Sums.{sumsOf}
 use Rattle.monomial.proofs.refold_right.Statement.{statement}
@@ -11,7 +11,7 @@ use Rattle.monomial.proofs.refold_right.Tie as tie
 returns : tie.Need-returns
 returns c =
     let at-args = c .before .before .before .before .before .before .before .args in
-    rw (c .before .before .fold-right .ensures) (tail-back 256 16 (at-args .sums .now) (drop 256 (sumsOf (rowsOf (samplesOf (at-args .n) (at-args .xs .now) (at-args .ys .now))))))
+    rw (c .before .before .fold-right .ensures) (tail-back 256 16 (at-args .sums .now) (drop 256 (sumsOf (rowsOf (samplesOf (at-args .n) (columnsOf (at-args .xs .now) (at-args .ys .now)))))))
 
 pub refold-right-spec : {M : Type 1} → statement M
 refold-right-spec =

@@ -8,8 +8,8 @@ use lib.Seq.{length-take-le}
 use Rattle.basis.specs.CountLaws.{curve-count}
 use Rattle.monomial.specs.RowLaws.{curve-rows}
 use Rattle.monomial.specs.TermLaws.{curve-terms}
-use Rattle.samples.specs.Samples.{samplesOf}
-use Rattle.samples.specs.SampleLaws.{ys-of-samples}
+use Rattle.samples.specs.Columns.{ofY, samplesOf, columnsOf}
+use Rattle.samples.specs.ColumnLaws.{column-of-samples}
 use Rattle.statistics.specs.Variances.{stddevAndMean}
 use Rattle.lent.specs.WrittenLaws.{over-cleared}
 use Rattle.query.specs.RefusalLaws.{band-room}
@@ -65,7 +65,7 @@ returns-2 c =
     let ran = rw (c .before .before .before .before .before .before .before .before .before .before .before .k .ensures, same) at (at-measure .ensures) in
     let at-clear = c .before .before .before .before .clear in
     band-through _ _ _ _ _ (sym (at-band-refusal .ensures) ∙ at-if1 .left)
-    (band-late (at-args .book .count) (at-args .x) (at-args .degree .0) (at-args .confidence) (at-args .tolerance) (samplesOf (at-args .book .count) (at-args .xs .now) (at-args .ys .now)) _ _ _ (over-cleared _ _ _ _ (ran .within) (at-clear .ensures)) _ (ran .number) (c .if2 .taken))
+    (band-late (at-args .book .count) (at-args .x) (at-args .degree .0) (at-args .confidence) (at-args .tolerance) (samplesOf (at-args .book .count) (columnsOf (at-args .xs .now) (at-args .ys .now))) _ _ _ (over-cleared _ _ _ _ (ran .within) (at-clear .ensures)) _ (ran .number) (c .if2 .taken))
 
 stddev-and-mean-requires : tie.Need-stddev-and-mean-requires
 stddev-and-mean-requires c κs =
@@ -98,8 +98,8 @@ returns-3 c =
     let at-stddev-and-mean = c .before .before .before .stddev-and-mean in
     let w = band-room _ _ _ _ _ (at-args .x) (at-args .degree .0) (at-args .confidence) (at-args .tolerance) (sym (at-band-refusal .ensures) ∙ at-if1 .left) in
     band-through _ _ _ _ _ (sym (at-band-refusal .ensures) ∙ at-if1 .left)
-    (band-made (at-args .book .count) (at-args .x) (at-args .degree .0) (at-args .confidence) (at-args .tolerance) (samplesOf (at-args .book .count) (at-args .xs .now) (at-args .ys .now)) _ _ _ (over-cleared _ _ _ _ (ran .within) (at-clear .ensures)) (sym (at-if2 .left) ∙ ran .number) _ _ _ _ _ (ran .coefficients) (ran .covariance (at-if2 .left)) (at-z-score .ensures)
-    (at-stddev-and-mean .ensures ∙ ap stddevAndMean (sym (ys-of-samples (at-args .book .count) (at-args .xs .now) (at-args .ys .now) (w .0 .within .1 .0)))) (rw (c .before .before .before .before .before .before .before .before .before .before .before .before .before .before .before .before .before .before .k .ensures, curve-terms) at (c .band-at .ensures)))
+    (band-made (at-args .book .count) (at-args .x) (at-args .degree .0) (at-args .confidence) (at-args .tolerance) (samplesOf (at-args .book .count) (columnsOf (at-args .xs .now) (at-args .ys .now))) _ _ _ (over-cleared _ _ _ _ (ran .within) (at-clear .ensures)) (sym (at-if2 .left) ∙ ran .number) _ _ _ _ _ (ran .coefficients) (ran .covariance (at-if2 .left)) (at-z-score .ensures)
+    (at-stddev-and-mean .ensures ∙ ap stddevAndMean (sym (column-of-samples (at-args .book .count) (columnsOf (at-args .xs .now) (at-args .ys .now)) ofY (w .0 .within .1 .0)))) (rw (c .before .before .before .before .before .before .before .before .before .before .before .before .before .before .before .before .before .before .k .ensures, curve-terms) at (c .band-at .ensures)))
 
 pub band-spec : {M : Type 1} → statement M
 band-spec =

@@ -4,7 +4,7 @@ use mathlib.Core.List.{List}
 use Prim.Native.Nat.{_+_, _-_}
 use native.Mathlib.Omega.{arith}
 use borrow.Author.Needs.{needs}
-use Rattle.samples.specs.Samples.{samplesOf}
+use Rattle.samples.specs.Columns.{samplesOf, columnsOf}
 use Rattle.basis.specs.Counts.{countOf}
 use Rattle.basis.specs.declared.Basis.the-variants.{Curve}
 use Rattle.monomial.specs.Rows.{Row, rowsOf}
@@ -50,7 +50,7 @@ returns-2 c =
     let at-choose-by-folds = c .before .before .before .before .before .before .before .before .choose-by-folds in
     let at-enum-told = c .before .before .before .before .enum-told in
     let found = at-choose-by-folds .ensures .0 ∙ ap (λ (rows : List Row). validatedChoice (at-args .criterion) rows (at-args .folds) (at-max-degree .result .0)) (curve-rows (at-args .book .count) (at-args .xs .now) (at-args .xs .now) (at-args .ys .now)) in
-    let same = ap (λ b. validatedChoice (at-args .criterion) (rowsOf (samplesOf (at-args .book .count) (at-args .xs .now) (at-args .ys .now))) (at-args .folds) b) (at-max-degree .ensures) in
+    let same = ap (λ b. validatedChoice (at-args .criterion) (rowsOf (samplesOf (at-args .book .count) (columnsOf (at-args .xs .now) (at-args .ys .now)))) (at-args .folds) b) (at-max-degree .ensures) in
     let-through _ _ _ _ _ _ _ (sym (at-validate-refusal .ensures) ∙ at-if1 .left)
     (none-validated _ _ _ _ _ _ (sym same ∙ sym found ∙ at-enum-told .given .1) _ (over-cleared _ _ _ _ (at-choose-by-folds .ensures .1) (c .before .before .clear .ensures)))
 
@@ -65,7 +65,7 @@ solve-at-requires c κs =
     let at-chosen = c .before .before .before .chosen in
     let w = validate-room _ _ _ _ _ (at-args .folds) (at-args .bound) _ (sym (at-validate-refusal .ensures) ∙ at-if1 .left) in
     let found = at-choose-by-folds .ensures .0 ∙ ap (λ (rows : List Row). validatedChoice (at-args .criterion) rows (at-args .folds) (at-max-degree .result .0)) (curve-rows (at-args .book .count) (at-args .xs .now) (at-args .xs .now) (at-args .ys .now)) in
-    let d = chosen (λ d. validated (at-args .criterion) (rowsOf (samplesOf (at-args .book .count) (at-args .xs .now) (at-args .ys .now))) (at-args .folds) (countOf Curve d)) (at-max-degree .result .0 + 1) _ (sym found ∙ at-chosen .given .1) in
+    let d = chosen (λ d. validated (at-args .criterion) (rowsOf (samplesOf (at-args .book .count) (columnsOf (at-args .xs .now) (at-args .ys .now)))) (at-args .folds) (countOf Curve d)) (at-max-degree .result .0 + 1) _ (sym found ∙ at-chosen .given .1) in
     (w .0 .within .0, w .0 .within .1 .0, omega (arith, w .0 .enough .1 .0, at-choose-by-folds .ensures .1 .long), w .0 .enough .0, w .0 .enough .1 .1 .0, omega (arith, w .1, at-max-degree .ensures, d .within))
 
 returns-3 : tie.Need-returns-3
@@ -79,7 +79,7 @@ returns-3 c =
     let at-chosen = c .before .before .before .before .before .before .before .before .chosen in
     let at-solve-at = c .before .before .before .before .solve-at in
     let found = at-choose-by-folds .ensures .0 ∙ ap (λ (rows : List Row). validatedChoice (at-args .criterion) rows (at-args .folds) (at-max-degree .result .0)) (curve-rows (at-args .book .count) (at-args .xs .now) (at-args .xs .now) (at-args .ys .now)) in
-    let same = ap (λ b. validatedChoice (at-args .criterion) (rowsOf (samplesOf (at-args .book .count) (at-args .xs .now) (at-args .ys .now))) (at-args .folds) b) (at-max-degree .ensures) in
+    let same = ap (λ b. validatedChoice (at-args .criterion) (rowsOf (samplesOf (at-args .book .count) (columnsOf (at-args .xs .now) (at-args .ys .now)))) (at-args .folds) b) (at-max-degree .ensures) in
     let-through _ _ _ _ _ _ _ (sym (at-validate-refusal .ensures) ∙ at-if1 .left)
     (one-validated _ _ _ _ _ _ _ (sym same ∙ sym found ∙ at-chosen .given .1) _ _ _ _ (at-choose-by-folds .ensures .1) (at-solve-at .ensures))
 

@@ -5,6 +5,7 @@ use native.Mathlib.Omega.{arith}
 use borrow.Author.Needs.{needs}
 use Rattle.report.specs.Outputs.{Outputs}
 use Rattle.report.specs.Reports.{reportOut}
+use Rattle.samples.specs.Columns.{columnsOf}
 use Rattle.replay.proofs.Laws.{window-same}
 use Rattle.replay.proofs.Calls.{report-into}
 use Rattle.replay.proofs.report_at.Statement.{statement}
@@ -171,7 +172,7 @@ returns c =
     let at-args = c .before .before .before .before .before .before .before .before .before .before .before .before .before .before .before .before .before .before .before .before .before .before .before .before .before .before .before .before .before .before .before .before .before .before .before .before .before .before .before .before .args in
     let at-pre = c .before .before .before .before .before .before .before .before .before .before .before .before .before .before .before .before .before .before .before .before .before .before .before .before .before .before .before .before .before .before .before .before .before .before .before .before .before .before .before .before .pre in
     let at-report = c .before .before .before .before .before .before .before .before .before .before .before .before .before .before .before .report in
-    report-into (at-args .book .count) (at-args .at) (at-args .p) (record { scratch = at-args .scratch .now; coefficients = at-args .coefficients .now; errors = at-args .errors .now; pruned = at-args .pruned .now; lower = at-args .lower .now; upper = at-args .upper .now; outliers = at-args .outliers .now }) (at-pre) (λ q. reportOut (at-args .book .count) (at-args .settings) (at-args .xs .now) (at-args .ys .now) (at-args .sums .now) q) (at-report .result) (c .record-report .result) _ (at-report .ensures) (at-report .kept .1 .1 .1 .1 .1 .0) (at-report .kept .1 .1 .1 .1 .1 .1 .0) (at-report .kept .1 .1 .1 .1 .1 .1 .1 .0) (at-report .kept .1 .1 .1 .1 .1 .1 .1 .1 .0) (at-report .kept .1 .1 .1 .1 .1 .1 .1 .1 .1 .0) (at-report .kept .1 .1 .1 .1 .1 .1 .1 .1 .1 .1 .0) (at-report .kept .1 .1 .1 .1 .1 .1 .1 .1 .1 .1 .1 .0) (c .record-report .ensures)
+    report-into (at-args .book .count) (at-args .at) (at-args .p) (record { scratch = at-args .scratch .now; coefficients = at-args .coefficients .now; errors = at-args .errors .now; pruned = at-args .pruned .now; lower = at-args .lower .now; upper = at-args .upper .now; outliers = at-args .outliers .now }) (at-pre) (λ q. reportOut (at-args .book .count) (at-args .settings) (columnsOf (at-args .xs .now) (at-args .ys .now)) (at-args .sums .now) q) (at-report .result) (c .record-report .result) _ (at-report .ensures) (at-report .kept .1 .1 .1 .1 .1 .0) (at-report .kept .1 .1 .1 .1 .1 .1 .0) (at-report .kept .1 .1 .1 .1 .1 .1 .1 .0) (at-report .kept .1 .1 .1 .1 .1 .1 .1 .1 .0) (at-report .kept .1 .1 .1 .1 .1 .1 .1 .1 .1 .0) (at-report .kept .1 .1 .1 .1 .1 .1 .1 .1 .1 .1 .0) (at-report .kept .1 .1 .1 .1 .1 .1 .1 .1 .1 .1 .1 .0) (c .record-report .ensures)
 
 pub report-at-spec : {M : Type 1} → statement M
 report-at-spec =

@@ -7,6 +7,7 @@ use Rattle.report.specs.declared.Places.{Places}
 use Rattle.book.specs.Calls.{stateOf}
 use Rattle.replay.specs.Records.{callCount}
 use Rattle.replay.specs.Replay.{Memory, buffersIn}
+use Rattle.samples.specs.Columns.{ofX, ofY, columnsOf}
 use Rattle.replay.proofs.Rooms.{stands, results-room, windows, sums-room}
 use Rattle.replay.proofs.Turns.{Upto, still-formed, none, more, all}
 use Rattle.replay.proofs.run.Statement.{statement}
@@ -14,7 +15,7 @@ use Rattle.replay.proofs.run.Tie as tie
 
 abbrev Inv-loop : tie.InvT-loop
 Inv-loop kinds words numbers width xs₀ ys₀ sums₀ results₀ scratch₀ coefficients₀ errors₀ pruned₀ lower₀ upper₀ outliers₀ count₀ m k₀ xs ys sums results scratch coefficients errors pruned lower upper outliers count k =
-    Upto kinds words numbers width (stateOf count₀ xs₀ ys₀ sums₀) (record { xs = xs₀; ys = ys₀; sums = sums₀; results = results₀; outputs = record { scratch = scratch₀; coefficients = coefficients₀; errors = errors₀; pruned = pruned₀; lower = lower₀; upper = upper₀; outliers = outliers₀ } }) count (record { xs = xs; ys = ys; sums = sums; results = results; outputs = record { scratch = scratch; coefficients = coefficients; errors = errors; pruned = pruned; lower = lower; upper = upper; outliers = outliers } }) k
+    Upto kinds words numbers width (stateOf count₀ (columnsOf xs₀ ys₀) sums₀) (record { columns = columnsOf xs₀ ys₀; sums = sums₀; results = results₀; outputs = record { scratch = scratch₀; coefficients = coefficients₀; errors = errors₀; pruned = pruned₀; lower = lower₀; upper = upper₀; outliers = outliers₀ } }) count (record { columns = columnsOf xs ys; sums = sums; results = results; outputs = record { scratch = scratch; coefficients = coefficients; errors = errors; pruned = pruned; lower = lower; upper = upper; outliers = outliers } }) k
 
 abbrev μ-loop : tie.MeasureT-loop
 μ-loop kinds words numbers width xs₀ ys₀ sums₀ results₀ scratch₀ coefficients₀ errors₀ pruned₀ lower₀ upper₀ outliers₀ count₀ m k₀ xs ys sums results scratch coefficients errors pruned lower upper outliers count k = m - k
@@ -29,8 +30,8 @@ turn-requires c κs =
     let at-open = c .before .before .before .before .before .before .before .before .before .before .before .before .before .before .before .before .«open» in
     let at-pre = c .before .before .before .before .before .before .before .before .before .before .before .before .before .before .before .before .before .before .before .before .before .before .before .before .before .before .before .before .before .before .before .before .pre in
     let at-loop-test = c .before .before .before .before .before .before .before .before .before .before .before .loop-test in
-    let m : Memory = (record { xs = at-loop .xs; ys = at-loop .ys; sums = at-loop .sums; results = at-loop .results; outputs = (record { scratch = at-loop .scratch; coefficients = at-loop .coefficients; errors = at-loop .errors; pruned = at-loop .pruned; lower = at-loop .lower; upper = at-loop .upper; outliers = at-loop .outliers }) }) in
-    let h = still-formed (at-args .kinds .now) (at-args .words .now) (at-args .numbers .now) (at-args .width) (record { xs = at-args .xs .now; ys = at-args .ys .now; sums = at-args .sums .now; results = at-args .results .now; outputs = (record { scratch = at-args .scratch .now; coefficients = at-args .coefficients .now; errors = at-args .errors .now; pruned = at-args .pruned .now; lower = at-args .lower .now; upper = at-args .upper .now; outliers = at-args .outliers .now }) }) _ m (at-open .kept .0) (at-loop .inv .same) (at-pre) in
+    let m : Memory = (record { columns = columnsOf (at-loop .xs) (at-loop .ys); sums = at-loop .sums; results = at-loop .results; outputs = (record { scratch = at-loop .scratch; coefficients = at-loop .coefficients; errors = at-loop .errors; pruned = at-loop .pruned; lower = at-loop .lower; upper = at-loop .upper; outliers = at-loop .outliers }) }) in
+    let h = still-formed (at-args .kinds .now) (at-args .words .now) (at-args .numbers .now) (at-args .width) (record { columns = columnsOf (at-args .xs .now) (at-args .ys .now); sums = at-args .sums .now; results = at-args .results .now; outputs = (record { scratch = at-args .scratch .now; coefficients = at-args .coefficients .now; errors = at-args .errors .now; pruned = at-args .pruned .now; lower = at-args .lower .now; upper = at-args .upper .now; outliers = at-args .outliers .now }) }) _ m (at-open .kept .0) (at-loop .inv .same) (at-pre) in
     let q : at-loop .k < callCount (at-args .kinds .now) = omega (arith, at-loop-test .taken) in
     (stands (at-args .kinds .now) (at-args .words .now) (at-args .numbers .now) (at-args .width) (at-loop .k) m h q, results-room (at-args .kinds .now) (at-args .words .now) (at-args .numbers .now) (at-args .width) (at-loop .k) m h q, windows (at-args .kinds .now) (at-args .words .now) (at-args .numbers .now) (at-args .width) (at-loop .k) m h q)
 
@@ -52,13 +53,13 @@ loop-again c =
     let at-loop-test = c .before .before .before .before .before .before .before .before .before .before .before .before .before .before .before .before .before .before .before .before .before .before .before .before .before .before .before .before .before .before .before .before .before .before .loop-test in
     let at-turn = c .before .before .before .before .before .before .before .before .before .before .before .before .before .before .before .before .before .before .before .before .before .before .turn in
     let q : at-loop .k < callCount (at-args .kinds .now) = omega (arith, at-loop-test .taken) in
-    more (at-args .kinds .now) (at-args .words .now) (at-args .numbers .now) (at-args .width) _ _ (at-loop .count) (record { xs = at-loop .xs; ys = at-loop .ys; sums = at-loop .sums; results = at-loop .results; outputs = (record { scratch = at-loop .scratch; coefficients = at-loop .coefficients; errors = at-loop .errors; pruned = at-loop .pruned; lower = at-loop .lower; upper = at-loop .upper; outliers = at-loop .outliers }) }) (at-loop .k) (at-loop .inv) q _ _ (at-turn .ensures) (record { xs = at-turn .kept .1 .1 .1 .1 .1 .1 .0; ys = at-turn .kept .1 .1 .1 .1 .1 .1 .1 .0; sums = at-turn .kept .1 .1 .1 .1 .1 .1 .1 .1 .0; results = at-turn .kept .1 .1 .1 .1 .1 .1 .1 .1 .1 .0; outputs = λ i. record { scratch = at-turn .kept .1 .1 .1 .1 .1 .1 .1 .1 .1 .1 .0 i; coefficients = at-turn .kept .1 .1 .1 .1 .1 .1 .1 .1 .1 .1 .1 .0 i; errors = at-turn .kept .1 .1 .1 .1 .1 .1 .1 .1 .1 .1 .1 .1 .0 i; pruned = at-turn .kept .1 .1 .1 .1 .1 .1 .1 .1 .1 .1 .1 .1 .1 .0 i; lower = at-turn .kept .1 .1 .1 .1 .1 .1 .1 .1 .1 .1 .1 .1 .1 .1 .0 i; upper = at-turn .kept .1 .1 .1 .1 .1 .1 .1 .1 .1 .1 .1 .1 .1 .1 .1 .0 i; outliers = at-turn .kept .1 .1 .1 .1 .1 .1 .1 .1 .1 .1 .1 .1 .1 .1 .1 .1 .0 i } })
+    more (at-args .kinds .now) (at-args .words .now) (at-args .numbers .now) (at-args .width) _ _ (at-loop .count) (record { columns = columnsOf (at-loop .xs) (at-loop .ys); sums = at-loop .sums; results = at-loop .results; outputs = (record { scratch = at-loop .scratch; coefficients = at-loop .coefficients; errors = at-loop .errors; pruned = at-loop .pruned; lower = at-loop .lower; upper = at-loop .upper; outliers = at-loop .outliers }) }) (at-loop .k) (at-loop .inv) q _ _ (at-turn .ensures) (record { columns = elim [ ofX ↦ at-turn .kept .1 .1 .1 .1 .1 .1 .0 | ofY ↦ at-turn .kept .1 .1 .1 .1 .1 .1 .1 .0 ]; sums = at-turn .kept .1 .1 .1 .1 .1 .1 .1 .1 .0; results = at-turn .kept .1 .1 .1 .1 .1 .1 .1 .1 .1 .0; outputs = λ i. record { scratch = at-turn .kept .1 .1 .1 .1 .1 .1 .1 .1 .1 .1 .0 i; coefficients = at-turn .kept .1 .1 .1 .1 .1 .1 .1 .1 .1 .1 .1 .0 i; errors = at-turn .kept .1 .1 .1 .1 .1 .1 .1 .1 .1 .1 .1 .1 .0 i; pruned = at-turn .kept .1 .1 .1 .1 .1 .1 .1 .1 .1 .1 .1 .1 .1 .0 i; lower = at-turn .kept .1 .1 .1 .1 .1 .1 .1 .1 .1 .1 .1 .1 .1 .1 .0 i; upper = at-turn .kept .1 .1 .1 .1 .1 .1 .1 .1 .1 .1 .1 .1 .1 .1 .1 .0 i; outliers = at-turn .kept .1 .1 .1 .1 .1 .1 .1 .1 .1 .1 .1 .1 .1 .1 .1 .1 .0 i } })
 
 same-length : tie.Need-same-length Inv-loop μ-loop
-same-length c = c .before .loop .inv .same .xs
+same-length c = c .before .loop .inv .same .columns ofX
 
 same-length-2 : tie.Need-same-length-2 Inv-loop μ-loop
-same-length-2 c = c .before .loop .inv .same .ys
+same-length-2 c = c .before .loop .inv .same .columns ofY
 
 same-length-3 : tie.Need-same-length-3 Inv-loop μ-loop
 same-length-3 c =
@@ -94,8 +95,8 @@ returns c =
     let at-args = c .before .before .before .before .before .before .before .before .before .before .before .before .before .before .before .before .before .before .before .before .before .args in
     let at-open = c .before .before .before .before .before .«open» in
     let at-pre = c .before .before .before .before .before .before .before .before .before .before .before .before .before .before .before .before .before .before .before .before .before .pre in
-    let m : Memory = (record { xs = at-args .xs .now; ys = at-args .ys .now; sums = at-args .sums .now; results = at-args .results .now; outputs = (record { scratch = at-args .scratch .now; coefficients = at-args .coefficients .now; errors = at-args .errors .now; pruned = at-args .pruned .now; lower = at-args .lower .now; upper = at-args .upper .now; outliers = at-args .outliers .now }) }) in
-    all (at-args .kinds .now) (at-args .words .now) (at-args .numbers .now) (at-args .width) m (at-open .result) _ (at-open .ensures) _ (ap (λ z. z .count) (c .before .before .record-change .ensures)) _ (record { xs = c .before .loop .xs; ys = c .before .loop .ys; sums = c .before .loop .sums; results = c .before .loop .results; outputs = (record { scratch = c .before .loop .scratch; coefficients = c .before .loop .coefficients; errors = c .before .loop .errors; pruned = c .before .loop .pruned; lower = c .before .loop .lower; upper = c .before .loop .upper; outliers = c .before .loop .outliers }) }) (c .before .loop .k) (c .before .loop .inv) (omega (arith, c .before .loop .inv .upto, c .loop-test .left)) (sums-room (at-args .kinds .now) (at-args .words .now) (at-args .numbers .now) (at-args .width) (buffersIn m) (at-pre))
+    let m : Memory = (record { columns = columnsOf (at-args .xs .now) (at-args .ys .now); sums = at-args .sums .now; results = at-args .results .now; outputs = (record { scratch = at-args .scratch .now; coefficients = at-args .coefficients .now; errors = at-args .errors .now; pruned = at-args .pruned .now; lower = at-args .lower .now; upper = at-args .upper .now; outliers = at-args .outliers .now }) }) in
+    all (at-args .kinds .now) (at-args .words .now) (at-args .numbers .now) (at-args .width) m (at-open .result) _ (at-open .ensures) _ (ap (λ z. z .count) (c .before .before .record-change .ensures)) _ (record { columns = columnsOf (c .before .loop .xs) (c .before .loop .ys); sums = c .before .loop .sums; results = c .before .loop .results; outputs = (record { scratch = c .before .loop .scratch; coefficients = c .before .loop .coefficients; errors = c .before .loop .errors; pruned = c .before .loop .pruned; lower = c .before .loop .lower; upper = c .before .loop .upper; outliers = c .before .loop .outliers }) }) (c .before .loop .k) (c .before .loop .inv) (omega (arith, c .before .loop .inv .upto, c .loop-test .left)) (sums-room (at-args .kinds .now) (at-args .words .now) (at-args .numbers .now) (at-args .width) (buffersIn m) (at-pre))
 
 pub run-spec : {M : Type 1} → statement M
 run-spec =

@@ -5,6 +5,7 @@ use native.Mathlib.Omega.{arith}
 use borrow.Author.Needs.{needs}
 use lib.ListN.{length-take, length-drop}
 use Rattle.replay.specs.Steps.{Windows}
+use Rattle.samples.specs.Columns.{columnsOf}
 use Rattle.replay.proofs.Turns.{turned-change, turned-report}
 use Rattle.replay.proofs.turn.Statement.{statement}
 use Rattle.replay.proofs.turn.Tie as tie
@@ -147,7 +148,7 @@ returns c =
     let at-places-at = c .before .before .before .before .before .before .before .before .before .before .before .before .before .before .before .before .before .before .before .places-at in
     let at-change = c .before .before .before .before .before .before .before .before .before .before .change in
     let at-if1 = c .before .before .before .before .before .before .before .before .before .before .before .before .before .before .before .before .before .if1 in
-    turned-change (at-args .kinds .now) (at-args .words .now) (at-args .numbers .now) (at-args .width) (at-args .k) (at-args .book .count) (record { xs = at-args .xs .now; ys = at-args .ys .now; sums = at-args .sums .now; results = at-args .results .now; outputs = (record { scratch = at-args .scratch .now; coefficients = at-args .coefficients .now; errors = at-args .errors .now; pruned = at-args .pruned .now; lower = at-args .lower .now; upper = at-args .upper .now; outliers = at-args .outliers .now }) }) _ _ (at-settings-at .ensures) (at-places-at .ensures) (at-change .result) _ (c .before .before .put .ensures) (c .before .before .put .kept .1 .0) _ _ _ (at-if1 .taken) (at-change .ensures)
+    turned-change (at-args .kinds .now) (at-args .words .now) (at-args .numbers .now) (at-args .width) (at-args .k) (at-args .book .count) (record { columns = columnsOf (at-args .xs .now) (at-args .ys .now); sums = at-args .sums .now; results = at-args .results .now; outputs = (record { scratch = at-args .scratch .now; coefficients = at-args .coefficients .now; errors = at-args .errors .now; pruned = at-args .pruned .now; lower = at-args .lower .now; upper = at-args .upper .now; outliers = at-args .outliers .now }) }) _ _ (at-settings-at .ensures) (at-places-at .ensures) (at-change .result) _ (c .before .before .put .ensures) (c .before .before .put .kept .1 .0) _ _ (at-if1 .taken) (at-change .ensures)
 
 mul-report-at : tie.Need-mul-report-at
 mul-report-at c =
@@ -230,7 +231,7 @@ returns-2 c =
     let at-places-at = c .before .before .before .before .before .before .before .before .before .before .before .before .before .before .before .before .before .before .before .before .before .before .before .before .before .before .before .before .before .before .before .places-at in
     let at-report-at = c .before .before .before .before .before .before .before .before .before .before .before .before .before .before .before .before .before .before .report-at in
     let at-if1 = c .before .before .before .before .before .before .before .before .before .before .before .before .before .before .before .before .before .before .before .before .before .before .before .before .before .before .before .before .before .if1 in
-    turned-report (at-args .kinds .now) (at-args .words .now) (at-args .numbers .now) (at-args .width) (at-args .k) (at-args .book .count) (record { xs = at-args .xs .now; ys = at-args .ys .now; sums = at-args .sums .now; results = at-args .results .now; outputs = (record { scratch = at-args .scratch .now; coefficients = at-args .coefficients .now; errors = at-args .errors .now; pruned = at-args .pruned .now; lower = at-args .lower .now; upper = at-args .upper .now; outliers = at-args .outliers .now }) }) _ _ (at-settings-at .ensures) (at-places-at .ensures) (at-report-at .result) _ (c .before .before .put2 .ensures) (c .before .before .put2 .kept .1 .0) _ (at-if1 .left) (at-report-at .ensures)
+    turned-report (at-args .kinds .now) (at-args .words .now) (at-args .numbers .now) (at-args .width) (at-args .k) (at-args .book .count) (record { columns = columnsOf (at-args .xs .now) (at-args .ys .now); sums = at-args .sums .now; results = at-args .results .now; outputs = (record { scratch = at-args .scratch .now; coefficients = at-args .coefficients .now; errors = at-args .errors .now; pruned = at-args .pruned .now; lower = at-args .lower .now; upper = at-args .upper .now; outliers = at-args .outliers .now }) }) _ _ (at-settings-at .ensures) (at-places-at .ensures) (at-report-at .result) _ (c .before .before .put2 .ensures) (c .before .before .put2 .kept .1 .0) _ (at-if1 .left) (at-report-at .ensures)
 
 pub turn-spec : {M : Type 1} → statement M
 turn-spec =

@@ -5,7 +5,7 @@ use native.Mathlib.Omega.{arith}
 use borrow.Author.Needs.{needs}
 use Rattle.basis.specs.CountLaws.{curve-count}
 use Rattle.basis.specs.declared.Basis.the-variants.{Curve}
-use Rattle.samples.specs.Samples.{samplesOf}
+use Rattle.samples.specs.Columns.{samplesOf, columnsOf}
 use Rattle.monomial.specs.Rows.{Row}
 use Rattle.monomial.specs.RowLaws.{curve-rows}
 use Rattle.fit.specs.Chosen.{choiceOf, countsOf}
@@ -19,7 +19,7 @@ k-requires c κs =
     let at-choose = c .before .before .before .before .before .choose in
     let at-max-degree = c .before .before .before .before .before .before .before .max-degree in
     let at-pre = c .before .before .before .before .before .before .before .before .before .before .before .before .pre in
-    let samples = samplesOf (at-args .n) (at-args .xs .now) (at-args .ys .now) in
+    let samples = samplesOf (at-args .n) (columnsOf (at-args .xs .now) (at-args .ys .now)) in
     let same = curve-rows (at-args .n) (at-args .xs .now) (at-args .xs .now) (at-args .ys .now) in
     let found = at-choose .ensures .0 ∙ ap (λ (rows : List Row). choiceOf (at-args .settings .criterion) (at-args .sums .now) rows (countsOf Curve (at-max-degree .result .0))) same in
     let m = chosen-most (at-args .n) (at-args .settings) samples (at-args .sums .now) (at-choose .result) _ (at-max-degree .ensures) found (at-pre .4) _ (c .before .chosen .given .1) in
@@ -32,7 +32,7 @@ measure-requires c κs =
     let at-max-degree = c .before .before .before .before .before .before .before .before .before .max-degree in
     let at-pre = c .before .before .before .before .before .before .before .before .before .before .before .before .before .before .pre in
     let at-chosen = c .before .before .before .chosen in
-    let samples = samplesOf (at-args .n) (at-args .xs .now) (at-args .ys .now) in
+    let samples = samplesOf (at-args .n) (columnsOf (at-args .xs .now) (at-args .ys .now)) in
     let same = curve-rows (at-args .n) (at-args .xs .now) (at-args .xs .now) (at-args .ys .now) in
     let found = at-choose .ensures .0 ∙ ap (λ (rows : List Row). choiceOf (at-args .settings .criterion) (at-args .sums .now) rows (countsOf Curve (at-max-degree .result .0))) same in
     let m = chosen-most (at-args .n) (at-args .settings) samples (at-args .sums .now) (at-choose .result) _ (at-max-degree .ensures) found (at-pre .4) _ (at-chosen .given .1) in
@@ -48,7 +48,7 @@ returns c =
     let at-args = c .before .before .before .before .before .before .before .before .before .before .before .args in
     let at-choose = c .before .before .before .before .choose in
     let at-max-degree = c .before .before .before .before .before .before .max-degree in
-    let samples = samplesOf (at-args .n) (at-args .xs .now) (at-args .ys .now) in
+    let samples = samplesOf (at-args .n) (columnsOf (at-args .xs .now) (at-args .ys .now)) in
     let same = curve-rows (at-args .n) (at-args .xs .now) (at-args .xs .now) (at-args .ys .now) in
     let found = at-choose .ensures .0 ∙ ap (λ (rows : List Row). choiceOf (at-args .settings .criterion) (at-args .sums .now) rows (countsOf Curve (at-max-degree .result .0))) same in
     chooses-none (at-args .n) (at-args .settings) samples (at-args .sums .now) (at-choose .result) _ (at-max-degree .ensures) found (c .enum-told .given .1) _ _ _ _ _ (at-choose .ensures .1)
@@ -60,7 +60,7 @@ returns-2 c =
     let at-max-degree = c .before .before .before .before .before .before .before .before .before .before .before .before .before .before .max-degree in
     let at-chosen = c .before .before .before .before .before .before .before .before .chosen in
     let at-measure = c .before .before .before .before .measure in
-    let samples = samplesOf (at-args .n) (at-args .xs .now) (at-args .ys .now) in
+    let samples = samplesOf (at-args .n) (columnsOf (at-args .xs .now) (at-args .ys .now)) in
     let same = curve-rows (at-args .n) (at-args .xs .now) (at-args .xs .now) (at-args .ys .now) in
     let found = at-choose .ensures .0 ∙ ap (λ (rows : List Row). choiceOf (at-args .settings .criterion) (at-args .sums .now) rows (countsOf Curve (at-max-degree .result .0))) same in
     chooses-some (at-args .n) (at-args .settings) samples (at-args .sums .now) (at-choose .result) _ (at-max-degree .ensures) found _ (at-chosen .given .1) (at-measure .result) _ _ _ (at-choose .ensures .1) (rw (c .before .before .before .before .before .before .k .ensures, same) at (at-measure .ensures))

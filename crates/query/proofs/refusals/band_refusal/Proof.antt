@@ -4,11 +4,12 @@ use mathlib.Core.Bool.{not, _&&_}
 use Prim.Native.Nat.{_-_}
 use borrow.Author.Needs.{needs}
 use lib.Dec.{eqb}
-use Rattle.samples.specs.SampleLaws.{xs-of-samples}
+use Rattle.samples.specs.ColumnLaws.{column-of-samples}
 use Rattle.refusal.specs.Laws.{first-of, first-end, first-holds, first-fails}
 use Rattle.refusal.specs.Rooms.{room}
 use Rattle.refusal.specs.Tests.{outside}
 use Rattle.query.specs.Refusals.{bandRefusal}
+use Rattle.samples.specs.Columns.{ofX, columnsOf}
 use Rattle.query.proofs.refusals.band_refusal.Statement.{statement}
 use Rattle.query.proofs.refusals.band_refusal.Tie as tie
 
@@ -43,7 +44,7 @@ returns-2 c =
     let at-degree-too-high = c .before .before .before .before .before .degree-too-high in
     let at-first = c .before .before .before .first in
     let within = room _ _ _ (sym (at-band-short .ensures) ∙ at-if1 .left) .within .0 in
-    let beyond = at-outside .ensures ∙ ap (outside (at-args .x)) (sym (xs-of-samples (at-args .n) (at-args .xs .now) (at-args .ys .now) within)) in
+    let beyond = at-outside .ensures ∙ ap (outside (at-args .x)) (sym (column-of-samples (at-args .n) (columnsOf (at-args .xs .now) (at-args .ys .now)) ofX within)) in
     first-fails 1 _ (at-band-short .ensures) (at-if1 .left)
     (first-of 4 _ (ap not (ap₂ _&&_ (ap₂ _&&_ (ap₂ _&&_ (at-is-finite .ensures) (at-score-finite .ensures)) (at-tolerance-finite .ensures)) (at-samples-finite .ensures)))
     (first-of 7 _ {t = eqb (at-args .n) 0} refl (first-of 8 _ (at-degree-too-high .ensures) (first-of 9 _ beyond first-end (at-first .ensures)) (c .before .before .first2 .ensures)) (c .before .first3 .ensures)) (c .first4 .ensures))
