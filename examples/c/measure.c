@@ -118,9 +118,32 @@ static void one_frame(void) { stakebook_add_frame(0, frame, sizeof frame, xs, RO
 static void one_fit(void) { fit(15); }
 static void one_band(void) { band(15); }
 static void one_report(void) { report(STAKEBOOK_CUSTOM_DEGREE, 15, STAKEBOOK_VARIANCE, 0.1); }
+static void one_reader(void) { stakebook_reader(frame, sizeof frame); }
+static void one_next(void) { stakebook_next(frame, sizeof frame, 3, numbers, STAKEBOOK_SAMPLE); }
 static void ten_folds(void) { validate(10, 15); }
 static void all_folds_3(void) { validate(ROOM, 3); }
 static void all_folds_15(void) { validate(ROOM, 15); }
+
+/* 16 adds and a report up to degree 15, in windows of 17 places */
+#define CALLS 17
+static uint32_t kinds[5 * CALLS];
+static size_t words[9 * CALLS], results[5 * CALLS];
+static double given[4 * CALLS], replayed_c[CALLS * CALLS], replayed_e[CALLS * CALLS];
+static uint8_t replayed_p[CALLS * CALLS];
+
+static void listed(void) {
+    for (size_t k = 0; k < 16; k++) given[4 * k] = given[4 * k + 1] = (double)k / 8 - 1;
+    const uint32_t kind[5] = {3, STAKEBOOK_CUSTOM_DEGREE, STAKEBOOK_AIC, STAKEBOOK_P95, STAKEBOOK_VARIANCE};
+    memcpy(kinds + 5 * 16, kind, sizeof kind);
+    const size_t word[9] = {0, 15, 16, 16, 16, 16, 16, 16, 16};
+    memcpy(words + 9 * 16, word, sizeof word);
+    given[4 * 16 + 3] = 0.1;
+}
+
+static void one_replay(void) {
+    stakebook_replay(kinds, 5 * CALLS, words, 9 * CALLS, given, 4 * CALLS, CALLS, xs, ROOM, ys, ROOM, sums, STAKEBOOK_SUMS, results, 5 * CALLS, scratch,
+                     ROOM, replayed_c, CALLS * CALLS, replayed_e, CALLS * CALLS, replayed_p, CALLS * CALLS, lower, ROOM, upper, ROOM, outliers, ROOM);
+}
 
 #define STACK (1 << 20)
 static unsigned char stack[STACK];
@@ -159,7 +182,7 @@ static void show_cost(const char *name, void (*call)(void), int times) {
         double took = seconds() - begun;
         if (took < best) best = took;
     }
-    printf("%s at 4,096: %zu bytes of stack, %.3f ms\n", name, used, 1000 * best);
+    printf("%s: %zu bytes of stack, %.3f ms\n", name, used, 1000 * best);
 }
 
 int main(void) {
@@ -189,6 +212,7 @@ int main(void) {
     frame[1] = (uint8_t)((sizeof frame - 2) & 0xFF);
     frame[2] = 1;
     for (size_t i = 3; i < sizeof frame; i += 8) memcpy(frame + i, one, 8);
+    puts("at n 4,096:");
     show_cost("open", one_open, 100);
     show_cost("add", one_add, 100);
     show_cost("correct", one_correct, 100);
@@ -197,6 +221,11 @@ int main(void) {
     show_cost("fit of degree 15", one_fit, 100);
     show_cost("band of degree 15", one_band, 100);
     show_cost("report up to degree 15", one_report, 100);
+    show_cost("reader", one_reader, 100);
+    show_cost("next", one_next, 100);
+    listed();
+    show_cost("replay of 16 adds and a report of these up to degree 15", one_replay, 100);
+    if (results[5 * 16] != 0) printf("the replay's report was refused by %zu\n", results[5 * 16]);
     show_cost("validate in 10 folds up to degree 15", ten_folds, 20);
     show_cost("validate in 4,096 folds up to degree 3", all_folds_3, 3);
     show_cost("validate in 4,096 folds up to degree 15", all_folds_15, 3);

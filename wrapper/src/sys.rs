@@ -173,8 +173,8 @@ extern "C" {
     ) -> u64;
 }
 
-/// Where a refusal's number stands, in the answer of a replay: the buffers hold no list of calls.
-/// No call is refused by it.
+/// What [`refusal`] gives of a replay's answer where the buffers hold no list of calls. No call is
+/// refused by it; an answer that is 255 itself is a book of 255 samples.
 pub const MALFORMED: u8 = 255;
 
 /// The number of the refusal in an answer, 0 if there is none.
@@ -182,7 +182,8 @@ pub fn refusal(answer: u64) -> u8 {
     (answer >> 56) as u8
 }
 
-/// The count of the book, in the answer of a call that changes one.
+/// The count of the book, in the answer of a call that changes one or of a replay; the offset, in
+/// the answer of a reader and of what it reads next, where 0 is the end.
 pub fn count(answer: u64) -> usize {
     (answer & 0x00FF_FFFF_FFFF_FFFF) as usize
 }
