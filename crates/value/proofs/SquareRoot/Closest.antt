@@ -318,14 +318,15 @@ few m k n a e h = far k (pow-lt-back (104 + (k + k)) 3172 (lt-of-le-of-lt (le-tr
     far : (k : ℕ) → 104 + (k + k) < 3172 → k ≤ 2000
     far k h = omega arith
 
-nearest-units : (x : Float) (n m k : ℕ) → n ≡ ulps x * 2 ^ 1074 → 2 ^ 104 ≤ m → m < 2 ^ 106 → n ≡ m * (2 ^ k * 2 ^ k) → k ≤ 2000 → Nearest x (units binary64 false (closestRoot m) k)
-nearest-units x n m k g a b e h =
+nearest-units : (x : Float) (n m k : ℕ) → T (positive x) → n ≡ ulps x * 2 ^ 1074 → 2 ^ 104 ≤ m → m < 2 ^ 106 → n ≡ m * (2 ^ k * 2 ^ k) → k ≤ 2000 → Nearest x (units binary64 false (closestRoot m) k)
+nearest-units x n m k p g a b e h =
     let q = closestRoot m in
     let r = units binary64 false q k in
     let w : HasValue r false (q * 2 ^ k) (2 ^ 1074) = units-val binary64 false q k (below-all q k (closest-high m b) h) in
     let s : ulps r ≡ q * 2 ^ k = ulps-of-value r (q * 2 ^ k) w in
     let t : m * (2 ^ k * 2 ^ k) ≡ ulps x * 2 ^ 1074 = sym e ∙ g in
     record {
+      of = p;
       held = units-fit q k (closest-high m b) h;
       above = positive-of-value r (q * 2 ^ k) w (mul-pos (lt-of-lt-of-le (pow-pos 52) (closest-low m b a)) (pow-pos k));
       over = λ y f. rw s (subst (λ (z : ℕ). ulps y < q * 2 ^ k → wholeSquare (ulps y + q * 2 ^ k) < 4 * z) t (both m k (ulps y) q (sides m k (ulps y) a b (grains-double y f)) .0));
@@ -344,7 +345,7 @@ rootF-nearest x f t =
     let big : n < 2 ^ 3172 = lt-of-le-of-lt (le-of-eq (e ∙ ap (λ (z : ℕ). z * 2 ^ 1074) (g .is))) (mul-lt-mul-of-pos-right (g .bound) (pow-pos 1074)) in
     let p : 0 < ulps x = subst (λ (z : ℕ). 0 < z) (sym (g .is)) (mul-pos (g .pos') (pow-pos (g .i))) in
     let r : rootF x ≡ units binary64 false (closestRoot (s .m)) (s .k) = positive-value x (ulps x) (g .value) p ∙ ap rootOf (sym e ∙ s .is) ∙ rootOf-is (s .m) (s .k) (s .lo) (s .hi) in
-    subst (λ (z : Float). Nearest x z) (sym r) (nearest-units x n (s .m) (s .k) e (s .lo) (s .hi) (s .is) (few (s .m) (s .k) n (s .lo) (s .is) big))
+    subst (λ (z : Float). Nearest x z) (sym r) (nearest-units x n (s .m) (s .k) t e (s .lo) (s .hi) (s .is) (few (s .m) (s .k) n (s .lo) (s .is) big))
   where
     more : (i : ℕ) → 1074 ≤ i + 1074
     more i = omega arith
