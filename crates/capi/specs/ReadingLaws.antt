@@ -1,14 +1,14 @@
 -- Laws of Reading.antt.
 use mathlib.Core.Path.{_≡_, refl, ap, _∙_}
 use mathlib.Core.Bool.{Bool, true, false}
-use mathlib.Core.List.{List, []}
+use mathlib.Core.List.{List}
 use Prim.Native.Nat.{ℕ, zero, suc, _+_, _-_, _*_, _/_, _%_, _≤_, _<_}
 use native.Mathlib.Nat.{add-mul-div-right, div-eq-of-lt, mod-eq-of-lt, mod-eq-sub-div-mul, add-sub-cancel}
 use native.Mathlib.Omega.{arith}
 use borrow.Author.Tests.{leb-true, leb-false}
 use lib.Dec.{leb}
 use lib.Ieee.{Float}
-use lib.ListN.{length, getD, take, length-take, length-map}
+use lib.ListN.{length}
 use Rattle.statistics.specs.declared.DegreeBound.{DegreeBound}
 use Rattle.statistics.specs.declared.Confidence.{Confidence}
 use Rattle.statistics.specs.declared.Tolerance.{Tolerance}
@@ -17,7 +17,7 @@ use Rattle.score.specs.declared.Criterion.{Criterion}
 use Rattle.book.specs.declared.Answer.{Answer}
 use Rattle.book.specs.declared.Answer.the-variants as books
 use Rattle.book.specs.Calls.{openOut, addOut, correctOut, withdrawOut, addFrameOut}
-use Rattle.samples.specs.Columns.{ofX, value, Columns}
+use Rattle.samples.specs.Columns.{Columns}
 use Rattle.frame.specs.Frame.{frameRefusal}
 use Rattle.frame.specs.Handed.{nextOf, openedBy, openedOf}
 use Rattle.frame.specs.HandedLaws.{next-whole, next-end}
@@ -32,11 +32,12 @@ use Rattle.report.specs.declared.Places.{Places}
 use Rattle.report.specs.declared.ReportAnswer.{ReportAnswer}
 use Rattle.report.specs.declared.ReportAnswer.the-variants as reports
 use Rattle.report.specs.Reports.{reportOut}
-use Rattle.ledger.specs.Ledger.{Call, Lent, lentOf, final, opened, ledgerEnd}
+use Rattle.ledger.specs.Ledger.{Call}
 use Rattle.ledger.specs.ReadCalls.{ReadCall}
 use Rattle.replay.specs.Replay.{Memory, Ran}
 use Rattle.capi.specs.Packed.{packedOpened, packedRead, bandInto, packedRefusal, packedBook, packedFit, packedBand, packedCounts, packedReport, BookFits, FitFits, BandFits, ReportFits}
 use Rattle.capi.specs.Fitting.{open-fits, add-fits, correct-fits, withdraw-fits, frame-fits, fit-fits, validate-fits, band-fits, report-fits}
+use Rattle.capi.specs.ReplayFitting.{replay-fits}
 use Rattle.capi.specs.Reading.{numberIn, degreeIn, solvedIn, prunedIn, outliersIn, countIn, BookRead, FitRead, BandRead, ReportRead, OpenedRead, ReadRead}
 
 -- a number of a low part below m and a high part
@@ -165,23 +166,7 @@ next-back f at h = by-test (leb (at + 16) (length f)) refl
 
 -- ---- a replay that was run: its answer is not the one of buffers that hold no list of calls
 
-pub replay-back : {cs : List (Call ReadCall)} {width r : ℕ} {m m′ : Memory} → Ran cs width r m m′ → length (m .columns ofX) < 0x100_0000_0000_0000
-    → (numberIn r ≡ 0) × (countIn r ≡ r)
-replay-back {cs} {width} {r} {m} ran h = (div-eq-of-lt (omega (arith, below)), mod-eq-of-lt (omega (arith, below)))
-  where
-    n : ℕ
-    n = final (opened (m .columns) (m .sums)) cs .count
-
-    column : List Float
-    column = final (opened (m .columns) (m .sums)) cs .columns ofX
-
-    l : List Sample
-    l = ledgerEnd (lentOf (m .columns) (m .sums)) [] cs
-
-    -- the book is the length of a part of the lent column
-    below : r ≤ length (m .columns ofX)
-    below =
-        let a = ran .whole .agrees in
-        let lent : length column ≡ length (m .columns ofX) = ap (λ (k : Lent). getD (k .columns) 0 0) (a .lent) in
-        let part : length (take n column) ≡ length l = ap length (a .below ofX) ∙ length-map l (value ofX) in
-        omega (arith, ran .book, lent, part, length-take n column)
+pub replay-back : {cs : List (Call ReadCall)} {width r : ℕ} {m m′ : Memory} → Ran cs width r m m′ → (numberIn r ≡ 0) × (countIn r ≡ r)
+replay-back ran =
+    let few = replay-fits ran in
+    (div-eq-of-lt (omega (arith, few)), mod-eq-of-lt (omega (arith, few)))
