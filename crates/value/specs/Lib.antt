@@ -11,6 +11,8 @@ pub mod Power
 pub mod PowerLaws
 pub mod Root
 pub mod Nearest
+pub mod Grid
+pub mod GridLaws
 pub mod Logarithm
 pub mod LogarithmLaws
 pub mod Order

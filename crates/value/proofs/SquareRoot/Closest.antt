@@ -1,118 +1,29 @@
 -- `rootF x` is the double nearest to √x, for every double x above zero, and no other double is.
 use mathlib.Core.Path.{_≡_, refl, sym, ap, _∙_, subst}
-use mathlib.Core.Logic.{_⊎_, inl, inr}
-use mathlib.Core.Bool.{Bool, true, false, not, _&&_, cond, true≢false}
+use mathlib.Core.Logic.{inl, inr}
+use mathlib.Core.Bool.{Bool, true, false, not, cond, true≢false}
 use Prim.Native.Nat.{ℕ, zero, suc, _+_, _-_, _*_, _/_, _%_, _^_, _≤_, _<_, zero-le}
-use native.Mathlib.Nat.{le-refl, le-trans, le-of-eq, le-of-lt, le-of-suc-le-suc, lt-irrefl, lt-of-lt-of-le, lt-of-le-of-lt, lt-of-not-le, not-le-of-lt, zero-lt-suc, mul-le-mul, mul-le-mul-right, mul-lt-mul-of-pos-right, lt-of-mul-lt-mul-right, mul-assoc, mul-comm, mul-left-comm, mul-right-comm, mul-one, mul-pos, mul-div-cancel, add-mul, add-comm, zero-mul}
+use native.Mathlib.Nat.{le-refl, le-trans, le-of-eq, le-of-lt, lt-irrefl, lt-of-lt-of-le, lt-of-le-of-lt, lt-of-not-le, not-le-of-lt, zero-lt-suc, mul-le-mul, mul-le-mul-right, mul-lt-mul-of-pos-right, lt-of-mul-lt-mul-right, mul-assoc, mul-comm, mul-left-comm, mul-right-comm, mul-pos, mul-div-cancel, add-mul, add-comm, zero-mul}
 use native.Mathlib.Omega.{arith}
-use lib.IntN.{ℤ, pos, negsuc}
-use lib.Dec.{T, leb, ltb, eqb, leb→le, nleb→lt, ltb→lt, nltb→le, lt→ltb}
-use lib.Pow.{pow-add, pow-mono, pow-pos, pow-lt}
+use lib.Dec.{T, ltb, ltb→lt, nltb→le, lt→ltb}
+use lib.Pow.{pow-add, pow-mono, pow-pos}
 use lib.Ieee.{Float, nan, inf, fin, binary64, up, down, size, units, fits, ofBits}
 use lib.Ieee.Digits.{size-lt, size-le, size-reaches}
-use lib.Ieee.Fits.{down-pos, and-l, and-r}
+use lib.Ieee.Fits.{down-pos}
 use lib.Ieee.Exact.{HasValue, units-val}
 use lib.Ieee.Positive.{positive}
 use lib.Ieee.Bits.{ofBits-toBits}
+use Rattle.loops.specs.Cases.{either}
 use Rattle.value.specs.Root.{isqrt, closestRoot, rootOf, rootF}
 use Rattle.value.specs.Nearest.{ulps, wholeSquare, Nearest}
+use Rattle.value.specs.Grid.{Double}
+use Rattle.value.specs.GridLaws.{place, says, ulps-double, gap}
 use Rattle.value.proofs.SquareRoot.Numbers.{IsRoot, root-le, odd-square, even-square, isqrt-is, half, closestRoot-at}
 use Rattle.value.proofs.SquareRoot.Packing.{written, units-fit, below-all, bits-of-value, closest-low, closest-high, rootOf-is, even-shift, odd-shift}
 use Rattle.value.proofs.SquareRoot.Reading.{positive-value}
 
--- ---- a double is c * 2 ^ i smallest ones, c of 53 digits
 pow-lt-back : (i p : ℕ) → 2 ^ i < 2 ^ p → i < p
 pow-lt-back i p h = lt-of-not-le (λ (g : p ≤ i). not-le-of-lt h (pow-mono g))
-
-pow-le-back : (i p : ℕ) → 2 ^ i ≤ 2 ^ p → i ≤ p
-pow-le-back i p h = le-of-suc-le-suc (lt-of-not-le (λ (g : suc p ≤ i). not-le-of-lt (pow-lt g) h))
-
-order : (a b : ℕ) → (a ≤ b) ⊎ (b < a)
-order a b = go (leb a b) (leb→le a b) (nleb→lt a b)
-  where
-    go : (t : Bool) → (T t → a ≤ b) → (T (not t) → b < a) → (a ≤ b) ⊎ (b < a)
-    go true f g = inl (f tt)
-    go false f g = inr (g tt)
-
-back : (a b : ℕ) → a ≤ b → b - a + a ≡ b
-back a b h = omega arith
-
--- 2 ^ e is 2 ^ i smallest doubles
-place : (e : ℤ) → down e ≤ 2 ^ 1074 → (i : ℕ) × ((m : ℕ) → m * up e * 2 ^ 1074 ≡ m * 2 ^ i * down e)
-place (pos a) h = (a + 1074, λ m. mul-assoc m (2 ^ a) (2 ^ 1074) ∙ ap (λ (x : ℕ). m * x) (sym (pow-add 2 a 1074)) ∙ sym (mul-one (m * 2 ^ (a + 1074))))
-place (negsuc a) h = (
-  1074 - suc a,
-  λ m.
-      ap (λ (x : ℕ). x * 2 ^ 1074) (mul-one m)
-      ∙ ap (λ (x : ℕ). m * x) (ap (λ (x : ℕ). 2 ^ x) (sym (back (suc a) 1074 (pow-le-back (suc a) 1074 h))) ∙ pow-add 2 (1074 - suc a) (suc a))
-      ∙ sym (mul-assoc m (2 ^ (1074 - suc a)) (2 ^ suc a)),
-)
-
--- v is the size of a double
-pub record Double (v : ℕ) : Type 0 where
-  pub digits : ℕ
-  pub zeros : ℕ
-  pub is : v ≡ digits * 2 ^ zeros
-  pub short : digits < 2 ^ 53
-
-says : (m : ℕ) (s : Bool) (e : ℤ) → T (fits binary64 (fin s (suc m) e)) → (suc m < 2 ^ 53) × (down e ≤ 2 ^ 1074) × (suc m * up e < 2 ^ 1024 * down e)
-unfolding fits
-says m s e t =
-    let a : Bool = eqb (suc m % 2) 1 in
-    let b : Bool = ltb (suc m) (2 ^ 53) in
-    let c : Bool = leb (down e) (2 ^ 1074) in
-    let d : Bool = ltb (suc m * up e) (2 ^ 1024 * down e) in (
-      ltb→lt (suc m) (2 ^ 53) (and-r a b (and-l (a && b) c (and-l (a && b && c) d t))),
-      leb→le (down e) (2 ^ 1074) (and-r (a && b) c (and-l (a && b && c) d t)),
-      ltb→lt (suc m * up e) (2 ^ 1024 * down e) (and-r (a && b && c) d t),
-    )
-
-nothing : Double 0
-nothing = record { digits = 0; zeros = 0; is = refl; short = pow-pos 53 }
-
-zero-grains : (e : ℤ) → 0 * up e * 2 ^ 1074 / down e ≡ 0
-zero-grains e = ap (λ (x : ℕ). x * 2 ^ 1074 / down e) (zero-mul (up e)) ∙ ap (λ (x : ℕ). x / down e) (sym (zero-mul (down e))) ∙ mul-div-cancel 0 (down-pos e)
-
-grains-double : (y : Float) → T (fits binary64 y) → Double (ulps y)
-grains-double nan t = nothing
-grains-double (inf s) t = nothing
-grains-double (fin s zero e) t = subst Double (sym (zero-grains e)) nothing
-grains-double (fin s (suc m) e) t =
-    let h = says m s e t in
-    let p = place e (h .1) in
-    record {
-      digits = suc m;
-      zeros = p .0;
-      is = ap (λ (x : ℕ). x / down e) (p .1 (suc m)) ∙ mul-div-cancel (suc m * 2 ^ (p .0)) (down-pos e);
-      short = h .0;
-    }
-
--- ---- between q * 2 ^ k and its successor there is no double, for a q of 53 digits or more
-on-grid : (v u q k : ℕ) → v ≡ u * 2 ^ k → (v ≤ q * 2 ^ k) ⊎ (suc q * 2 ^ k ≤ v)
-on-grid v u q k is = go (order u q)
-  where
-    go : (u ≤ q) ⊎ (q < u) → (v ≤ q * 2 ^ k) ⊎ (suc q * 2 ^ k ≤ v)
-    go (inl a) = inl (le-trans (le-of-eq is) (mul-le-mul-right (2 ^ k) a))
-    go (inr a) = inr (le-trans (mul-le-mul-right (2 ^ k) a) (le-of-eq (sym is)))
-
-finer : (v q k : ℕ) (d : Double v) → 2 ^ 52 ≤ q → d .zeros < k → v ≤ q * 2 ^ k
-finer v q k d h l =
-    le-trans (le-of-eq (d .is))
-    (le-trans (mul-le-mul-right (2 ^ d .zeros) (le-of-lt (d .short)))
-    (le-trans (le-of-eq (sym (pow-add 2 53 (d .zeros))))
-    (le-trans (pow-mono (shift (d .zeros) k l)) (le-trans (le-of-eq (pow-add 2 52 k)) (mul-le-mul-right (2 ^ k) h)))))
-  where
-    shift : (i k : ℕ) → i < k → 53 + i ≤ 52 + k
-    shift i k l = omega arith
-
-gap : (v q k : ℕ) → Double v → 2 ^ 52 ≤ q → (v ≤ q * 2 ^ k) ⊎ (suc q * 2 ^ k ≤ v)
-gap v q k d h = go (order k (d .zeros))
-  where
-    go : (k ≤ d .zeros) ⊎ (d .zeros < k) → (v ≤ q * 2 ^ k) ⊎ (suc q * 2 ^ k ≤ v)
-    go (inr l) = inl (finer v q k d h l)
-    go (inl l) =
-        on-grid v (d .digits * 2 ^ (d .zeros - k)) q k
-        (d .is ∙ ap (λ (x : ℕ). d .digits * x) (ap (λ (x : ℕ). 2 ^ x) (sym (back k (d .zeros) l)) ∙ pow-add 2 (d .zeros - k) k) ∙ sym (mul-assoc (d .digits) (2 ^ (d .zeros - k)) (2 ^ k)))
 
 -- ---- squares
 square-le : (a b : ℕ) → a ≤ b → wholeSquare a ≤ wholeSquare b
@@ -230,17 +141,16 @@ record Scaled (n : ℕ) : Type 0 where
   is : n ≡ m * (2 ^ k * 2 ^ k)
 
 scaled-full : (c j : ℕ) → 2 ^ 52 ≤ c → c < 2 ^ 53 → 52 ≤ j → Scaled (c * 2 ^ j)
-scaled-full c j a b h = go (order 1 (j % 2))
+scaled-full c j a b h =
+    either 1 (j % 2)
+    (λ l. record { m = c * 2 * 2 ^ 52; k = j / 2 - 26; lo = omega arith; hi = omega arith; is = odd-shift c j (j / 2 - 26) (odd j h l) })
+    (λ l. record { m = c * 2 ^ 52; k = j / 2 - 26; lo = omega arith; hi = omega arith; is = even-shift c j (j / 2 - 26) (even j h l) })
   where
     even : (j : ℕ) → 52 ≤ j → j % 2 < 1 → j ≡ 52 + (j / 2 - 26 + (j / 2 - 26))
     even j h l = omega arith
 
     odd : (j : ℕ) → 52 ≤ j → 1 ≤ j % 2 → j ≡ 53 + (j / 2 - 26 + (j / 2 - 26))
     odd j h l = omega arith
-
-    go : (1 ≤ j % 2) ⊎ (j % 2 < 1) → Scaled (c * 2 ^ j)
-    go (inl l) = record { m = c * 2 * 2 ^ 52; k = j / 2 - 26; lo = omega arith; hi = omega arith; is = odd-shift c j (j / 2 - 26) (odd j h l) }
-    go (inr l) = record { m = c * 2 ^ 52; k = j / 2 - 26; lo = omega arith; hi = omega arith; is = even-shift c j (j / 2 - 26) (even j h l) }
 
 scaled : (c j : ℕ) → 0 < c → c < 2 ^ 53 → 1074 ≤ j → Scaled (c * 2 ^ j)
 scaled c j a b h =
@@ -329,8 +239,8 @@ nearest-units x n m k p g a b e h =
       of = p;
       held = units-fit q k (closest-high m b) h;
       above = positive-of-value r (q * 2 ^ k) w (mul-pos (lt-of-lt-of-le (pow-pos 52) (closest-low m b a)) (pow-pos k));
-      over = λ y f. rw s (subst (λ (z : ℕ). ulps y < q * 2 ^ k → wholeSquare (ulps y + q * 2 ^ k) < 4 * z) t (both m k (ulps y) q (sides m k (ulps y) a b (grains-double y f)) .0));
-      under = λ y f. rw s (subst (λ (z : ℕ). q * 2 ^ k < ulps y → 4 * z < wholeSquare (ulps y + q * 2 ^ k)) t (both m k (ulps y) q (sides m k (ulps y) a b (grains-double y f)) .1));
+      over = λ y f. rw s (subst (λ (z : ℕ). ulps y < q * 2 ^ k → wholeSquare (ulps y + q * 2 ^ k) < 4 * z) t (both m k (ulps y) q (sides m k (ulps y) a b (ulps-double y f)) .0));
+      under = λ y f. rw s (subst (λ (z : ℕ). q * 2 ^ k < ulps y → 4 * z < wholeSquare (ulps y + q * 2 ^ k)) t (both m k (ulps y) q (sides m k (ulps y) a b (ulps-double y f)) .1));
     }
   where
     both : (m k v w : ℕ) → Sides m k v w → (v < w * 2 ^ k → wholeSquare (v + w * 2 ^ k) < 4 * (m * (2 ^ k * 2 ^ k))) × (w * 2 ^ k < v → 4 * (m * (2 ^ k * 2 ^ k)) < wholeSquare (v + w * 2 ^ k))
