@@ -34,15 +34,11 @@ unfolding withPlace
 place-fits s h = go (eqb (s .count) (capacity (lengths (s .columns))))
   where
     go : (t : Bool) → cond t (stateAfter (s .count) (withdrawOut (s .count) 0 (s .columns) (s .sums))) s .count ≤ maxSamples
-    go true =
-        after-fits (s .count) _ h
-        (withdraw-fits (s .count) (s .columns) (s .sums) 0)
+    go true = after-fits (s .count) _ h (withdraw-fits (s .count) (s .columns) (s .sums) 0)
     go false = h
 
 add-next-fits : (s : State) (p : Sample) → s .count ≤ maxSamples → addNext s p .count ≤ maxSamples
-add-next-fits s p h =
-    after-fits (s .count) _ h
-    (add-fits (s .count) (s .columns) (s .sums) p)
+add-next-fits s p h = after-fits (s .count) _ h (add-fits (s .count) (s .columns) (s .sums) p)
 
 pub window-fits : (n : ℕ) (p : Sample) (columns : Columns) (sums : List Float) → n ≤ maxSamples → BookFits (windowOut n p columns sums .answer)
 unfolding windowOut BookFits
@@ -60,12 +56,9 @@ window-fits n p columns sums h =
 change-fits : (s : State) (c : Change) → s .count ≤ maxSamples → BookFits (outOf s c .answer)
 unfolding outOf
 change-fits s (adds p) h = add-fits (s .count) (s .columns) (s .sums) p
-change-fits s (corrects i y) h =
-    correct-fits (s .count) (s .columns) (s .sums) i y
-change-fits s (withdraws i) h =
-    withdraw-fits (s .count) (s .columns) (s .sums) i
-change-fits s (frames f) h =
-    frame-fits (s .count) (s .columns) (s .sums) f
+change-fits s (corrects i y) h = correct-fits (s .count) (s .columns) (s .sums) i y
+change-fits s (withdraws i) h = withdraw-fits (s .count) (s .columns) (s .sums) i
+change-fits s (frames f) h = frame-fits (s .count) (s .columns) (s .sums) f
 change-fits s (windows p) h = window-fits (s .count) p (s .columns) (s .sums) h
 
 final-fits : (s : State) (cs : List (Call ReadCall)) → s .count ≤ maxSamples → final s cs .count ≤ maxSamples
