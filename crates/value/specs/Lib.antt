@@ -14,6 +14,7 @@ pub mod Nearest
 pub mod Grid
 pub mod GridLaws
 pub mod Logarithm
+pub mod Moved
 pub mod LogarithmLaws
 pub mod Order
 pub mod Keys

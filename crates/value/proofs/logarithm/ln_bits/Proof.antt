@@ -4,7 +4,8 @@ use Prim.Native.Nat.{_+_, _/_, _^_}
 use native.Mathlib.Omega.{arith}
 use borrow.Author.Needs.{needs}
 use Rattle.value.specs.Logarithm.{lnBits}
-use Rattle.value.specs.LogarithmLaws.{moved, m-moved, k-moved}
+use Rattle.value.specs.Moved.{moved}
+use Rattle.value.specs.LogarithmLaws.{m-moved, k-moved}
 use Rattle.value.specs.Nan.{bits-some}
 use Rattle.value.proofs.Positive.{num-sub}
 use Rattle.value.proofs.logarithm.ln_bits.Statement.{statement}
