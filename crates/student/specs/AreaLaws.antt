@@ -7,10 +7,11 @@ use Prim.Native.Nat.{ℕ, _+_, _-_, _*_, _^_, _≤_, _<_}
 use native.Mathlib.Nat.{mul-le-mul, mul-le-mul-right, le-of-mul-le-mul-left, le-trans, lt-of-not-le, pow-le-pow-left}
 use native.Mathlib.Decide.{decLe}
 use native.Mathlib.Omega.{arith}
-use Rattle.student.specs.Ratio.{Fraction, Consistent, square, exclusive}
+use Rattle.student.specs.Ratio.{Fraction, Consistent}
+use Rattle.student.specs.RatioLaws.{two-factors, exclusive}
 use Rattle.student.specs.Quantile.{TailBelow, TailAbove, Rounded}
 use Rattle.student.specs.ByArea.{start, nodes, nodesFrom, node, lastNode, After, Before, Inside, Tailed, overBeyond, underBeyond, BeyondAtMost, BeyondAtLeast, WholeAtMost, WholeAtLeast, byArea}
-use Rattle.student.specs.Strips.{from-node, from-start, strips}
+use Rattle.student.specs.StripLaws.{from-node, from-start, strips}
 
 -- The empty partition bounds nothing from above, as its last point is 0; nor does one that ends at the point M, which lies at infinity.
 pub empty-bounds-nothing : (ν M : ℕ) → Tailed ν M ((lastNode start (nodes ν M [])) .0) → ⊥
@@ -50,8 +51,8 @@ ordered : (ν N N′ M M′ i j : ℕ) → 0 < ν → N ≤ N′ → Before ν N
 unfolding Before After
 ordered ν N N′ M M′ i j h l b a =
     crossing (4000000 * ν) (2 * j * M′) (2 * i * M) (M′ ^ 2 - j ^ 2) (M ^ 2 - i ^ 2) N N′ (omega arith) l
-    (rw (square (2 * j * M′), square (N * (M′ ^ 2 - j ^ 2))) at b)
-    (rw (square (N′ * (M ^ 2 - i ^ 2)), square (2 * i * M)) at a)
+    (rw (two-factors (2 * j * M′), two-factors (N * (M′ ^ 2 - j ^ 2))) at b)
+    (rw (two-factors (N′ * (M ^ 2 - i ^ 2)), two-factors (2 * i * M)) at a)
 
 squares : (x y : ℕ) → x ≤ y → x ^ 2 * 1 ≤ y ^ 2 * 1
 squares x y h = mul-le-mul-right 1 (pow-le-pow-left h 2)

@@ -12,7 +12,7 @@
 -- 6. Means. From y = a to y = b the mean of y² is (a² + a b + b²)/3 (Archimedes). So the mean of the first parabola is
 --    f(p) (1 + (ν+1)/2 (yₚ² − (a² + a b + b²)/3)/(1 + yₚ²)), and that of the second is (f(i) (a + 2 b) + f(j) (2 a + b))/(3 (a + b)). Not proved.
 -- 7. Tail. As ν is at least 1, the curve lies under 1/y² at every y above 0, and beyond y there lies 1/y under that. Not proved as an area; proved: the parabolas of
---    step 4 lie under 1/y² too (`Tangent`).
+--    step 4 lie under 1/y² too (`TangentLaws`).
 -- 8. Sums. Areas are in units of 10^−20. What lies under the curve is rounded down, and what lies over it is rounded up; a mean below 0 counts as 0. An area is at
 --    least the sum of what lies under the curve, and at most the sum of what lies over it and of the tail.
 -- Proved besides: no bound from below exceeds a bound from above, whatever partitions they are shown with (`AreaLaws`); each of the 180 entries passes (`AreaCheck`),

@@ -10,7 +10,7 @@
 -- 4. A point t is N/2000. With r = 4000000 ν and d = N² + r: 4000000 t² = N², 4000000 ν = r, ν/(ν+t²) = r/d. The unit of the squares is so chosen that they
 --    are N² (r/d)^(ν+1) [ν+1, ν+2; r/d]² and r / 2^(ν+1) (ν [ν+1, 3; 1/2] + [ν+1, ν+2; 1/2])².
 -- 5. A series of positive terms is at least each of its partial sums, and at most what none of them exceeds.
--- Proved: that no partial sum exceeds what is used as a bound (`Series`), that bounds from below never exceed bounds from above (`Laws`), that each of the 180
+-- Proved: that no partial sum exceeds what is used as a bound (`SeriesLaws`), that bounds from below never exceed bounds from above (`Laws`), that each of the 180
 -- entries passes (`SeriesCheck`), and that no other number from 1 on with as many places does (`Only`).
 --
 -- Looked for: what else could show a bound that is none.

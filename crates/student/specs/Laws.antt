@@ -6,15 +6,17 @@ use mathlib.Core.Path.{_≡_, sym, subst, subst₂}
 use Prim.Native.Nat.{ℕ, zero, suc, _+_, _-_, _*_, _^_, _≤_, _<_}
 use native.Mathlib.Nat.{mul-le-mul, mul-le-mul-left, mul-le-mul-right, le-of-mul-le-mul-left, le-refl, le-trans, le-dest, mul-pos, pow-suc, pow-zero}
 use native.Mathlib.Omega.{arith}
-use Rattle.student.specs.Ratio.{Fraction, Consistent, square, exclusive}
+use Rattle.student.specs.Ratio.{Fraction, Consistent}
+use Rattle.student.specs.RatioLaws.{two-factors, exclusive}
 use Rattle.student.specs.Quantile.{TailBelow, TailAbove, Rounded}
-use Rattle.student.specs.Series.{product, numerator, AtMost, factors, product-pos}
+use Rattle.student.specs.Series.{product, numerator, AtMost, factors}
+use Rattle.student.specs.SeriesLaws.{product-pos}
 use Rattle.student.specs.BySeries.{beyondSquare, wholeSquare, BeyondAtMost, BeyondAtLeast, WholeAtMost, WholeAtLeast, bySeries}
 use Rattle.student.specs.Normal.{insideSquare, InsideAtMost, InsideAtLeast, HalfPiAtMost, HalfPiAtLeast, Cut}
 
 -- a/b is at most c/d: so are the squares, with the same factors
 squares : (α β a b c d : ℕ) → a * d ≤ c * b → α * a ^ 2 * (β * d ^ 2) ≤ α * c ^ 2 * (β * b ^ 2)
-squares α β a b c d h = rw (square a, square b, square c, square d) (omega (arith, mul-le-mul-left (α * β) (mul-le-mul h h)))
+squares α β a b c d h = rw (two-factors a, two-factors b, two-factors c, two-factors d) (omega (arith, mul-le-mul-left (α * β) (mul-le-mul h h)))
 
 beyond-consistent : (ν N : ℕ) → Consistent (BeyondAtLeast ν N) (BeyondAtMost ν N)
 unfolding Consistent BeyondAtLeast BeyondAtMost AtMost beyondSquare
@@ -75,7 +77,7 @@ falls-from x y r n h =
 later : (ν N M : ℕ) → 2000 ≤ N → N ≤ M → M ^ 2 * (N ^ 2 + 4000000 * ν) ^ (ν + 1) ≤ N ^ 2 * (M ^ 2 + 4000000 * ν) ^ (ν + 1)
 later ν N M h l =
     let d = le-dest (mul-le-mul l l) in
-    rw (square M, square N, sym (d .1))
+    rw (two-factors M, two-factors N, sym (d .1))
     (falls-from (N * N) (d .0) (4000000 * ν) ν (omega (arith, mul-le-mul-left ν (mul-le-mul h h))))
 
 -- s/G is at most S/K, and S/K at most u/v
@@ -83,7 +85,7 @@ through : (s G S K u v : ℕ) → 0 < K → s * K ≤ S * G → S * v ≤ u * K 
 through s G S K u v p h k = le-of-mul-le-mul-left {k = K} (omega (arith, mul-le-mul-left v h, mul-le-mul-left G k)) p
 
 later-squares : (x y p q R s G u v : ℕ) → s * v ≤ u * G → y * p ≤ x * q → y * R * s ^ 2 * (p * v ^ 2) ≤ x * R * u ^ 2 * (q * G ^ 2)
-later-squares x y p q R s G u v h k = rw (square s, square v, square u, square G) (omega (arith, mul-le-mul-left R (mul-le-mul k (mul-le-mul h h))))
+later-squares x y p q R s G u v h k = rw (two-factors s, two-factors v, two-factors u, two-factors G) (omega (arith, mul-le-mul-left R (mul-le-mul k (mul-le-mul h h))))
 
 factors-pos : (ν N : ℕ) → 0 < ν → (j : ℕ) → 0 < factors (ν + 2) (N ^ 2 + 4000000 * ν) j
 unfolding factors
@@ -91,7 +93,7 @@ factors-pos ν N hν j = mul-pos (omega arith) (omega arith)
 
 factors-less : (ν N M : ℕ) → N ≤ M → (j : ℕ) → factors (ν + 2) (N ^ 2 + 4000000 * ν) j ≤ factors (ν + 2) (M ^ 2 + 4000000 * ν) j
 unfolding factors
-factors-less ν N M l j = mul-le-mul-left (ν + 2 + 2 * j) (rw (square N, square M) (omega (arith, mul-le-mul l l)))
+factors-less ν N M l j = mul-le-mul-left (ν + 2 + 2 * j) (rw (two-factors N, two-factors M) (omega (arith, mul-le-mul l l)))
 
 pub later-consistent : (ν N M : ℕ) → 0 < ν → 2000 ≤ N → N ≤ M → Consistent (BeyondAtLeast ν M) (BeyondAtMost ν N)
 unfolding Consistent BeyondAtLeast BeyondAtMost AtMost beyondSquare
@@ -116,7 +118,7 @@ one-rounded-by-series ν k e e′ h hν f l a b =
 -- a/b is at most c/d, and e/f at most g/h: so is the square of the one over the other
 squares-over : (α β a b c d e f g h : ℕ) → a * d ≤ c * b → e * h ≤ g * f → α * a ^ 2 * h * (β * d ^ 2 * e) ≤ α * c ^ 2 * f * (β * b ^ 2 * g)
 squares-over α β a b c d e f g h k l =
-    rw (square a, square b, square c, square d) (omega (arith, mul-le-mul-left (α * β) (mul-le-mul (mul-le-mul k k) l)))
+    rw (two-factors a, two-factors b, two-factors c, two-factors d) (omega (arith, mul-le-mul-left (α * β) (mul-le-mul (mul-le-mul k k) l)))
 
 inside-consistent : (N : ℕ) → Consistent (InsideAtLeast N) (InsideAtMost N)
 unfolding Consistent InsideAtLeast InsideAtMost AtMost insideSquare

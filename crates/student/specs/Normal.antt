@@ -11,7 +11,7 @@
 -- 4. z = N/1000, z² = N²/1000000. A series of positive terms is at least each of its partial sums, and at most what none of them exceeds.
 -- Looked for: a bound of a series with the denominator 0, and no terms of exp(z²), make a bound from above over 0 or one from below of 0, which show nothing (`Ratio`);
 -- exp(z²) has no bound 0/j but 0/0, as its first term is 1. k − 1 is 0 where k is 0 or 1: then nothing is below it.
--- Proved: that no partial sum exceeds what is used as a bound (`Series`), that of two neighbouring numbers of thousandths at most one is the cut quantile
+-- Proved: that no partial sum exceeds what is used as a bound (`SeriesLaws`), that of two neighbouring numbers of thousandths at most one is the cut quantile
 -- (`Laws`), and that each of the six z scores passes (`NormalCheck`). Steps 1 to 3 are not proved.
 -- "Below" and "above" are those of the t table (`Ratio`); here the part is the area from 0 to z.
 use mathlib.Core.Path.{_≡_}

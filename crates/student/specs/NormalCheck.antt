@@ -8,9 +8,11 @@ use lib.ListN.{getD}
 use lib.Ieee.Fits.{and-l, and-r}
 use Rattle.statistics.specs.Table.{zThousandths, allBelow}
 use Rattle.statistics.specs.TableLaws.{all-below}
-use Rattle.student.specs.Ratio.{RatioBelow, RatioAbove, below, above, below-holds, above-holds}
+use Rattle.student.specs.Ratio.{RatioBelow, RatioAbove, below, above}
+use Rattle.student.specs.RatioLaws.{below-holds, above-holds}
 use Rattle.student.specs.Quantile.{oneIn}
-use Rattle.student.specs.Series.{product, numerator, AtMost, factors, sums, sums-three, at-most, falls, falls-at-most}
+use Rattle.student.specs.Series.{product, numerator, AtMost, factors, sums, falls}
+use Rattle.student.specs.SeriesLaws.{sums-three, at-most, falls-at-most}
 use Rattle.student.specs.Normal.{zSquare, insideFactors, expFactors, insideSquare, InsideAtMost, InsideAtLeast, HalfPiAtMost, HalfPiAtLeast, Cut}
 
 -- from term n on each is at most half of the one before

@@ -6,17 +6,13 @@ use native.Mathlib.Omega.{arith}
 use lib.Dec.{T, leb, leb→le}
 use Rattle.statistics.specs.Table.{thousandths, tableEntry, allBelow}
 use Rattle.statistics.specs.TableLaws.{all-cells}
-use Rattle.student.specs.Quantile.{Rounded, oneIn, halfPlace, IsQuantile, EveryEntry}
+use Rattle.student.specs.Quantile.{Rounded, oneIn, halfPlace, IsQuantile, EveryEntry, IsEntry}
 use Rattle.student.specs.ByArea.{byArea}
 use Rattle.student.specs.AreaLaws.{one-rounded-by-area}
 use Rattle.student.specs.AreaCheck.{every-entry-by-area}
 use Rattle.student.specs.BySeries.{bySeries}
 use Rattle.student.specs.Laws.{one-rounded-by-series}
 use Rattle.student.specs.SeriesCheck.{every-entry-by-series}
-
--- e is less than a printed place from the entry; with as many places as printed it is the entry
-unfoldable pub IsEntry : ℕ → ℕ → ℕ → Type 0
-IsEntry row col e = (e < tableEntry row col + halfPlace row col) × (tableEntry row col < e + halfPlace row col)
 
 pub only-entry-by-area : (row col e : ℕ) → row < 30 → col < 6 → Rounded byArea (row + 1) (oneIn col) e (halfPlace row col) → IsEntry row col e
 unfolding EveryEntry IsQuantile IsEntry

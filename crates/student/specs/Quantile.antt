@@ -1,4 +1,4 @@
--- What it is for an entry of the t table to be the quantile that it stands for.
+-- What it is for an entry of the t table to be the quantile that it stands for. Definitions only.
 --
 -- T has Student's distribution with ν degrees of freedom. The two-sided quantile for a confidence p is the t at which |T| is at most t with probability p,
 -- and so above t with probability 1 − p. For the six confidences of the table 1 − p is 1/5, 1/10, 1/20, 1/50, 1/100 and 1/1000, always one in a whole k.
@@ -14,9 +14,7 @@
 -- agrees with a bound by the other. That would need the area itself, as a limit, which neither measure speaks of. Each measure is to be believed on its own, and
 -- a reader who believes either has the table. Neither lets another number pass: no bound from below exceeds one from above (`Laws`, `AreaLaws`), so that the entries
 -- are the only ones (`Only`).
-use mathlib.Core.Path.{_≡_}
-use Prim.Native.Nat.{ℕ, zero, suc, _+_, _-_, _*_, _≤_, _<_}
-use native.Mathlib.Omega.{arith}
+use Prim.Native.Nat.{ℕ, zero, suc, _+_, _-_, _*_, _<_}
 use mathlib.Core.List.{[], _∷_}
 use lib.ListN.{getD}
 use Rattle.statistics.specs.Table.{tableEntry}
@@ -59,12 +57,6 @@ IsQuantile measure row col = Rounded measure (row + 1) (oneIn col) (tableEntry r
 unfoldable pub EveryEntry : Measure → Type 0
 EveryEntry measure = (row col : ℕ) → row < 30 → col < 6 → IsQuantile measure row col
 
--- ---- laws
-
--- the same by the degrees of freedom df, from 1, as the t score has them
-pub entry-quantile : (measure : Measure) → EveryEntry measure → (df col : ℕ) → 0 < df → df ≤ 30 → col < 6 →
-    Rounded measure df (oneIn col) (tableEntry (df - 1) col) (halfPlace (df - 1) col)
-unfolding EveryEntry IsQuantile
-entry-quantile measure all df col h g k =
-    let e : df - 1 + 1 ≡ df = omega arith in
-    rw e at (all (df - 1) col (omega arith) k)
+-- e is less than a printed place from the entry; with as many places as printed it is the entry
+unfoldable pub IsEntry : ℕ → ℕ → ℕ → Type 0
+IsEntry row col e = (e < tableEntry row col + halfPlace row col) × (tableEntry row col < e + halfPlace row col)

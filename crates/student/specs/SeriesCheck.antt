@@ -8,9 +8,11 @@ use lib.Dec.{T}
 use lib.Ieee.Fits.{and-l, and-r}
 use Rattle.statistics.specs.Table.{thousandths, tableEntry, allBelow}
 use Rattle.statistics.specs.TableLaws.{all-cells}
-use Rattle.student.specs.Ratio.{below, above, below-holds, above-holds}
+use Rattle.student.specs.Ratio.{below, above}
+use Rattle.student.specs.RatioLaws.{below-holds, above-holds}
 use Rattle.student.specs.Quantile.{TailBelow, TailAbove, Rounded, oneIn, halfPlace, IsQuantile, EveryEntry}
-use Rattle.student.specs.Series.{factors, sums, sums-three, falls, falls-at-most}
+use Rattle.student.specs.Series.{factors, sums, falls}
+use Rattle.student.specs.SeriesLaws.{sums-three, falls-at-most}
 use Rattle.student.specs.BySeries.{beyondSquare, wholeSquare, BeyondAtMost, BeyondAtLeast, WholeAtMost, WholeAtLeast, bySeries}
 
 -- the last comparison, with the sums in hand: what follows the terms that are summed is at most C times the next
