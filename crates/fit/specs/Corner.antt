@@ -14,7 +14,7 @@ use Rattle.monomial.specs.Rows.{Row}
 use Rattle.monomial.specs.Corner.{SameCorner}
 use Rattle.monomial.specs.CornerLaws.{smaller-corner}
 use Rattle.solve.specs.Solve.{solve}
-use Rattle.solve.specs.Corner.{solve-corner}
+use Rattle.solve.specs.CornerLaws.{solve-corner}
 use Rattle.score.specs.declared.Criterion.{Criterion}
 use Rattle.choice.specs.Choice.{chosenOf}
 use Rattle.choice.specs.ChoiceLaws.{chosen-same, count-same}

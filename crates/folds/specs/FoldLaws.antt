@@ -8,13 +8,12 @@ use borrow.Author.Tests.{eq-eqb, ne-eqb}
 use lib.Dec.{eqb}
 use lib.ListN.{length, take}
 use lib.Seq.{take-add, take-length}
-use lib.Ieee.{div}
 use Rattle.loops.specs.Cases.{choose}
 use Rattle.loops.specs.Fold.{fold}
 use Rattle.loops.specs.FoldLaws.{fold-table}
 use Rattle.loops.specs.Places.{table}
 use Rattle.monomial.specs.Rows.{Row}
-use Rattle.folds.specs.Folds.{startOf, endOf, ownOf}
+use Rattle.folds.specs.Folds.{startOf, endOf, ownOf, own}
 
 -- 10 samples in 3 folds give 3, 3, 4
 pub ten-in-three : (table (startOf 10 3) 3 ≡ 0 ∷ 3 ∷ 6 ∷ []) × (table (endOf 10 3) 3 ≡ 3 ∷ 6 ∷ 10 ∷ [])
@@ -56,29 +55,26 @@ own-after start end rows h =
     sym (take-add start (end - start) rows) ∙ ap (λ k. take k rows) z
 
 module _ (rows : List Row) (folds : ℕ) where
-  abbrev pub own : ℕ → List Row
-  own f = ownOf (startOf (length rows) folds f) (endOf (length rows) folds f) rows
-
-  one-more : (f : ℕ) → f < folds → fold _++_ [] (table own f) ≡ take (startOf (length rows) folds f) rows
-      → fold _++_ [] (table own (f + 1)) ≡ take (endOf (length rows) folds f) rows
+  one-more : (f : ℕ) → f < folds → fold _++_ [] (table (own rows folds) f) ≡ take (startOf (length rows) folds f) rows
+      → fold _++_ [] (table (own rows folds) (f + 1)) ≡ take (endOf (length rows) folds f) rows
   one-more f h i =
-      fold-table _++_ [] own f ∙ ap (λ l. l ++ own f) i
+      fold-table _++_ [] (own rows folds) f ∙ ap (λ l. l ++ own rows folds f) i
       ∙ own-after (startOf (length rows) folds f) (endOf (length rows) folds f) rows (start-end (length rows) folds f h)
 
-  joined : (f : ℕ) → f < folds → fold _++_ [] (table own f) ≡ take (startOf (length rows) folds f) rows
+  joined : (f : ℕ) → f < folds → fold _++_ [] (table (own rows folds) f) ≡ take (startOf (length rows) folds f) rows
   unfolding fold table
   joined zero h = rw first-start
   joined (suc f) h = rest f h (one-more f (omega arith) (joined f (omega arith)))
     where
-      rest : (f : ℕ) → suc f < folds → fold _++_ [] (table own (f + 1)) ≡ take (endOf (length rows) folds f) rows
-          → fold _++_ [] (table own (suc f)) ≡ take (startOf (length rows) folds (suc f)) rows
+      rest : (f : ℕ) → suc f < folds → fold _++_ [] (table (own rows folds) (f + 1)) ≡ take (endOf (length rows) folds f) rows
+          → fold _++_ [] (table (own rows folds) (suc f)) ≡ take (startOf (length rows) folds (suc f)) rows
       rest f h i =
           let z : suc f ≡ f + 1 = omega arith in
-          ap (λ k. fold _++_ [] (table own k)) z ∙ i ∙ ap (λ k. take k rows) (sym (next-start (length rows) folds f (omega arith)) ∙ ap (startOf (length rows) folds) (sym z))
+          ap (λ k. fold _++_ [] (table (own rows folds) k)) z ∙ i ∙ ap (λ k. take k rows) (sym (next-start (length rows) folds f (omega arith)) ∙ ap (startOf (length rows) folds) (sym z))
 
-  pub covered : 0 < folds → fold _++_ [] (table own folds) ≡ rows
+  pub covered : 0 < folds → fold _++_ [] (table (own rows folds) folds) ≡ rows
   covered h =
       let z : folds - 1 + 1 ≡ folds = omega arith in
-      ap (λ k. fold _++_ [] (table own k)) (sym z) ∙ one-more (folds - 1) (omega arith) (joined (folds - 1) (omega arith))
+      ap (λ k. fold _++_ [] (table (own rows folds) k)) (sym z) ∙ one-more (folds - 1) (omega arith) (joined (folds - 1) (omega arith))
       ∙ ap (λ k. take k rows) (last-end (length rows) folds (folds - 1) z)
       ∙ take-length rows

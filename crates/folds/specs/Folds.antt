@@ -33,6 +33,10 @@ ownOf start end rows = take (end - start) (drop start rows)
 unfoldable pub othersOf : ℕ → ℕ → List Row → List Row
 othersOf start end rows = take start rows ++ drop end rows
 
+-- those of fold f, by its number
+abbrev pub own : List Row → ℕ → ℕ → List Row
+own rows folds f = ownOf (startOf (length rows) folds f) (endOf (length rows) folds f) rows
+
 -- Each fold solves from sums over the other samples and scores on its own; it is unsolved if a pivot fails or y − fitted is not finite for any
 -- sample of the book.
 unfoldable pub foldScored : Criterion → List Row → ℕ → ℕ → ℕ → Scored

@@ -1,4 +1,4 @@
--- The corner of k rows and columns of A with the first k places of g: all that k coefficients are solved from.
+-- The corner of k rows and columns of A with the first k places of g: all that k coefficients are solved from. Definitions only.
 use mathlib.Core.Path.{_≡_}
 use mathlib.Core.List.{List}
 use Prim.Native.Nat.{ℕ, _+_, _*_, _<_}

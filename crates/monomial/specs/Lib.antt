@@ -6,6 +6,7 @@ pub mod RowLaws
 pub mod Adding
 pub mod AddingLaws
 pub mod Sums
+pub mod Parts
 pub mod SumLaws
 pub mod Corner
 pub mod CornerLaws

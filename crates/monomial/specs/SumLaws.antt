@@ -4,9 +4,9 @@ use mathlib.Core.List.{List, [], _∷_, _++_, map, map-map, map-append}
 use Prim.Native.Nat.{ℕ, _+_, _-_, _*_, _/_, _%_, _≤_, _<_}
 use native.Mathlib.Omega.{arith}
 use borrow.Author.Tests.{lt-ltb, le-ltb}
-use lib.Dec.{ltb, lit≤}
+use lib.Dec.{lit≤}
 use lib.ListN.{length, getD, take, drop, replicate, take-append-drop, length-map}
-use lib.Ieee.{Float, nan, binary64, add, mul}
+use lib.Ieee.{Float, nan, binary64, mul}
 use Rattle.loops.specs.FoldLaws.{fold-snoc, fold-append}
 use Rattle.loops.specs.Places.{each, table}
 use Rattle.loops.specs.PlaceLaws.{table-at}
@@ -18,6 +18,7 @@ use Rattle.monomial.specs.Rows.{Row, rowOf, rowsOf}
 use Rattle.monomial.specs.Adding.{addOne, sums}
 use Rattle.monomial.specs.AddingLaws.{length-add-one, add-one-append, sums-afresh, sums-length, sums-place, sums-same, sums-take, sums-drop}
 use Rattle.monomial.specs.Sums.{productOf, addRow, addRows, sumsOf}
+use Rattle.monomial.specs.Parts.{termsOf, rightProduct}
 
 -- the 272 sums are a case of n sums at once
 abbrev rowProduct : Row → ℕ → Float
@@ -77,10 +78,6 @@ module _ (terms : List Float) (y : Float) where
   unfolding productOf
   product-no-y k h = rw (lt-ltb k 256 h)
 
--- A is made from the term values alone, so that samples with equal term values have one A
-abbrev pub termsOf : List Row → List (List Float)
-termsOf rs = map (λ (r : Row). r .terms) rs
-
 abbrev matrixProduct : List Float → ℕ → Float
 matrixProduct terms k = productOf terms zeroF k
 
@@ -97,10 +94,6 @@ matrix-same rs qs e = matrix-is rs ∙ ap (λ l. sums matrixProduct 256 l) e ∙
 -- so after a correction, which leaves A and folds g afresh, the sums are those of the corrected list
 pub corrected : (rs qs : List Row) → termsOf rs ≡ termsOf qs → take 256 (sumsOf rs) ++ drop 256 (sumsOf qs) ≡ sumsOf qs
 corrected rs qs e = rw (matrix-same rs qs e) (take-append-drop 256 (sumsOf qs))
-
--- g is the last 16 of the 272: what each row adds from place 256 on
-abbrev pub rightProduct : Row → ℕ → Float
-rightProduct r i = productOf (r .terms) (r .y) (256 + i)
 
 pub right-is : (rs : List Row) → drop 256 (sumsOf rs) ≡ sums rightProduct 16 rs
 unfolding sumsOf addRow sums addOne

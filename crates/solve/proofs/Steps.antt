@@ -8,7 +8,8 @@ use lib.Seq.{length-take-le}
 use lib.Ieee.{Float}
 use Rattle.loops.specs.Loop.{Stopped}
 use Rattle.solve.specs.Solve.{System, eliminate, back, matrixOf, rightOf, solved, solve, ridge, unit, unitColumn, columnHolds, putColumn, inverseColumn, inverseColumns, inverse}
-use Rattle.solve.specs.Corner.{firstRows, solve-first-rows}
+use Rattle.solve.specs.Corner.{firstRows}
+use Rattle.solve.specs.CornerLaws.{solve-first-rows}
 use Rattle.solve.specs.Laws.{length-ridge}
 
 pub solve-is : (sums : List Float) (k : ℕ) → k ≤ 16 → 256 ≤ length sums → (a b : List Float) (t : Stopped System) → a ≡ firstRows sums k → b ≡ rightOf sums k

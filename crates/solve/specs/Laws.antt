@@ -15,6 +15,7 @@ use Rattle.loops.specs.Within.{Within}
 use Rattle.loops.specs.WithinLaws.{within-itself, within-then, within-set}
 use Rattle.value.specs.Numbers.{zeroF}
 use Rattle.solve.specs.Solve.{System, pivotHolds, clearRow, clearBelow, eliminate, backRow, back, matrixOf, rightOf, solved, solve, ridgeCell, ridge, unit, unitColumn, columnHolds, inverseColumn, inverseColumns, inverse}
+use Rattle.solve.specs.Corner.{ridgeHeld}
 
 -- ---- the inverse is whole exactly when no pivot fails
 
@@ -37,25 +38,21 @@ held-without-b start k m b b′ =
     (λ p s t i l e. pivot-without-b start k p s t e) refl .stop
 
 module _ (sums : List Float) (k : ℕ) (b : List Float) where
-  -- how many pivots hold in the corner with 2⁻⁵² added
-  abbrev pub ridgeHeld : ℕ
-  ridgeHeld = eliminate (ridge k (matrixOf sums)) k (record { m = ridge k (matrixOf sums); b = b }) .at
-
-  column-test : (j : ℕ) (v : List Float) → columnHolds k (ridge k (matrixOf sums)) j v ≡ leb k ridgeHeld
+  column-test : (j : ℕ) (v : List Float) → columnHolds k (ridge k (matrixOf sums)) j v ≡ leb k (ridgeHeld sums k b)
   unfolding columnHolds unitColumn
   column-test j v = ap (leb k) (held-without-b (ridge k (matrixOf sums)) k (ridge k (matrixOf sums)) (unit j) b)
 
-  pub inverse-whole : ridgeHeld ≡ k → inverse sums k .columns ≡ k
+  pub inverse-whole : ridgeHeld sums k b ≡ k → inverse sums k .columns ≡ k
   unfolding inverse inverseColumns
   inverse-whole e =
       while-all (columnHolds k (ridge k (matrixOf sums))) (inverseColumn k (ridge k (matrixOf sums))) 0 k (replicate 256 zeroF) (omega arith)
-      (λ j v i l. column-test j v ∙ le-leb k ridgeHeld (omega (arith, e)))
+      (λ j v i l. column-test j v ∙ le-leb k (ridgeHeld sums k b) (omega (arith, e)))
 
-  pub inverse-none : ridgeHeld < k → inverse sums k .columns ≡ 0
+  pub inverse-none : ridgeHeld sums k b < k → inverse sums k .columns ≡ 0
   unfolding inverse inverseColumns
   inverse-none e =
       ap (λ (u : Stopped (List Float)). u .at)
-      (while-fails (columnHolds k (ridge k (matrixOf sums))) (inverseColumn k (ridge k (matrixOf sums))) 0 k (replicate 256 zeroF) (omega (arith, e)) (column-test 0 (replicate 256 zeroF) ∙ lt-leb k ridgeHeld e))
+      (while-fails (columnHolds k (ridge k (matrixOf sums))) (inverseColumn k (ridge k (matrixOf sums))) 0 k (replicate 256 zeroF) (omega (arith, e)) (column-test 0 (replicate 256 zeroF) ∙ lt-leb k (ridgeHeld sums k b) e))
 
 -- the corner with 2⁻⁵² added is as long
 pub length-ridge : (k : ℕ) (m : List Float) → length (ridge k m) ≡ length m

@@ -2,4 +2,5 @@
 pub mod Solve
 pub mod SolveLaws
 pub mod Corner
+pub mod CornerLaws
 pub mod Laws

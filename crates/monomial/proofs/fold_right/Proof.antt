@@ -13,7 +13,8 @@ use Rattle.samples.specs.Columns.{samplesOf, columnsOf}
 use Rattle.monomial.specs.Rows.{rowOf, rowsOf}
 use Rattle.monomial.specs.Adding.{addOne, addAll}
 use Rattle.monomial.specs.AddingLaws.{length-add-one, sums-afresh}
-use Rattle.monomial.specs.SumLaws.{rightProduct, right-is}
+use Rattle.monomial.specs.Parts.{rightProduct}
+use Rattle.monomial.specs.SumLaws.{right-is}
 use Rattle.monomial.proofs.Parts.{fold-rows-again}
 use Rattle.monomial.proofs.fold_right.Statement.{statement}
 use Rattle.monomial.proofs.fold_right.Tie as tie
