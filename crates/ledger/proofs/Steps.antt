@@ -17,11 +17,12 @@ use Rattle.monomial.specs.Sums.{sumsOf}
 use Rattle.frame.specs.Frame.{decode}
 use Rattle.book.specs.declared.Answer.{Answer}
 use Rattle.book.specs.declared.Answer.the-variants as answers
-use Rattle.book.specs.Refusals.{withdrawRefusal}
-use Rattle.book.specs.RefusalLaws.{sumsLent, add-room, correct-room, withdraw-room, frame-room}
+use Rattle.book.specs.Refusals.{withdrawRefusal, sumsLent}
+use Rattle.book.specs.RefusalLaws.{add-room, correct-room, withdraw-room, frame-room}
 use Rattle.refusal.specs.Refusals.{firstOf, settle}
 use Rattle.refusal.specs.Laws.{first-none}
-use Rattle.refusal.specs.Rooms.{Room, room, room-of, long-enough}
+use Rattle.refusal.specs.Rooms.{Room}
+use Rattle.refusal.specs.RoomLaws.{room-of, room, long-enough}
 use Rattle.refusal.specs.Tests.{capacity, sampleFinite}
 use Rattle.samples.specs.Columns.{lengths, Column, ofX, ofY, value, samplesOf, withY}
 use Rattle.book.specs.Calls.{Out, State, stateAfter, bookOf, bookAnswered, refused, addOut, correctOut, withdrawOut, withoutAt, addNext, addMany, addFrameOut}

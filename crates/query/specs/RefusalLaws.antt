@@ -14,7 +14,8 @@ use Rattle.statistics.specs.declared.Tolerance.{Tolerance}
 use Rattle.samples.specs.Samples.{Sample}
 use Rattle.refusal.specs.Refusals.{numbersOf, InOrder, those, isAmong}
 use Rattle.refusal.specs.Laws.{numbered, first-none}
-use Rattle.refusal.specs.Rooms.{Room, room}
+use Rattle.refusal.specs.Rooms.{Room}
+use Rattle.refusal.specs.RoomLaws.{room}
 use Rattle.query.specs.Refusals.{fitNeeds, bandNeeds, fitTests, validateTests, bandTests, fitRefusal, validateRefusal, bandRefusal}
 
 module _ (n : ℕ) (samples : List Sample) (columns : List ℕ) (sums scratch : ℕ) where

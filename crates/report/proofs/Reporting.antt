@@ -25,7 +25,8 @@ use Rattle.report.specs.declared.Chosen.{Chosen}
 use Rattle.report.specs.declared.ReportAnswer.{ReportAnswer}
 use Rattle.report.specs.declared.ReportAnswer.the-variants as answers
 use Rattle.report.specs.Refusals.{reportRefusal}
-use Rattle.report.specs.RefusalLaws.{ReportRoom, report-room}
+use Rattle.report.specs.Rooms.{ReportRoom}
+use Rattle.report.specs.RefusalLaws.{report-room}
 use Rattle.report.specs.Chosen.{reportChoice, chosenRefusal, Chooses}
 use Rattle.report.specs.Reports.{ReportOut, refusedLate, Does, ReportIs, writtenBy, reportOf, reportPast, reportOn}
 use Rattle.report.specs.Outputs.{Outputs, overAll, placesOf}

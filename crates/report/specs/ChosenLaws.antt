@@ -16,7 +16,6 @@ use Rattle.monomial.specs.Rows.{rowsOf}
 use Rattle.choice.specs.Laws.{chosen}
 use Rattle.fit.specs.Solved.{isSolved, scoredBy}
 use Rattle.fit.specs.Chosen.{choiceOf, tried}
-use Rattle.fit.specs.declared.Choice.{Choice}
 use Rattle.settings.specs.declared.Settings.{Settings}
 use Rattle.report.specs.Chosen.{reportChoice}
 

@@ -1,5 +1,6 @@
 -- Document 01's report: its refusals, the choice, what it writes, and what it answers.
 pub mod Refusals
+pub mod Rooms
 pub mod RefusalLaws
 pub mod Chosen
 pub mod ChosenLaws

@@ -1,18 +1,17 @@
 -- What a report may refuse by of 1 to 9, in the checking order, and what it may count on past them.
 use mathlib.Core.Path.{_≡_, refl}
 use mathlib.Core.List.{List, [], _∷_, List·Memᴰ}
-use Prim.Native.Nat.{ℕ, _≤_, _<_}
+use Prim.Native.Nat.{ℕ}
 use native.Mathlib.Omega.{arith}
 use borrow.Author.Tests.{ltb-false, eqb-false}
-use Rattle.basis.specs.Sizes.{highestDegree}
-use Rattle.statistics.specs.Degrees.{maxDegree}
 use Rattle.samples.specs.Samples.{Sample}
 use Rattle.refusal.specs.Refusals.{numbersOf, InOrder, those, isAmong}
 use Rattle.refusal.specs.Laws.{numbered, first-none}
-use Rattle.refusal.specs.Rooms.{Room, room}
+use Rattle.refusal.specs.RoomLaws.{room}
 use Rattle.settings.specs.declared.Settings.{Settings}
 use Rattle.report.specs.declared.Places.{Places}
-use Rattle.report.specs.Refusals.{reportNeeds, reportTests, reportRefusal}
+use Rattle.report.specs.Refusals.{reportTests, reportRefusal}
+use Rattle.report.specs.Rooms.{ReportRoom}
 
 module _ (n : ℕ) (settings : Settings) (samples : List Sample) (columns : List ℕ) (sums : ℕ) (places : Places) where
   pub report-numbers : List·Memᴰ (reportRefusal n settings samples columns sums places) (0 ∷ 1 ∷ 4 ∷ 7 ∷ 8 ∷ [])
@@ -22,12 +21,6 @@ module _ (n : ℕ) (settings : Settings) (samples : List Sample) (columns : List
   pub report-in-order : InOrder (numbersOf (reportTests n settings samples columns sums places))
   unfolding those isAmong
   report-in-order = refl
-
--- what a report that 1 to 9 let through may count on
-pub record ReportRoom (n : ℕ) (settings : Settings) (columns : List ℕ) (sums : ℕ) (places : Places) : Type 0 where
-  pub room : Room n columns (reportNeeds n sums places)
-  pub some : 0 < n
-  pub most : maxDegree (settings .bound) n ≤ highestDegree
 
 pub report-room : (n : ℕ) (settings : Settings) (samples : List Sample) (columns : List ℕ) (sums : ℕ) (places : Places)
     → reportRefusal n settings samples columns sums places ≡ 0 → ReportRoom n settings columns sums places

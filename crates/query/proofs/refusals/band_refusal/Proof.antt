@@ -6,7 +6,7 @@ use borrow.Author.Needs.{needs}
 use lib.Dec.{eqb}
 use Rattle.samples.specs.ColumnLaws.{column-of-samples}
 use Rattle.refusal.specs.Laws.{first-of, first-end, first-holds, first-fails}
-use Rattle.refusal.specs.Rooms.{room}
+use Rattle.refusal.specs.RoomLaws.{room}
 use Rattle.refusal.specs.Tests.{outside}
 use Rattle.query.specs.Refusals.{bandRefusal}
 use Rattle.samples.specs.Columns.{ofX, columnsOf}

@@ -1,7 +1,7 @@
 -- `query::refusals::band_short` meets its contract.
 use Prim.Native.Nat.{_-_}
 use borrow.Author.Needs.{needs}
-use Rattle.refusal.specs.Rooms.{short-of, short-end, short-is}
+use Rattle.refusal.specs.RoomLaws.{short-of, short-end, short-is}
 use Rattle.query.proofs.refusals.band_short.Statement.{statement}
 use Rattle.query.proofs.refusals.band_short.Tie as tie
 

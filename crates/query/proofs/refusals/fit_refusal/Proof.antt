@@ -5,7 +5,7 @@ use Prim.Native.Nat.{_-_}
 use borrow.Author.Needs.{needs}
 use lib.Dec.{eqb}
 use Rattle.refusal.specs.Laws.{first-of, first-end, first-holds, first-fails}
-use Rattle.refusal.specs.Rooms.{room}
+use Rattle.refusal.specs.RoomLaws.{room}
 use Rattle.query.specs.Refusals.{fitRefusal}
 use Rattle.query.proofs.refusals.fit_refusal.Statement.{statement}
 use Rattle.query.proofs.refusals.fit_refusal.Tie as tie

@@ -4,7 +4,7 @@ use mathlib.Core.Bool.{not}
 use Prim.Native.Nat.{_-_}
 use borrow.Author.Needs.{needs}
 use Rattle.refusal.specs.Laws.{first-of, first-end, first-holds, first-fails}
-use Rattle.refusal.specs.Rooms.{room}
+use Rattle.refusal.specs.RoomLaws.{room}
 use Rattle.query.specs.Refusals.{validateRefusal}
 use Rattle.query.proofs.refusals.validate_refusal.Statement.{statement}
 use Rattle.query.proofs.refusals.validate_refusal.Tie as tie

@@ -1,7 +1,7 @@
 -- `report::refusals::report_short` meets its contract.
 use Prim.Native.Nat.{_-_}
 use borrow.Author.Needs.{needs}
-use Rattle.refusal.specs.Rooms.{short-of, short-end, short-is}
+use Rattle.refusal.specs.RoomLaws.{short-of, short-end, short-is}
 use Rattle.report.proofs.refusals.report_short.Statement.{statement}
 use Rattle.report.proofs.refusals.report_short.Tie as tie
 
