@@ -1,7 +1,7 @@
 -- What the samples of T10 to T12 solve to and score, computed from the definitions that the contracts cite.
 use mathlib.Core.Path.{_≡_, refl, _∙_}
 use mathlib.Core.Bool.{true, false, cond, _&&_}
-use mathlib.Core.List.{List, [], _∷_}
+use mathlib.Core.List.{List, _∷_}
 use Prim.Native.Nat.{ℕ}
 use lib.Dec.{eqb}
 use lib.ListN.{length, replicate}
@@ -18,7 +18,6 @@ use Rattle.value.specs.Total.{totalF}
 use Rattle.statistics.specs.Scores.{milli}
 use Rattle.statistics.specs.Medians.{insert, sort, midpoint, medianOf, deviations, medianAbsoluteDeviation}
 use Rattle.statistics.specs.Losses.{huberConst, huberLoss, losses}
-use Rattle.samples.specs.Samples.{Sample}
 use Rattle.monomial.specs.Rows.{Row, rowOf, rowsOf, fitted}
 use Rattle.monomial.specs.Sums.{productOf, addRow, sumsOf}
 use Rattle.solve.specs.Solve.{clearRow, clearBelow, pivotHolds, eliminate, backRow, back, rightOf, solved, solve}
@@ -28,17 +27,7 @@ use Rattle.score.specs.declared.Criterion.the-variants.{Aic}
 use Rattle.choice.specs.declared.Scored.{Scored}
 use Rattle.fit.specs.Residuals.{residual, residuals}
 use Rattle.fit.specs.Solved.{isSolved, scoreOn, scoredBy}
-
-abbrev pub at : ℕ → ℕ → Sample
-at x y = record { x = num x; y = num y }
-
--- (0,1), (1,3), (2,5)
-abbrev pub line : List Sample
-line = at 0 1 ∷ at 1 3 ∷ at 2 5 ∷ []
-
--- (2,1), (2,5)
-abbrev pub twice : List Sample
-twice = at 2 1 ∷ at 2 5 ∷ []
+use Rattle.cases.specs.Cases.{line, twice}
 
 -- both pivots hold, the coefficients are 1 and 2, and the other 14 places are +0
 pub line-degree-1 : solve (sumsOf (rowsOf line)) 2 ≡ record { held = 2; c = num 1 ∷ num 2 ∷ replicate 14 zeroF }
