@@ -1,16 +1,18 @@
 #!/usr/bin/env python3
-"""Checks what a proof does not see: crates.txt, the must-fail edits, the layer table of docs/DESIGN.md, long contracts. Run in the repository's root.
+"""Checks what a proof does not see: crates.txt, must-fail edits, the layer table of docs/DESIGN.md, long contracts, definitions apart from laws. Run in the
+repository's root.
 
 crates.txt: every crate folder is on it and the other way round, each crate after those it rests on. A line lists the libraries that the crate's own
 files name, may list those that declare the types which its code reaches, and no others: the prover finds what these rest on by itself.
 Edits: the first line is a comment that names an input; each `old:` text stands exactly once in its file.
 docs/DESIGN.md: the table of layers has every crate, in the order of crates.txt.
 Files: no contract line is longer than 300 characters; no comment of specs/ or proofs/ says that nothing is assumed, which the prover sees to.
+specs/: a file whose first comment says `Definitions only.` has no law, and any other has no definition that is `pub`.
 
 With --lines it prints crates.txt's lines as they should be, and checks nothing."""
 import re
 import sys
-from itertools import zip_longest
+from itertools import takewhile, zip_longest
 from pathlib import Path
 
 KIT = {'check', 'libc', 'io', 'os', 'bytes'}
@@ -152,6 +154,30 @@ def check_files(crates):
                 wrong.append(f'{path}: it says `Assumes nothing.`, which holds of every file')
 
 
+# The first lines of a file's declarations, those inside `module _ .. where` too, and without fields, `where` and what goes on.
+def declarations(lines):
+    level = 0
+    for line in lines:
+        text = line.lstrip(' ')
+        indent = len(line) - len(text)
+        if text and not text.startswith('--') and indent <= level:
+            level = indent + 2 * text.startswith('module ')
+            yield text
+
+
+# A law has no word before its name but `pub`: by that it is told from a definition.
+def check_specs(crates):
+    for crate in crates:
+        for path in files(crate, ['specs']):
+            lines = path.read_text(encoding='utf-8').splitlines()
+            comment = ' '.join(line.strip('- ') for line in takewhile(lambda line: line.startswith('--'), lines))
+            only = 'Definitions only.' in comment
+            kind = r'(?:pub )?(\S+) :(?: |$)' if only else r'(?:unfoldable pub|abbrev pub|pub record|pub data) (\S+)'
+            found = [m[1] for m in (re.match(kind, text) for text in declarations(lines)) if m]
+            if found:
+                wrong.append(f'{path}: it {"says" if only else "does not say"} `Definitions only.`, and has the {"law" if only else "definition"} {found[0]}')
+
+
 def main():
     crates = listed_crates()
     if sys.argv[1:] == ['--lines']:
@@ -163,11 +189,12 @@ def main():
     edits = check_edits(crates)
     check_design(crates)
     check_files(crates)
+    check_specs(crates)
     for line in wrong:
         print('layout:', line)
     if wrong:
         return 1
-    print(f'layout: {len(crates)} crates and {edits} edits: dependencies, old texts, table of layers and contract lines are in order')
+    print(f'layout: {len(crates)} crates and {edits} edits: dependencies, old texts, table of layers, contract lines and definitions are in order')
     return 0
 
 
