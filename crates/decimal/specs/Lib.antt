@@ -6,8 +6,9 @@ pub mod Powers
 pub mod PowerLaws
 pub mod Nearest
 pub mod NearestLaws
-pub mod IndexLaws
 pub mod Readings
+pub mod Parts
+pub mod IndexLaws
 pub mod Lines
 pub mod Handed
 pub mod LineLaws

@@ -7,8 +7,6 @@ mod readings;
 
 pub use cursor::Cursor;
 pub use cursor::Next;
-pub use cursor::ReadLine;
-pub use cursor::line_at;
 pub use cursor::next_sample;
 pub use lines::count;
 pub use lines::refusal;
