@@ -6,5 +6,6 @@ pub mod CallLaws
 pub mod Many
 pub mod ManyLaws
 pub mod Frames
+pub mod Lines
 pub mod Window
 pub mod WindowLaws

@@ -25,13 +25,13 @@ settle (suc k) good bad = bad
 
 -- ---- the order
 
--- 01's numbers in the order in which they are checked
+-- 01's numbers, and those of document 02 beside them, in the order in which they are checked
 abbrev pub checkingOrder : List ℕ
-checkingOrder = 1 ∷ 2 ∷ 3 ∷ 4 ∷ 5 ∷ 6 ∷ 7 ∷ 8 ∷ 9 ∷ 10 ∷ 11 ∷ 12 ∷ []
+checkingOrder = 1 ∷ 2 ∷ 3 ∷ 13 ∷ 14 ∷ 4 ∷ 5 ∷ 6 ∷ 7 ∷ 8 ∷ 9 ∷ 10 ∷ 11 ∷ 12 ∷ []
 
 -- the largest of them
 abbrev pub mostNumber : ℕ
-mostNumber = 12
+mostNumber = 14
 
 abbrev pub numbersOf : List Refusal → List ℕ
 numbersOf rs = map (λ (r : Refusal). r .number) rs
@@ -45,6 +45,6 @@ unfoldable pub those : List ℕ → List ℕ → List ℕ
 those [] ks = []
 those (o ∷ os) ks = let rest = those os ks in cond (isAmong o ks) (o ∷ rest) rest
 
--- these numbers are 01's, each stands once, and in the checking order
+-- these numbers are among them, each stands once, and in the checking order
 abbrev pub InOrder : List ℕ → Type 0
 InOrder ks = those checkingOrder ks ≡ ks
