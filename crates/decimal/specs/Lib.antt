@@ -6,9 +6,8 @@ pub mod Powers
 pub mod PowerLaws
 pub mod Nearest
 pub mod NearestLaws
-pub mod Readings
-pub mod Parts
 pub mod IndexLaws
+pub mod Readings
 pub mod Lines
 pub mod Handed
 pub mod LineLaws
