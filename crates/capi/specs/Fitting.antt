@@ -39,11 +39,12 @@ use Rattle.covariance.specs.MarkLaws.{ones-again}
 use Rattle.covariance.specs.Pruning.{prunes, prunedAt, prunedBytes}
 use Rattle.covariance.specs.Bands.{bandAt, outlies, outlierOf, outliersOf}
 use Rattle.frame.specs.Frame.{decode}
-use Rattle.book.specs.Refusals.{openRefusal, addRefusal, correctRefusal, withdrawRefusal, frameAddRefusal}
+use Rattle.decimal.specs.Lines.{readLines}
+use Rattle.book.specs.Refusals.{openRefusal, addRefusal, correctRefusal, withdrawRefusal, frameAddRefusal, linesAddRefusal}
 use Rattle.refusal.specs.Laws.{among, numbered}
 use Rattle.refusal.specs.Refusals.{mostNumber, by, settle}
-use Rattle.book.specs.RefusalLaws.{open-numbers, add-numbers, correct-numbers, withdraw-numbers, frame-numbers, add-room, correct-room, withdraw-room, frame-room}
-use Rattle.book.specs.Calls.{Out, stateOf, refused, openOut, addOut, correctOut, withdrawOut, addFrameOut}
+use Rattle.book.specs.RefusalLaws.{open-numbers, add-numbers, correct-numbers, withdraw-numbers, frame-numbers, lines-numbers, add-room, correct-room, withdraw-room, frame-room, lines-room}
+use Rattle.book.specs.Calls.{Out, stateOf, refused, openOut, addOut, correctOut, withdrawOut, addFrameOut, addLinesOut}
 use Rattle.book.specs.ManyLaws.{many-added, added-is}
 use Rattle.measure.specs.Measures.{inverseFails, measureRefusal, covarianceAt}
 use Rattle.query.specs.Refusals.{fitRefusal, validateRefusal, bandRefusal}
@@ -142,6 +143,14 @@ module _ (n : ℕ) (columns : Columns) (sums : List Float) where
       book-fits (frameAddRefusal n f (lengths columns) (length sums)) _ columns sums
       (omega (arith, among _ (frame-numbers n (lengths columns) (length sums) f)))
       (λ e. let r = frame-room n (lengths columns) (length sums) f e in rw (many-added (decode f) s (r .0) (r .2) ∙ added-is (decode f) s) (r .0 .most))
+
+  pub lines-fits : (t : List ℕ) → BookFits (addLinesOut n t columns sums .answer)
+  unfolding addLinesOut BookFits
+  lines-fits t =
+      let s = stateOf n columns sums in
+      book-fits (linesAddRefusal n t (lengths columns) (length sums)) _ columns sums
+      (omega (arith, among _ (lines-numbers n (lengths columns) (length sums) t)))
+      (λ e. let r = lines-room n (lengths columns) (length sums) t e in rw (many-added (readLines t) s (r .0) (r .2) ∙ added-is (readLines t) s) (r .0 .most))
 
 -- ---- fit and validation
 

@@ -16,7 +16,7 @@ use Rattle.samples.specs.Samples.{Sample}
 use Rattle.score.specs.declared.Criterion.{Criterion}
 use Rattle.book.specs.declared.Answer.{Answer}
 use Rattle.book.specs.declared.Answer.the-variants as books
-use Rattle.book.specs.Calls.{openOut, addOut, correctOut, withdrawOut, addFrameOut}
+use Rattle.book.specs.Calls.{openOut, addOut, correctOut, withdrawOut, addFrameOut, addLinesOut}
 use Rattle.samples.specs.Columns.{Columns}
 use Rattle.frame.specs.Frame.{frameRefusal}
 use Rattle.frame.specs.Handed.{nextOf, openedBy, openedOf}
@@ -36,7 +36,7 @@ use Rattle.ledger.specs.Ledger.{Call}
 use Rattle.ledger.specs.ReadCalls.{ReadCall}
 use Rattle.replay.specs.Replay.{Memory, Ran}
 use Rattle.capi.specs.Packed.{packedOpened, packedRead, bandInto, packedRefusal, packedBook, packedFit, packedBand, packedCounts, packedReport, BookFits, FitFits, BandFits, ReportFits}
-use Rattle.capi.specs.Fitting.{open-fits, add-fits, correct-fits, withdraw-fits, frame-fits, fit-fits, validate-fits, band-fits, report-fits}
+use Rattle.capi.specs.Fitting.{open-fits, add-fits, correct-fits, withdraw-fits, frame-fits, lines-fits, fit-fits, validate-fits, band-fits, report-fits}
 use Rattle.capi.specs.ReplayFitting.{replay-fits}
 use Rattle.capi.specs.Reading.{numberIn, degreeIn, solvedIn, prunedIn, outliersIn, countIn, BookRead, FitRead, BandRead, ReportRead, OpenedRead, ReadRead}
 
@@ -126,6 +126,9 @@ module _ (n : ℕ) (columns : Columns) (sums : List Float) where
 
   pub frame-back : (f : List ℕ) → BookRead (packedBook (addFrameOut n f columns sums .answer)) (addFrameOut n f columns sums .answer)
   frame-back f = book-read _ (frame-fits n columns sums f)
+
+  pub lines-back : (t : List ℕ) → BookRead (packedBook (addLinesOut n t columns sums .answer)) (addLinesOut n t columns sums .answer)
+  lines-back t = book-read _ (lines-fits n columns sums t)
 
   module _ (scratch coefficients : List Float) where
     pub fit-back : (degree : ℕ) → (let a = fitOut n columns sums scratch coefficients degree .answer in FitRead (packedFit a) a)

@@ -18,11 +18,11 @@ use Rattle.book.specs.declared.Answer.the-variants as books
 use Rattle.book.specs.Calls.{State, stateAfter, bookAfter, bookAnswered, refused, addNext, openOut, withdrawOut}
 use Rattle.book.specs.Window.{windowRefusal, withPlace, windowOut}
 use Rattle.book.specs.WindowLaws.{window-numbers}
-use Rattle.ledger.specs.Ledger.{Call, Change, changes, reads, adds, corrects, withdraws, frames, windows, outOf, next, final, opened}
+use Rattle.ledger.specs.Ledger.{Call, Change, changes, reads, adds, corrects, withdraws, frames, texts, windows, outOf, next, final, opened}
 use Rattle.ledger.specs.ReadCalls.{ReadCall}
 use Rattle.replay.specs.Replay.{Memory, Ran}
 use Rattle.capi.specs.Packed.{BookFits}
-use Rattle.capi.specs.Fitting.{open-fits, add-fits, correct-fits, withdraw-fits, frame-fits}
+use Rattle.capi.specs.Fitting.{open-fits, add-fits, correct-fits, withdraw-fits, frame-fits, lines-fits}
 
 after-fits : (n : ℕ) (a : Answer) → n ≤ maxSamples → BookFits a → bookAfter n a ≤ maxSamples
 unfolding BookFits
@@ -59,6 +59,7 @@ change-fits s (adds p) h = add-fits (s .count) (s .columns) (s .sums) p
 change-fits s (corrects i y) h = correct-fits (s .count) (s .columns) (s .sums) i y
 change-fits s (withdraws i) h = withdraw-fits (s .count) (s .columns) (s .sums) i
 change-fits s (frames f) h = frame-fits (s .count) (s .columns) (s .sums) f
+change-fits s (texts t) h = lines-fits (s .count) (s .columns) (s .sums) t
 change-fits s (windows p) h = window-fits (s .count) p (s .columns) (s .sums) h
 
 final-fits : (s : State) (cs : List (Call ReadCall)) → s .count ≤ maxSamples → final s cs .count ≤ maxSamples

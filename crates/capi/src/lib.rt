@@ -13,7 +13,7 @@ ghost use mathlib.Core.List.{[]};
 ghost use Prim.Native.Nat.{_≤_};
 ghost use lib.ListN.{length};
 ghost use Rattle.basis.specs.Sizes.{highestDegree, maxSamples, maxTerms};
-ghost use Rattle.book.specs.Calls.{openOut, addOut, correctOut, withdrawOut, addFrameOut};
+ghost use Rattle.book.specs.Calls.{openOut, addOut, correctOut, withdrawOut, addFrameOut, addLinesOut};
 ghost use Rattle.samples.specs.Columns.{columnsOf, noColumns};
 ghost use Rattle.lent.specs.Slices.{before, after};
 ghost use Rattle.lent.specs.Written.{over};
@@ -145,6 +145,20 @@ pub extern "C" fn stakebook_add_frame(
     ensures { λ r. ⌜ BookPacked (addFrameOut count (before frame) (columnsOf (before xs) (before ys)) (before sums)) r (columnsOf (after xs) (after ys)) (after sums) ⌝ }
 {
     packed::book(book::add_frame(Book { count }, frame, xs, ys, sums))
+}
+
+// All samples of a text of lines at the end, or none.
+#[no_mangle]
+pub extern "C" fn stakebook_add_lines(
+    count: usize,
+    text: &[u8],
+    xs: &mut [f64],
+    ys: &mut [f64],
+    sums: &mut [f64],
+) -> u64
+    ensures { λ r. ⌜ BookPacked (addLinesOut count (before text) (columnsOf (before xs) (before ys)) (before sums)) r (columnsOf (after xs) (after ys)) (after sums) ⌝ }
+{
+    packed::book(book::add_lines(Book { count }, text, xs, ys, sums))
 }
 
 // The fit of the asked degree.

@@ -15,21 +15,22 @@ use Rattle.samples.specs.Samples.{Sample}
 use Rattle.monomial.specs.Rows.{rowsOf}
 use Rattle.monomial.specs.Sums.{sumsOf}
 use Rattle.frame.specs.Frame.{decode}
+use Rattle.decimal.specs.Lines.{readLines}
 use Rattle.book.specs.declared.Answer.{Answer}
 use Rattle.book.specs.declared.Answer.the-variants as answers
 use Rattle.book.specs.Refusals.{withdrawRefusal, sumsLent}
-use Rattle.book.specs.RefusalLaws.{add-room, correct-room, withdraw-room, frame-room}
+use Rattle.book.specs.RefusalLaws.{add-room, correct-room, withdraw-room, frame-room, lines-room}
 use Rattle.refusal.specs.Refusals.{firstOf, settle}
 use Rattle.refusal.specs.Laws.{first-none}
 use Rattle.refusal.specs.Rooms.{Room}
 use Rattle.refusal.specs.RoomLaws.{room-of, room, long-enough}
 use Rattle.refusal.specs.Tests.{capacity, sampleFinite}
 use Rattle.samples.specs.Columns.{lengths, Column, ofX, ofY, value, samplesOf, withY}
-use Rattle.book.specs.Calls.{Out, State, stateAfter, bookOf, bookAnswered, refused, addOut, correctOut, withdrawOut, withoutAt, addNext, addMany, addFrameOut}
+use Rattle.book.specs.Calls.{Out, State, stateAfter, bookOf, bookAnswered, refused, addOut, correctOut, withdrawOut, withoutAt, addNext, addMany, addFrameOut, addLinesOut}
 use Rattle.book.specs.Many.{added, RoomFor}
 use Rattle.book.specs.ManyLaws.{room-one, room-rest, one-added, many-added, added-is}
 use Rattle.book.specs.Window.{windowRefusal, withPlace, windowOut}
-use Rattle.ledger.specs.Ledger.{Change, adds, corrects, withdraws, frames, windows, Lent, lentBy, outOf, newY, without, changed, refusalOf}
+use Rattle.ledger.specs.Ledger.{Change, adds, corrects, withdraws, frames, texts, windows, Lent, lentBy, outOf, newY, without, changed, refusalOf}
 use Rattle.ledger.proofs.Lists.{length-new, new-x, new-y, length-less, column-add, column-without, length-without, without-rest, samples-are, sums-rest, sums-add, sums-correct, sums-long, drop-later}
 
 -- ---- what a call that is not refused leaves
@@ -51,16 +52,18 @@ done s (adds p) = added s p
 done s (corrects i y) = correctedState s i y
 done s (withdraws i) = withdrawnState s i
 done s (frames f) = addMany (decode f) s
+done s (texts t) = addMany (readLines t) s
 done s (windows p) = addNext (withPlace s) p
 
 out-is : (s : State) (c : Change)
     → let k = refusalOf (lentBy s) (s .count) c in
     outOf s c ≡ settle k (bookAnswered (done s c)) (refused k (s .columns) (s .sums))
-unfolding outOf refusalOf addOut correctOut withdrawOut addFrameOut windowOut
+unfolding outOf refusalOf addOut correctOut withdrawOut addFrameOut addLinesOut windowOut
 out-is s (adds p) = refl
 out-is s (corrects i y) = refl
 out-is s (withdraws i) = refl
 out-is s (frames f) = refl
+out-is s (texts t) = refl
 out-is s (windows p) = refl
 
 -- ---- any column
@@ -240,6 +243,9 @@ module _ (m : Lent) (rest : List Float) where
   leaves l s h (frames f) e =
       let r = frame-room (s .count) (lengths (s .columns)) (length (s .sums)) f e in
       rw (many-added (decode f) s (r .0) (r .2)) (leaves-many m rest (decode f) l s h (r .0))
+  leaves l s h (texts t) e =
+      let r = lines-room (s .count) (lengths (s .columns)) (length (s .sums)) t e in
+      rw (many-added (readLines t) s (r .0) (r .2)) (leaves-many m rest (readLines t) l s h (r .0))
   leaves l s h (windows p) e = leaves-window l s p h e
 
   pub record Stepped (s : State) (o : Out) (l : List Sample) (a : Answer) : Type 0 where

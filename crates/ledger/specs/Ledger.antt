@@ -14,11 +14,12 @@ use Rattle.samples.specs.Samples.{Sample}
 use Rattle.monomial.specs.Rows.{rowsOf}
 use Rattle.monomial.specs.Sums.{sumsOf}
 use Rattle.frame.specs.Frame.{decode}
+use Rattle.decimal.specs.Lines.{readLines}
 use Rattle.book.specs.declared.Answer.{Answer}
 use Rattle.book.specs.declared.Answer.the-variants as answers
-use Rattle.book.specs.Refusals.{addRefusal, correctRefusal, withdrawRefusal, frameAddRefusal}
+use Rattle.book.specs.Refusals.{addRefusal, correctRefusal, withdrawRefusal, frameAddRefusal, linesAddRefusal}
 use Rattle.refusal.specs.Tests.{capacity}
-use Rattle.book.specs.Calls.{Out, State, stateOf, stateAfter, bookOf, bookAfter, openOut, addOut, correctOut, withdrawOut, addFrameOut}
+use Rattle.book.specs.Calls.{Out, State, stateOf, stateAfter, bookOf, bookAfter, openOut, addOut, correctOut, withdrawOut, addFrameOut, addLinesOut}
 use Rattle.samples.specs.Columns.{Column, value, lengths, samplesOf, Columns}
 use Rattle.refusal.specs.Refusals.{settle}
 use Rattle.book.specs.Window.{windowRefusal, windowOut}
@@ -31,6 +32,7 @@ pub data Change : Type 0 where
   corrects : ℕ → Float → Change
   withdraws : ℕ → Change
   frames : List ℕ → Change
+  texts : List ℕ → Change
   windows : Sample → Change
 
 -- A call of a list. R is the type of the calls that only read (fit, report, validate, band), each with its arguments and the lengths of the memory
@@ -67,6 +69,7 @@ outOf s (adds p) = addOut (s .count) p (s .columns) (s .sums)
 outOf s (corrects i y) = correctOut (s .count) i y (s .columns) (s .sums)
 outOf s (withdraws i) = withdrawOut (s .count) i (s .columns) (s .sums)
 outOf s (frames f) = addFrameOut (s .count) f (s .columns) (s .sums)
+outOf s (texts t) = addLinesOut (s .count) t (s .columns) (s .sums)
 outOf s (windows p) = windowOut (s .count) p (s .columns) (s .sums)
 
 unfoldable pub next : {R : Type 0} → State → Call R → State
@@ -103,12 +106,13 @@ newY (p ∷ l) (suc i) y = p ∷ newY l i y
 abbrev pub without : ℕ → List Sample → List Sample
 without i l = take i l ++ drop (i + 1) l
 
--- Add: one sample at the end. A frame equals that many adds. An add to a full window book first withdraws sample 0.
+-- Add: one sample at the end. A frame, and lines, equal that many adds. An add to a full window book first withdraws sample 0.
 unfoldable pub changed : Lent → List Sample → Change → List Sample
 changed m l (adds p) = l ++ (p ∷ [])
 changed m l (corrects i y) = newY l i y
 changed m l (withdraws i) = without i l
 changed m l (frames f) = l ++ decode f
+changed m l (texts t) = l ++ readLines t
 changed m l (windows p) = cond (eqb (length l) (capacity (m .columns))) (without 0 l) l ++ (p ∷ [])
 
 -- A call is refused exactly when the refusals, read with the ledger's length as the count n, give it a number; 0 is none.
@@ -117,6 +121,7 @@ refusalOf m n (adds p) = addRefusal n p (m .columns) (m .sums)
 refusalOf m n (corrects i y) = correctRefusal n i y (m .columns) (m .sums)
 refusalOf m n (withdraws i) = withdrawRefusal n i (m .columns) (m .sums)
 refusalOf m n (frames f) = frameAddRefusal n f (m .columns) (m .sums)
+refusalOf m n (texts t) = linesAddRefusal n t (m .columns) (m .sums)
 refusalOf m n (windows p) = windowRefusal n p (m .columns) (m .sums)
 
 -- A refusal changes nothing. A report, or any other call that reads, changes nothing.
