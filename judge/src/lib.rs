@@ -1,10 +1,11 @@
-//! Document 01 transcribed in plain Rust, in the document's order and words.
+//! Document 01 transcribed in plain Rust, in the document's order and words, and of document 02, the
+//! change requests, what is built.
 //!
 //! Every float step is written out, so that the order of rounding can be read off the text. Nothing
 //! is shared, cached or skipped; where a faster way exists, this is what it must agree with.
 //!
-//! `numbers`, `statistics`, `sums`, `solve`, `fit` and `frame` are definitions over samples and
-//! sums; `refusals` says which number a call is refused by; `book` has the calls on lent memory;
+//! `numbers`, `statistics`, `sums`, `solve`, `fit`, `frame` and `lines` are definitions over samples
+//! and sums; `refusals` says which number a call is refused by; `book` has the calls on lent memory;
 //! `ledger` is the plain list of samples that the book must agree with; `listing` is the program
 //! `stakebook`.
 
@@ -15,6 +16,7 @@ pub mod book;
 pub mod fit;
 pub mod frame;
 pub mod ledger;
+pub mod lines;
 pub mod listing;
 pub mod numbers;
 pub mod refusals;

@@ -1,5 +1,5 @@
 //! Each call on small lent memory: what it answers, what it writes, and by which number it is
-//! refused where several would do. The expected values are worked out by hand from document 01.
+//! refused where several would do. The expected values are worked out by hand from the documents.
 
 use judge::book::{self, Memory, ReportAnswer, ReportMemory};
 use judge::fit::{Band, Criterion, Settings};
@@ -90,6 +90,12 @@ impl Book {
     fn add_frame(&mut self, bytes: &[u8]) -> Result<usize, u8> {
         let count = self.count;
         let answer = book::add_frame(count, &mut self.memory(), bytes);
+        self.keep(answer)
+    }
+
+    fn add_lines(&mut self, text: &str) -> Result<usize, u8> {
+        let count = self.count;
+        let answer = book::add_lines(count, &mut self.memory(), text.as_bytes());
         self.keep(answer)
     }
 
@@ -199,6 +205,76 @@ fn frame_is_that_many_adds() {
     assert_eq!(book.add_frame(&wrong), Err(2));
     book.sums.truncate(0);
     assert_eq!(book.add_frame(&wrong), Err(1));
+}
+
+/// More than 15 digits.
+const LONG: &str = "1234567890123456";
+
+#[test]
+fn lines_are_that_many_adds() {
+    let mut book = Book::new(5, &[]);
+    assert_eq!(book.add_lines(""), Ok(0));
+    assert_eq!(book.add_lines("0 1\n1.0 3.00\n"), Ok(2));
+    assert_eq!(book.add_lines("2 5\n"), Ok(3));
+    assert!(book.is_folded(&LINE));
+    assert_eq!(book.add_lines("-0 -0.0\n0.1 -12.345\n"), Ok(5));
+    assert_eq!((bits(book.x[3]), bits(book.y[3])), (1 << 63, 1 << 63));
+    assert_eq!((book.x[4], book.y[4]), (0.1, -12.345));
+    assert_eq!(book.add_lines(""), Ok(5));
+    assert_eq!(book.add_lines("0 0\n"), Err(5));
+}
+
+/// 13 and 14 by the first line that has either, 13 first within a line; 1 before and 5 after both.
+#[test]
+fn lines_are_refused_in_order() {
+    let mut book = Book::new(3, &LINE[..1]);
+    let cases = [
+        ("1 2\n3 4\n5 6\n".to_string(), 5),
+        ("1 2\n3 4\n5 6".to_string(), 13),
+        (format!("1 2\n3 4\n5 {LONG}\n"), 14),
+        (format!("1 2\n3 4\n5 {LONG}"), 13),
+        (format!("{LONG} 2\n3\n"), 14),
+        (format!("1\n{LONG} 2\n"), 13),
+        (format!("{LONG} x\n"), 13),
+        (format!("x {LONG}\n"), 13),
+        (format!("{LONG} x\n{LONG} 2\n"), 13),
+        (format!("1 2\n{LONG} 2\nx {LONG}\n"), 14),
+        ("1 2\n\n".to_string(), 13),
+        ("\n".to_string(), 13),
+        ("1 2\r\n".to_string(), 13),
+    ];
+    for (text, number) in &cases {
+        assert_eq!(book.add_lines(text), Err(*number), "{text:?}");
+    }
+    // A refused text leaves all as it was.
+    assert_eq!((book.count, &book.x[..]), (1, &[0.0, MARK, MARK][..]));
+    assert_eq!(book.y, [1.0, MARK, MARK]);
+    assert!(book.is_folded(&LINE[..1]));
+    book.sums.truncate(PLACES - 1);
+    for (text, _) in &cases {
+        assert_eq!(book.add_lines(text), Err(1), "{text:?}");
+    }
+    assert_eq!(book.add_lines(""), Err(1));
+}
+
+/// 4,096 lines fill a book; of 5,000 none is added, and a bad one at the end is found before that.
+#[test]
+fn many_lines() {
+    let mut book = Book::new(4100, &[]);
+    let line = |i: usize| format!("{}.{:03} -{i}\n", i / 1000, i % 1000);
+    let text = |count: usize| (0..count).map(line).collect::<String>();
+    assert_eq!(book.add_lines(&text(5000)), Err(5));
+    assert_eq!(book.add_lines(&(text(5000) + "1")), Err(13));
+    assert_eq!(book.add_lines(&format!("{}1 {LONG}\n", text(5000))), Err(14));
+    assert_eq!(book.add_lines(&text(4097)), Err(5));
+    assert_eq!((book.count, book.x[0]), (0, MARK));
+    assert_eq!(book.add_lines(&text(4096)), Ok(4096));
+    assert_eq!((book.x[4095], book.y[4095], book.x[4096]), (4.095, -4095.0, MARK));
+    assert_eq!(bits(book.y[0]), 1 << 63);
+    assert_eq!(book.add_lines(&text(1)), Err(5));
+    assert_eq!(book.add_lines(""), Ok(4096));
+    book.count = 4097;
+    assert_eq!(book.add_lines(""), Err(1));
 }
 
 #[test]
