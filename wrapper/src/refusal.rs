@@ -1,6 +1,7 @@
 //! Why a call was refused.
 
-/// The twelve refusals, in checking order. A refused call changes no sample and writes no result.
+/// The fourteen refusals, by number. They are checked in this order, but 13 and 14 after 3. A refused
+/// call changes no sample and writes no result.
 #[derive(Debug, Clone, Copy, PartialEq, Eq)]
 pub enum Refusal {
     /// 1: a lent memory is too short, or the count is above capacity.
@@ -27,17 +28,21 @@ pub enum Refusal {
     NoDegree,
     /// 12: the covariance can't be worked out.
     NoCovariance,
+    /// 13: a line is not two readings with one space between them.
+    MalformedLine,
+    /// 14: a reading has more than 15 digits, leading zeros dropped, or more than 22 after the point.
+    TooManyDigits,
 }
 
 impl Refusal {
-    /// Its number, 1 to 12.
+    /// Its number, 1 to 14.
     pub fn number(self) -> u8 {
         self as u8
     }
 
     /// The refusal of a number; none for 0.
     pub(crate) fn of(number: u8) -> Option<Refusal> {
-        const ALL: [Refusal; 12] = [
+        const ALL: [Refusal; 14] = [
             Refusal::Memory,
             Refusal::FrameLength,
             Refusal::FrameVersion,
@@ -50,6 +55,8 @@ impl Refusal {
             Refusal::Unsolved,
             Refusal::NoDegree,
             Refusal::NoCovariance,
+            Refusal::MalformedLine,
+            Refusal::TooManyDigits,
         ];
         (number != 0).then(|| ALL[usize::from(number) - 1])
     }
@@ -70,8 +77,26 @@ impl std::fmt::Display for Refusal {
             Refusal::Unsolved => "the degree is unsolved",
             Refusal::NoDegree => "no degree is chosen",
             Refusal::NoCovariance => "the covariance can't be worked out",
+            Refusal::MalformedLine => "a line is not two readings with one space between them",
+            Refusal::TooManyDigits => "a reading has too many digits",
         })
     }
 }
 
 impl std::error::Error for Refusal {}
+
+#[cfg(test)]
+mod tests {
+    use super::Refusal;
+
+    /// Each number has its refusal, and each its own words.
+    #[test]
+    fn by_number() {
+        assert_eq!(Refusal::of(0), None);
+        let all: Vec<Refusal> = (1..=14).filter_map(Refusal::of).collect();
+        assert!(all.iter().map(|refusal| refusal.number()).eq(1..=14));
+        let words: std::collections::BTreeSet<String> =
+            all.iter().map(Refusal::to_string).collect();
+        assert_eq!(words.len(), 14);
+    }
+}
