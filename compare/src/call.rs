@@ -37,6 +37,7 @@ pub fn name(call: &Call) -> &'static str {
         Call::Correct { .. } => "correct",
         Call::Withdraw { .. } => "withdraw",
         Call::AddFrame(_) => "add_frame",
+        Call::AddLines(_) => "add_lines",
         Call::Fit { .. } => "fit",
         Call::Report(_) => "report",
         Call::Validate { .. } => "validate",
@@ -45,7 +46,7 @@ pub fn name(call: &Call) -> &'static str {
     }
 }
 
-/// The conditions of refusals 1 to 9, in checking order.
+/// The conditions of the refusals that come before a fit, in checking order.
 pub fn conditions(call: &Call, lengths: &Lengths, count: usize, samples: &[Sample]) -> Conditions {
     match call {
         Call::Open => refusals::open(lengths),
@@ -53,6 +54,7 @@ pub fn conditions(call: &Call, lengths: &Lengths, count: usize, samples: &[Sampl
         Call::Correct { index, y } => refusals::correct(lengths, count, *index, *y),
         Call::Withdraw { index } => refusals::withdraw(lengths, count, *index),
         Call::AddFrame(frame) => refusals::add_frame(lengths, count, frame),
+        Call::AddLines(text) => refusals::add_lines(lengths, count, text),
         Call::Fit { degree } => refusals::fit(lengths, count, samples, *degree),
         Call::Report(settings) => refusals::report(lengths, count, samples, *settings),
         Call::Validate { folds, bound, .. } => {

@@ -104,6 +104,7 @@ impl<'a> Maker<'a> {
             Call::Correct { index, y } => self.ledger.correct(lengths, *index, *y),
             Call::Withdraw { index } => self.ledger.withdraw(lengths, *index),
             Call::AddFrame(bytes) => self.ledger.add_frame(lengths, bytes),
+            Call::AddLines(text) => self.ledger.add_lines(lengths, text),
             _ => Ok(0),
         };
     }

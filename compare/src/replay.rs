@@ -4,6 +4,7 @@
 
 use journal::{Answer, Buffers, Call, Judge, Side};
 use judge::frame::Reader;
+use judge::lines;
 use judge::refusals::Lengths;
 
 use crate::call::{List, Step};
@@ -19,7 +20,7 @@ const MOST_PLACES: usize = 1 << 17;
 /// The ways in which buffers can be too short.
 pub const WAYS: u64 = 12;
 
-/// The calls of a step that a record can hold; a frame's samples are added one by one.
+/// The calls of a step that a record can hold; samples of a frame or of lines are added one by one.
 fn calls_of(step: &Step) -> Vec<Call> {
     match &step.call {
         Call::AddFrame(frame) => {
@@ -29,6 +30,7 @@ fn calls_of(step: &Step) -> Vec<Call> {
             };
             std::iter::from_fn(|| reader.next_sample()).map(Call::Add).collect()
         }
+        Call::AddLines(text) => lines::samples(text).into_iter().map(Call::Add).collect(),
         call => vec![call.clone()],
     }
 }

@@ -139,6 +139,7 @@ impl LedgerState {
             Call::Correct { index, y } => ledger.correct(lengths, *index, *y),
             Call::Withdraw { index } => ledger.withdraw(lengths, *index),
             Call::AddFrame(frame) => ledger.add_frame(lengths, frame),
+            Call::AddLines(text) => ledger.add_lines(lengths, text),
             Call::Report(settings) => {
                 let report = ledger.report(lengths, *settings);
                 return check_report("ledger", report, answer, memory);

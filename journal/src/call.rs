@@ -21,6 +21,7 @@ pub enum Call {
         index: usize,
     },
     AddFrame(Vec<u8>),
+    AddLines(Vec<u8>),
     Fit {
         degree: usize,
     },

@@ -21,8 +21,9 @@ pub const LONGEST_LINE: usize = 131_100;
 /// The most digits of a whole number.
 const DIGITS: usize = 9;
 
-/// The digits of the longest frame: its length has two bytes and counts what follows.
-const FRAME_DIGITS: usize = 2 * (2 + 65_535);
+/// The most digits of bytes: those of the longest frame, whose length has two bytes and counts what
+/// follows.
+const BYTE_DIGITS: usize = 2 * (2 + 65_535);
 
 /// What a line asks for: something of the memory, or a call.
 #[derive(Debug, Clone, PartialEq)]
@@ -98,7 +99,8 @@ fn call(word: &[u8], fields: &mut Fields) -> Read<Call> {
         b"add" => Call::Add(Sample { x: fields.float()?, y: fields.float()? }),
         b"correct" => Call::Correct { index: fields.number()?, y: fields.float()? },
         b"withdraw" => Call::Withdraw { index: fields.number()? },
-        b"frame" => Call::AddFrame(fields.frame()?),
+        b"frame" => Call::AddFrame(fields.bytes()?),
+        b"lines" => Call::AddLines(fields.bytes()?),
         b"fit" => Call::Fit { degree: fields.number()? },
         b"report" => Call::Report(Settings {
             bound: fields.bound()?,
@@ -207,8 +209,8 @@ impl<'a> Fields<'a> {
         Ok(one_value(digits.iter().fold(0, |pattern, digit| pattern << 4 | u64::from(*digit))))
     }
 
-    /// An even number of hexadecimal digits; no field at all is the empty frame.
-    fn frame(&mut self) -> Read<Vec<u8>> {
+    /// An even number of hexadecimal digits; no field at all is no bytes.
+    fn bytes(&mut self) -> Read<Vec<u8>> {
         if self.rest.is_none() {
             return Ok(Vec::new());
         }
@@ -217,7 +219,7 @@ impl<'a> Fields<'a> {
         if word.is_empty() || digits.len() < word.len() || word.len() % 2 == 1 {
             return self.malformed(Message::NotHexadecimal);
         }
-        if word.len() > FRAME_DIGITS {
+        if word.len() > BYTE_DIGITS {
             return self.malformed(Message::TooLarge);
         }
         Ok(digits.chunks(2).map(|pair| 16 * pair[0] + pair[1]).collect())
@@ -323,8 +325,8 @@ fn tolerance_fields(tolerance: Tolerance) -> String {
     format!("{word} {}", float_field(value))
 }
 
-/// The space and the field of a frame; an empty frame has none.
-fn frame_field(bytes: &[u8]) -> String {
+/// The space and the field of bytes; no bytes have none.
+fn bytes_field(bytes: &[u8]) -> String {
     let digits = bytes.iter().map(|byte| format!("{byte:02X}"));
     if bytes.is_empty() {
         String::new()
@@ -356,7 +358,8 @@ impl fmt::Display for Call {
             Call::Add(Sample { x, y }) => write!(f, "add {} {}", float_field(*x), float_field(*y)),
             Call::Correct { index, y } => write!(f, "correct {index} {}", float_field(*y)),
             Call::Withdraw { index } => write!(f, "withdraw {index}"),
-            Call::AddFrame(bytes) => write!(f, "frame{}", frame_field(bytes)),
+            Call::AddFrame(bytes) => write!(f, "frame{}", bytes_field(bytes)),
+            Call::AddLines(text) => write!(f, "lines{}", bytes_field(text)),
             Call::Fit { degree } => write!(f, "fit {degree}"),
             Call::Report(settings) => write!(
                 f,
@@ -377,7 +380,7 @@ impl fmt::Display for Call {
                 confidence_fields(*confidence),
                 tolerance_fields(*tolerance)
             ),
-            Call::Reader(bytes) => write!(f, "reader{}", frame_field(bytes)),
+            Call::Reader(bytes) => write!(f, "reader{}", bytes_field(bytes)),
         }
     }
 }
@@ -451,6 +454,11 @@ mod tests {
             ("frame 0", "field 2: not hexadecimal"),
             ("frame 0x", "field 2: not hexadecimal"),
             ("frame 00 00", "field 3: one too many"),
+            ("lines", "fits"),
+            ("lines ", "field 2: not hexadecimal"),
+            ("lines 1 2", "field 2: not hexadecimal"),
+            ("lines 312032", "fits"),
+            ("lines 31 32", "field 3: one too many"),
             ("report tight 0", "field 2: not a name"),
             ("report custom one", "field 3: not a number"),
             ("report relaxed", "field 3: missing"),
@@ -477,6 +485,8 @@ mod tests {
         assert_eq!(said(&line("frame x", 6 + 131_076)), "field 2: not hexadecimal");
         assert_eq!(said(&line("frame ", 131_100)), "field 2: too large");
         assert_eq!(said(&line("frame ", 131_101)), "field 1: too large");
+        assert_eq!(said(&line("lines ", 6 + 131_074)), "fits");
+        assert_eq!(said(&line("lines ", 6 + 131_076)), "field 2: too large");
         assert_eq!(said(&line("#", 131_100)), "fits");
         assert_eq!(said(&line("#", 131_101)), "field 1: too large");
     }
@@ -505,6 +515,8 @@ mod tests {
             "withdraw 0".to_string(),
             "frame".to_string(),
             "frame 000101".to_string(),
+            "lines".to_string(),
+            "lines 3120320A".to_string(),
             "fit 15".to_string(),
             format!("report custom 7 bic p999 0000000000000000 measurement {ONE}"),
             "validate 10 aggressive 0 aic".to_string(),

@@ -18,6 +18,7 @@ pub trait Calls {
     fn correct(&self, count: usize, lent: Lent, index: usize, y: f64) -> Answer;
     fn withdraw(&self, count: usize, lent: Lent, index: usize) -> Answer;
     fn add_frame(&self, count: usize, lent: Lent, frame: &[u8]) -> Answer;
+    fn add_lines(&self, count: usize, lent: Lent, text: &[u8]) -> Answer;
     fn fit(&self, count: usize, lent: Lent, degree: usize) -> Answer;
     fn report(&self, count: usize, lent: Lent, settings: Settings) -> Answer;
     fn validate(
@@ -57,6 +58,7 @@ impl<T: Calls> Side for T {
             Call::Correct { index, y } => self.correct(count, lent, *index, *y),
             Call::Withdraw { index } => self.withdraw(count, lent, *index),
             Call::AddFrame(frame) => self.add_frame(count, lent, frame),
+            Call::AddLines(text) => self.add_lines(count, lent, text),
             Call::Fit { degree } => self.fit(count, lent, *degree),
             Call::Report(settings) => self.report(count, lent, *settings),
             Call::Validate { folds, bound, criterion } => {
@@ -70,7 +72,7 @@ impl<T: Calls> Side for T {
     }
 }
 
-/// Document 01 in Rust.
+/// The documents in Rust.
 pub struct Judge;
 
 /// A refusal, or what is answered.
@@ -109,6 +111,10 @@ impl Calls for Judge {
 
     fn add_frame(&self, count: usize, lent: Lent, frame: &[u8]) -> Answer {
         answer(book::add_frame(count, &mut memory!(lent), frame), Answer::Book)
+    }
+
+    fn add_lines(&self, count: usize, lent: Lent, text: &[u8]) -> Answer {
+        answer(book::add_lines(count, &mut memory!(lent), text), Answer::Book)
     }
 
     fn fit(&self, count: usize, lent: Lent, degree: usize) -> Answer {
