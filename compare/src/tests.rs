@@ -187,6 +187,7 @@ fn missing_in(name: &str, asked: fn(&str) -> bool) -> Vec<String> {
 #[test]
 fn texts_are_judged() {
     missing_in("edges.calls", |_| false);
+    missing_in("lines.calls", |_| false);
     // Every refusal of every call, and every pair in order. A text has no reader.
     let missing = missing_in("season.calls", |key| {
         let refusal = key.contains(" before ") || key.contains(": refused by ");

@@ -1,5 +1,5 @@
 //! The lists of tests/ at the top of the repository: their answers are the judge's and the proved
-//! library's, and the list of edges meets the edges that its comments name.
+//! library's, and the lists of edges and of lines meet the edges that their comments name.
 
 use std::path::PathBuf;
 use std::process::Command;
@@ -27,7 +27,7 @@ fn printed(side: &dyn Side, name: &str) -> String {
 }
 
 fn check_answers(side: &dyn Side) {
-    for name in ["edges", "season", "fixed"] {
+    for name in ["edges", "season", "lines", "fixed"] {
         let answers = String::from_utf8(file(&format!("{name}.answers"))).unwrap();
         let printed = printed(side, name);
         for (number, (kept, new)) in answers.lines().zip(printed.lines()).enumerate() {
@@ -49,7 +49,7 @@ fn answers_are_the_librarys() {
 
 #[test]
 fn lists_are_as_made() {
-    for name in ["edges", "season"] {
+    for name in ["edges", "season", "lines"] {
         let made = Command::new(env!("CARGO_BIN_EXE_lists")).arg(name).output().unwrap();
         assert!(made.stdout == file(&format!("{name}.calls")), "{name}.calls");
     }
@@ -58,9 +58,14 @@ fn lists_are_as_made() {
 /// What stands below one comment: lines, with what was printed for each.
 struct Edge(Vec<(String, String)>);
 
-/// The part of the list whose comment, after an empty line, begins so.
+/// The part of the list of edges whose comment, after an empty line, begins so.
 fn edge(comment: &str) -> Edge {
-    let input = file("edges.calls");
+    part("edges.calls", comment)
+}
+
+/// The part of some list.
+fn part(name: &str, comment: &str) -> Edge {
+    let input = file(name);
     let mut journal = Journal::new(&Judge);
     let (mut inside, mut after_empty, mut part) = (false, false, Vec::new());
     for (number, line) in input.split(|&byte| byte == b'\n').enumerate() {
@@ -75,7 +80,7 @@ fn edge(comment: &str) -> Edge {
             part.push((text, printed));
         }
     }
-    assert!(!part.is_empty(), "no edge {comment}");
+    assert!(!part.is_empty(), "no edge {comment} in {name}");
     Edge(part)
 }
 
@@ -107,6 +112,22 @@ impl Edge {
             _ => None,
         };
         self.requests().into_iter().filter_map(added).collect()
+    }
+
+    /// The texts given as lines, each with its answer.
+    fn texts(&self) -> Vec<(String, &str)> {
+        let text = |line: &str| match read(line.as_bytes()) {
+            Ok(Some(Request::Call(Call::AddLines(text)))) => {
+                Some(String::from_utf8_lossy(&text).into_owned())
+            }
+            _ => None,
+        };
+        self.0.iter().filter_map(|(line, printed)| Some((text(line)?, &printed[..]))).collect()
+    }
+
+    /// The answers to the texts.
+    fn judged(&self) -> Vec<&str> {
+        self.texts().into_iter().map(|(_, answer)| answer).collect()
     }
 }
 
@@ -470,6 +491,135 @@ fn books_and_columns() {
     assert!(frames[1].ends_with(": field 2: too large"));
     assert!(frames[2].ends_with(": field 1: too large"));
     assert_eq!((long.of("add"), file("edges.calls").last()), (vec!["book 1"], Some(&b'0')));
+}
+
+/// A part of the list of lines.
+fn lines(comment: &str) -> Edge {
+    part("lines.calls", comment)
+}
+
+#[test]
+fn lines_are_adds() {
+    let (written, added) = (lines("season: a pit"), lines("season: the same pit"));
+    assert_eq!(added.samples().len(), 6);
+    for name in ["xs", "ys"] {
+        assert_eq!(written.shown(name)[0][..6], added.shown(name)[0][..6]);
+    }
+    for name in ["sums", "coefficients", "errors", "pruned", "lower", "upper", "outliers"] {
+        assert_eq!(written.shown(name)[0], added.shown(name)[0], "{name}");
+    }
+    assert_eq!(written.of("report"), added.of("report"));
+    assert_eq!(written.judged(), ["book 6", "book 7", "book 8"]);
+    assert_eq!(added.texts(), [(String::new(), "book 6")]);
+}
+
+/// Every reading that passes is the platform's parser's number.
+#[test]
+fn readings_by_the_platform() {
+    let parts = [
+        ("values: the nearest", 18),
+        ("values: every number of places", 22),
+        ("zeros: ", 4),
+        ("digits: 15", 18),
+        ("places: 22", 12),
+    ];
+    for (comment, count) in parts {
+        let part = lines(comment);
+        assert!(part.judged().iter().all(|answer| answer.starts_with("book ")), "{comment}");
+        let text: String = part.texts().into_iter().map(|(text, _)| text).collect();
+        let read: Vec<u64> = text
+            .split_whitespace()
+            .map(|reading| reading.parse::<f64>().expect("a number").to_bits())
+            .collect();
+        assert_eq!(read.len(), 2 * count, "{comment}");
+        for (column, name) in ["xs", "ys"].into_iter().enumerate() {
+            let values: Vec<u64> = read.iter().skip(column).step_by(2).copied().collect();
+            assert_eq!(part.shown(name)[0][..count], values, "{comment}: {name}");
+        }
+    }
+    assert_eq!(lines("zeros: ").shown("ys")[0][..2], [NEGATIVE_ZERO, 0]);
+}
+
+#[test]
+fn refused_readings_and_lines() {
+    for (comment, count) in [("digits: 16", 24), ("places: 23", 8)] {
+        assert_eq!(lines(comment).judged(), vec!["refused 14"; count], "{comment}");
+    }
+    for (comment, count) in [("malformed: readings", 48), ("malformed: bytes", 3)] {
+        assert_eq!(lines(comment).judged(), vec!["refused 13"; count], "{comment}");
+    }
+    let none = lines("malformed: lines");
+    let (last, others) = none.texts().split_last().map(|(a, b)| (a.clone(), b.to_vec())).unwrap();
+    assert!(others.len() == 29 && others.iter().all(|(_, answer)| *answer == "refused 13"));
+    assert_eq!(last, ("1 2\n".to_string(), "book 1"));
+    // What is easily let through stands among the texts.
+    let mut texts: Vec<String> = others.into_iter().map(|(text, _)| text).collect();
+    texts.extend(lines("malformed: readings").texts().into_iter().map(|(text, _)| text));
+    let named = [
+        ".5 1\n", "1 .5\n", "5. 1\n", "1 5.\n", "+1 1\n", "1 +1\n", "1e3 1\n", "1 1e3\n", "1  2\n",
+        "1 2\r\n", "1\t2\n", "1 2", "\n", "1 2\n\n",
+    ];
+    for text in named {
+        assert!(texts.iter().any(|there| there == text), "{text:?}");
+    }
+}
+
+#[test]
+fn lines_in_order() {
+    let first = lines("order: the first line");
+    let number = |answer: &&str| answer.strip_prefix("refused ").and_then(|n| n.parse().ok());
+    let numbers = |answers: &[&str]| answers.iter().filter_map(number).collect::<Vec<u32>>();
+    assert_eq!(numbers(&first.judged()), [14, 13, 14, 13, 13, 13, 13, 13, 13, 13, 13, 14, 14, 14]);
+    let part = lines("order: 1 before 13");
+    let around = part.judged();
+    assert_eq!((around[0], around[7], around[15]), ("book 1", "book 1", "book 2"));
+    assert_eq!(numbers(&around[1..7]), [5, 13, 13, 14, 14, 13]);
+    assert_eq!(numbers(&around[8..15]), [1; 7]);
+    assert_eq!(numbers(&around[16..]), [1; 8]);
+    assert_eq!(part.shown("xs")[0][0], 1.0f64.to_bits());
+    assert!(part.shown("xs")[0][1] != 3.0f64.to_bits());
+    assert_eq!(part.shown("xs")[1][..2], bits_of(&[1.0, 3.0]));
+}
+
+#[test]
+fn texts_are_added_whole() {
+    let whole = lines("whole: ");
+    let bad = ["refused 13", "refused 13", "refused 13", "refused 13", "refused 14"];
+    assert_eq!(whole.judged(), [&["book 1"][..], &bad, &["book 41"]].concat());
+    let (xs, sums) = (whole.shown("xs"), whole.shown("sums"));
+    assert!(xs[..5].iter().all(|places| *places == xs[0]) && xs[5][1] == 0.5f64.to_bits());
+    assert!(sums.iter().all(|places| *places == bits_of(&[1.0, 7.0])));
+    let texts = whole.texts();
+    assert!(texts[1..6].iter().all(|(text, _)| text.starts_with(&texts[6].0)));
+    assert_eq!(lines("room: 5,000").judged(), ["refused 5", "refused 13", "refused 14"]);
+    assert_eq!(lines("room: 5,000").texts()[0].0.matches('\n').count(), 5000);
+    let full = ["refused 5", "book 4096", "refused 5", "book 4096", "refused 13"];
+    assert_eq!(lines("room: 4,097").judged(), [&full[..], &full, &["refused 1"]].concat());
+    assert_eq!(lines("room: a book of no places").judged(), ["book 0", "refused 5", "refused 13"]);
+}
+
+#[test]
+fn fields_of_lines() {
+    let part = lines("fields: ");
+    assert_eq!(part.judged(), ["book 1", "refused 13", "book 2"]);
+    let message = |(line, printed): &(String, String)| {
+        let words = printed.strip_prefix("line ").and_then(|rest| rest.split_once(": "))?.1;
+        Some((line.chars().take(11).collect::<String>(), words.to_string()))
+    };
+    let messages: Vec<(String, String)> = part.0.iter().filter_map(message).collect();
+    let expected = [
+        ("lines ", "field 2: not hexadecimal"),
+        ("lines 3", "field 2: not hexadecimal"),
+        ("lines 3G", "field 2: not hexadecimal"),
+        ("lines 31 32", "field 3: one too many"),
+        ("lines 1 2", "field 2: not hexadecimal"),
+        ("line 310A", "field 1: not a call"),
+        ("Lines", "field 1: not a call"),
+        ("lines 30303", "field 2: too large"),
+        ("lines 33333", "field 1: too large"),
+    ];
+    let expected = expected.map(|(line, message)| (line.to_string(), message.to_string()));
+    assert_eq!(messages, expected);
 }
 
 #[test]

@@ -1,9 +1,11 @@
 //! Writes the lists of calls of tests/ in the text form of docs/JOURNAL.md.
 //!
 //! `lists edges`: the edges of document 01, each headed by a comment that names it.
-//! `lists season`: a season of a field group, with every malformed line and every refusal.
+//! `lists season`: a season of a field group, with every malformed line and document 01's refusals.
+//! `lists lines`: readings as written in the field book, document 02's E1.
 
 mod edges;
+mod lines;
 mod list;
 mod season;
 
@@ -13,8 +15,9 @@ fn main() -> ExitCode {
     let text = match std::env::args().nth(1).as_deref() {
         Some("edges") => edges::edges(),
         Some("season") => season::season(),
+        Some("lines") => lines::lines(),
         _ => {
-            eprintln!("lists edges, or lists season");
+            eprintln!("lists edges, lists season, or lists lines");
             return ExitCode::FAILURE;
         }
     };
