@@ -14,6 +14,7 @@ use judge::sums::{a, folded_afresh, PLACES, TERMS};
 use judge::Sample;
 
 use crate::call::name;
+use crate::lines;
 use crate::replay;
 use crate::run::passes_nine;
 
@@ -39,13 +40,14 @@ pub struct Coverage {
     pub by_reference: u64,
 }
 
-/// What each call may answer, besides being let through.
-const REFUSALS: [(&str, &[u8]); 10] = [
+/// What each call may answer, besides being let through, in checking order.
+const REFUSALS: [(&str, &[u8]); 11] = [
     ("open", &[1]),
     ("add", &[1, 4, 5]),
     ("correct", &[1, 4, 6]),
     ("withdraw", &[1, 6]),
     ("add_frame", &[1, 2, 3, 4, 5]),
+    ("add_lines", &[1, 13, 14, 5]),
     ("fit", &[1, 4, 7, 8, 10]),
     ("report", &[1, 4, 7, 8, 11, 12]),
     ("validate", &[1, 4, 7, 8, 10, 11]),
@@ -71,7 +73,18 @@ const CRITERIA: [&str; 2] = ["Aic", "Bic"];
 const LENGTHS: [(&str, &[&str]); 8] = [
     (
         "sums",
-        &["open", "add", "correct", "withdraw", "add_frame", "fit", "report", "validate", "band"],
+        &[
+            "open",
+            "add",
+            "correct",
+            "withdraw",
+            "add_frame",
+            "add_lines",
+            "fit",
+            "report",
+            "validate",
+            "band",
+        ],
     ),
     ("scratch", &["fit", "report", "validate", "band"]),
     ("coefficients", &["fit", "report", "validate"]),
@@ -163,6 +176,7 @@ impl Coverage {
         keys.extend((0..TERMS).map(|degree| format!("chosen degree: {degree}")));
         keys.extend(COUNTS.map(|n| format!("samples: {n}")));
         keys.extend(EVENTS.map(String::from));
+        keys.extend(lines::EVENTS.map(String::from));
         keys.extend((0..replay::WAYS).map(|way| format!("replay: too short in way {way}")));
         for (memory, calls) in LENGTHS {
             for call in calls {
@@ -211,6 +225,11 @@ impl Coverage {
         self.note_outside(seen);
         self.note_lengths(seen);
         self.note_counts(seen);
+        if let Call::AddLines(text) = seen.call {
+            for event in lines::happened(text, &seen.answer) {
+                self.note(event);
+            }
+        }
         if passes_nine(&seen.answer) {
             self.note_reading(seen);
         }
@@ -229,10 +248,16 @@ impl Coverage {
     }
 
     fn note_pairs(&mut self, name: &str, conditions: &Conditions) {
-        let held: Vec<u8> = conditions.iter().filter(|c| c.1).map(|c| c.0).collect();
-        for (i, first) in held.iter().enumerate() {
-            for second in &held[i + 1..] {
-                self.note(format!("{name}: {first} before {second}"));
+        // Of lines, a number may hold many times: where it does first and last.
+        let mut held: BTreeMap<u8, (usize, usize)> = BTreeMap::new();
+        for (at, &(number, _)) in conditions.iter().enumerate().filter(|(_, c)| c.1) {
+            held.entry(number).or_insert((at, at)).1 = at;
+        }
+        for (first, (at, _)) in &held {
+            for (second, (_, last)) in &held {
+                if first != second && at < last {
+                    self.note(format!("{name}: {first} before {second}"));
+                }
             }
         }
     }
@@ -459,9 +484,10 @@ fn required_refusals() -> Vec<String> {
         keys.extend(numbers.iter().map(|number| format!("{call}: refused by {number}")));
     }
     for (call, numbers) in REFUSALS {
-        let nine: Vec<u8> = numbers.iter().copied().filter(|number| *number <= 9).collect();
-        for (i, &first) in nine.iter().enumerate() {
-            for &second in &nine[i + 1..] {
+        // All but those that come out of the fit.
+        let early: Vec<u8> = numbers.iter().copied().filter(|n| !(10..=12).contains(n)).collect();
+        for (i, &first) in early.iter().enumerate() {
+            for &second in &early[i + 1..] {
                 if !IMPOSSIBLE_PAIRS.contains(&(call, first, second)) {
                     keys.push(format!("{call}: {first} before {second}"));
                 }

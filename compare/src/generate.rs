@@ -11,6 +11,7 @@ use judge::Sample;
 
 use crate::arguments;
 use crate::call::{List, Poke, Step};
+use crate::lines;
 use crate::random::Random;
 use crate::samples::{self, Kind, Source};
 
@@ -32,6 +33,7 @@ pub fn list(seed: u64, number: u64) -> List {
     let steps = match number % 64 {
         // Few, because 4,096 samples take long.
         0 if number % 4096 == 64 => full(random),
+        0 if number % 4096 == 1984 => full_of_lines(random),
         0..=5 => many_samples(random),
         6..=11 => interpolated(random),
         12..=17 => spoiled(random),
@@ -42,6 +44,7 @@ pub fn list(seed: u64, number: u64) -> List {
         33 if number % 256 == 33 => pivot_edge(random),
         34 => long_columns(random),
         35 => beside_t_scores(random, 1 + (number / 64 % 30) as usize),
+        36..=38 => written(random),
         _ => mixed(random),
     };
     List { contents, steps }
@@ -128,7 +131,7 @@ impl<'a> Maker<'a> {
     fn change(&mut self, source: &mut Source) {
         let n = self.samples().len();
         let random = &mut *self.random;
-        let call = match random.below(12) {
+        let call = match random.below(14) {
             0..=4 => Call::Add(spoil_sample(random, source)),
             5 | 6 => Call::Correct { index: index(random, n), y: spoil_sample(random, source).y },
             7 | 8 => Call::Withdraw { index: index(random, n) },
@@ -142,9 +145,17 @@ impl<'a> Maker<'a> {
                 let bytes = arguments::wrong_frame(random, &samples);
                 random.pick(&[Call::AddFrame, Call::Reader])(bytes)
             }
-            _ => {
+            11 => {
                 let number = random.below(4);
                 Call::Reader(frame::encode(&source.take(random, number)))
+            }
+            12 => {
+                let number = random.below(4);
+                Call::AddLines(lines::right(random, number))
+            }
+            _ => {
+                let number = random.below(4);
+                Call::AddLines(lines::wrong(random, number))
             }
         };
         self.call(call);
@@ -205,6 +216,32 @@ fn mixed(random: &mut Random) -> Vec<Step> {
     if maker.random.one_in(20) {
         maker.call(Call::Open);
         maker.read();
+    }
+    maker.steps
+}
+
+/// Samples as lines, right and wrong ones, and reading calls in between.
+fn written(random: &mut Random) -> Vec<Step> {
+    let capacity = random.pick(&[1, 2, 4, 8, 12, 20, 40]);
+    let mut maker = Maker::new(random, capacity);
+    maker.short_one_in = 40;
+    for _ in 0..maker.random.between(3, 8) {
+        let free = capacity - maker.samples().len();
+        let number = match maker.random.below(4) {
+            0 => free + maker.random.below(2),
+            _ => maker.random.below(free + 1),
+        };
+        let text = match maker.random.below(3) {
+            0 => lines::right(maker.random, number),
+            _ => lines::wrong(maker.random, number),
+        };
+        maker.call(Call::AddLines(text));
+        maker.read();
+        let n = maker.samples().len();
+        if n > 0 && maker.random.one_in(3) {
+            let index = maker.random.below(n);
+            maker.call(Call::Withdraw { index });
+        }
     }
     maker.steps
 }
@@ -451,7 +488,7 @@ fn spoiled_call(random: &mut Random, source: &mut Source, samples: &[Sample]) ->
     let n = samples.len();
     let bad = arguments::not_finite(random);
     let or_bad = |random: &mut Random, value: f64| if random.one_in(2) { bad } else { value };
-    match random.below(9) {
+    match random.below(10) {
         0 => Call::Add(Sample { x: or_bad(random, 1.0), y: or_bad(random, 2.0) }),
         1 => Call::Correct { index: n + random.below(2), y: or_bad(random, 1.0) },
         2 => Call::Withdraw { index: n + random.below(2) },
@@ -464,6 +501,10 @@ fn spoiled_call(random: &mut Random, source: &mut Source, samples: &[Sample]) ->
             bound: DegreeBound::Custom(random.pick(&[1, 16, 20])),
             criterion: arguments::criterion(random),
         },
+        8 => {
+            let number = random.below(4);
+            Call::AddLines(lines::wrong(random, number))
+        }
         _ => Call::Band {
             x: random.pick(&[0.0, -1e9, 1e9, f64::NAN, f64::INFINITY]),
             degree: random.pick(&[0, n, 16, usize::MAX]),
@@ -509,6 +550,7 @@ fn long_columns(random: &mut Random) -> Vec<Step> {
     let calls = [
         Call::Add(sample),
         Call::AddFrame(frame::encode(&[sample])),
+        Call::AddLines(b"1 2\n".to_vec()),
         Call::Correct { index: 0, y: 1.0 },
         Call::Withdraw { index: 4095 },
         Call::Fit { degree: 0 },
@@ -549,6 +591,38 @@ fn full(random: &mut Random) -> Vec<Step> {
     maker.call(Call::Correct { index, y: 1.0 });
     maker.call(Call::Withdraw { index });
     maker.call(Call::Add(samples[1]));
+    maker.call(Call::Fit { degree: 1 });
+    maker.steps
+}
+
+/// A text that fills a book of 4,096, after longer ones that are refused.
+fn full_of_lines(random: &mut Random) -> Vec<Step> {
+    let spare = random.pick(&[0, 3]);
+    let mut maker = Maker::new(random, 4096 + spare);
+    let most = lines::right(maker.random, 5000);
+    let ends: Vec<usize> = (0..most.len()).filter(|&at| most[at] == b'\n').collect();
+    let first = |lines: usize| most[..ends[lines - 1] + 1].to_vec();
+    let wrong = lines::wrong(maker.random, 2);
+    let texts = [
+        most.clone(),
+        [&most[..], &wrong].concat(),
+        first(4097),
+        first(4095),
+        first(2),
+        first(1),
+        first(1),
+        Vec::new(),
+        wrong,
+    ];
+    for text in texts {
+        maker.call(Call::AddLines(text));
+    }
+    let index = maker.random.below(4096);
+    maker.call(Call::Withdraw { index });
+    maker.call(Call::AddLines(first(2)));
+    maker.call(Call::AddLines(first(1)));
+    maker.call(Call::Open);
+    maker.call(Call::AddLines(first(4096)));
     maker.call(Call::Fit { degree: 1 });
     maker.steps
 }

@@ -16,6 +16,7 @@ mod call;
 mod coverage;
 mod generate;
 mod gsl;
+mod lines;
 mod memory;
 mod random;
 mod reference;

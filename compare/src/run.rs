@@ -12,7 +12,7 @@ use judge::Sample;
 use crate::call::{conditions, List, Step};
 use crate::coverage::{Coverage, Seen};
 use crate::memory::{difference, filled, first_difference, poke, samples};
-use crate::{reference, replay};
+use crate::{lines, reference, replay};
 
 /// Where two sides differ.
 #[derive(Debug, Clone)]
@@ -59,6 +59,7 @@ impl Run<'_> {
         let answer = Judge.make(&step.call, count, self.memory.lend(&step.lengths));
 
         check_writes(&step.call, &answer, count, &before, &self.memory)?;
+        check_parsed(&step.call, &answer, count, &self.memory)?;
         self.check_ledger(step, &answer)?;
         let by_reference = own_sums && is_reading(&step.call) && passes_nine(&answer);
         if by_reference {
@@ -167,6 +168,17 @@ impl LedgerState {
         let difference = pairs.iter().find_map(|(name, a, b)| first_difference(name, a, b));
         difference.map_or(Ok(()), Err)
     }
+}
+
+/// Readings that were added, against the platform's own parser.
+fn check_parsed(call: &Call, answer: &Answer, count: usize, memory: &Memory) -> Result<(), String> {
+    if let (Call::AddLines(text), Answer::Book(new)) = (call, answer) {
+        let (xs, ys) = (&memory.x[count..*new], &memory.y[count..*new]);
+        if let Some(difference) = lines::parsed_otherwise(text, xs, ys) {
+            return Err(format!("judge and the platform's parser: {difference}"));
+        }
+    }
+    Ok(())
 }
 
 fn is_reading(call: &Call) -> bool {

@@ -93,6 +93,7 @@ fn simpler_calls(call: &Call) -> Vec<Call> {
             simpler_numbers(*y).into_iter().map(|y| Call::Correct { index: *index, y }).collect()
         }
         Call::AddFrame(bytes) => simpler_frames(bytes).into_iter().map(Call::AddFrame).collect(),
+        Call::AddLines(text) => shorter_texts(text).into_iter().map(Call::AddLines).collect(),
         Call::Report(settings) => {
             let mut calls = Vec::new();
             let mut push = |simpler| {
@@ -107,6 +108,20 @@ fn simpler_calls(call: &Call) -> Vec<Call> {
         }
         _ => Vec::new(),
     }
+}
+
+/// The text without some of its bytes, the much shorter ones first.
+fn shorter_texts(text: &[u8]) -> Vec<Vec<u8>> {
+    let mut texts = Vec::new();
+    let mut size = text.len();
+    while size > 0 {
+        for start in (0..text.len()).step_by(size) {
+            let end = (start + size).min(text.len());
+            texts.push([&text[..start], &text[end..]].concat());
+        }
+        size /= 2;
+    }
+    texts
 }
 
 /// A right frame with a sample less, or with one that is simpler.

@@ -1,6 +1,7 @@
 //! The comparison finds faults, and shrinks the lists that show them.
 
 use journal::{Answer, Buffers, Call, Judge, Lent, Port, Side};
+use judge::lines::{samples, too_many_digits};
 
 use crate::call::List;
 use crate::coverage::Coverage;
@@ -120,6 +121,50 @@ fn withdrawal_by_subtraction() {
 }
 
 #[test]
+fn zero_without_its_sign() {
+    let list = found(|call, count, lent, _, answer| {
+        if let (Call::AddLines(_), Answer::Book(new)) = (call, &answer) {
+            lent.y[count..*new].iter_mut().for_each(|y| *y += 0.0);
+        }
+        answer
+    });
+    assert_eq!(shortest_text(&list), Some(5), "{list:?}");
+}
+
+#[test]
+fn too_many_digits_before_malformed() {
+    let list = found(|call, _, _, _, answer| match (call, &answer) {
+        (Call::AddLines(text), Answer::Refused(13)) if too_many_digits(text) => Answer::Refused(14),
+        _ => answer,
+    });
+    // 16 digits or 23 places, a space and a newline.
+    assert!(shortest_text(&list) <= Some(27), "{list:?}");
+}
+
+#[test]
+fn lines_added_before_a_bad_one() {
+    let list = found(|call, count, lent, _, answer| {
+        if let (Call::AddLines(text), Answer::Refused(13)) = (call, &answer) {
+            let place = lent.x.get_mut(count);
+            if let (Some(sample), Some(place)) = (samples(text).first(), place) {
+                *place = sample.x;
+            }
+        }
+        answer
+    });
+    assert!(shortest_text(&list) <= Some(5), "{list:?}");
+}
+
+/// How long the shortest text of the list is.
+fn shortest_text(list: &List) -> Option<usize> {
+    let length = |call: &Call| match call {
+        Call::AddLines(text) => Some(text.len()),
+        _ => None,
+    };
+    list.steps.iter().filter_map(|step| length(&step.call)).min()
+}
+
+#[test]
 fn faults_of_a_replay() {
     let found = |replays: Replays| {
         let fails = |number| {
@@ -187,12 +232,16 @@ fn missing_in(name: &str, asked: fn(&str) -> bool) -> Vec<String> {
 #[test]
 fn texts_are_judged() {
     missing_in("edges.calls", |_| false);
-    missing_in("lines.calls", |_| false);
-    // Every refusal of every call, and every pair in order. A text has no reader.
+    // Every refusal of every call but lines, and every pair in order. A text has no reader.
     let missing = missing_in("season.calls", |key| {
         let refusal = key.contains(" before ") || key.contains(": refused by ");
-        refusal && !key.starts_with("reader") && !key.contains("by polyfit")
+        let elsewhere = key.starts_with("reader") || key.starts_with("add_lines");
+        refusal && !elsewhere && !key.contains("by polyfit")
     });
+    assert!(missing.is_empty(), "{missing:?}");
+    // The same of lines, and all that must happen with them.
+    let missing =
+        missing_in("lines.calls", |key| key.starts_with("add_lines") || key.starts_with("lines"));
     assert!(missing.is_empty(), "{missing:?}");
     // Every call and refusal, by polyfit too, every setting and event; the pairs are the season's.
     let missing = missing_in("fixed.calls", |key| {
@@ -205,5 +254,5 @@ fn texts_are_judged() {
 
 #[test]
 fn fixed_list_is_as_made() {
-    assert!(text::write(36, 3000).as_bytes() == file("fixed.calls"));
+    assert!(text::write(39, 3000).as_bytes() == file("fixed.calls"));
 }

@@ -1,7 +1,7 @@
 //! Lists of calls in the text form of docs/JOURNAL.md: generated lists written, and any text read.
 
 use journal::memory::NAMES;
-use journal::request::{read, MEMORY};
+use journal::request::{read, MEMORY, MOST_BYTES};
 use journal::{Answer, Call, Journal, Judge, Name, Request};
 use judge::statistics::DegreeBound;
 use judge::sums::{PLACES, TERMS};
@@ -72,10 +72,13 @@ impl Writer {
         self.journal.ask(&request);
     }
 
-    /// Writes a step, its disturbances before it; false for a reader, which the text does not have.
+    /// Writes a step, its disturbances before it; false for what the text does not have, a reader and
+    /// lines of too many bytes.
     fn step(&mut self, step: &Step) -> bool {
-        if let Call::Reader(_) = step.call {
-            return false;
+        match &step.call {
+            Call::Reader(_) => return false,
+            Call::AddLines(text) if text.len() > MOST_BYTES => return false,
+            _ => {}
         }
         for &poke in &step.pokes {
             let (name, index, value) = match poke {

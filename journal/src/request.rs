@@ -21,9 +21,9 @@ pub const LONGEST_LINE: usize = 131_100;
 /// The most digits of a whole number.
 const DIGITS: usize = 9;
 
-/// The most digits of bytes: those of the longest frame, whose length has two bytes and counts what
+/// The most bytes of a field: those of the longest frame, whose length has two bytes and counts what
 /// follows.
-const BYTE_DIGITS: usize = 2 * (2 + 65_535);
+pub const MOST_BYTES: usize = 2 + 65_535;
 
 /// What a line asks for: something of the memory, or a call.
 #[derive(Debug, Clone, PartialEq)]
@@ -219,7 +219,7 @@ impl<'a> Fields<'a> {
         if word.is_empty() || digits.len() < word.len() || word.len() % 2 == 1 {
             return self.malformed(Message::NotHexadecimal);
         }
-        if word.len() > BYTE_DIGITS {
+        if word.len() > 2 * MOST_BYTES {
             return self.malformed(Message::TooLarge);
         }
         Ok(digits.chunks(2).map(|pair| 16 * pair[0] + pair[1]).collect())
