@@ -1,8 +1,6 @@
 //! The port, through the C interface of the static library.
 
 use judge::fit::{Criterion, Settings};
-use judge::lines;
-use judge::refusals::{self, Lengths};
 use judge::statistics::{Confidence, DegreeBound, Tolerance};
 use judge::Sample;
 use stakebook::sys;
@@ -181,24 +179,6 @@ fn sample_at(frame: &[u8], at: usize) -> Option<(Sample, usize)> {
     (behind != 0).then_some((Sample { x, y }, behind as usize))
 }
 
-/// STAND-IN: the library has no call for lines yet. The judge says whether they are refused, and the
-/// library adds their samples one by one, so that nothing here is a word of the library on lines.
-/// `stakebook_add_lines` takes this function's place, as `stakebook_add_frame` is called above.
-fn lines_by_adds(count: usize, lent: Lent, text: &[u8]) -> Answer {
-    let (x, y, sums) = (lent.x.len(), lent.y.len(), lent.sums.len());
-    let lengths = Lengths { x, y, sums, ..Lengths::default() };
-    if let Err(number) = refusals::judged(&refusals::add_lines(&lengths, count, text)) {
-        return Answer::Refused(number);
-    }
-    let mut count = count;
-    for Sample { x, y } in lines::samples(text) {
-        let answer = book(book_changed!(sys::stakebook_add, lent, (count, x, y)));
-        count += 1;
-        assert!(answer == Answer::Book(count), "an add of a line: {answer:?}");
-    }
-    Answer::Book(count)
-}
-
 impl Calls for Port {
     const NAME: &'static str = "port";
 
@@ -225,7 +205,8 @@ impl Calls for Port {
     }
 
     fn add_lines(&self, count: usize, lent: Lent, text: &[u8]) -> Answer {
-        lines_by_adds(count, lent, text)
+        let (bytes, length) = (text.as_ptr(), text.len());
+        book(book_changed!(sys::stakebook_add_lines, lent, (count, bytes, length)))
     }
 
     fn fit(&self, count: usize, lent: Lent, asked: usize) -> Answer {

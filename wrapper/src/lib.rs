@@ -119,7 +119,7 @@ impl Report<'_> {
 macro_rules! lend {
     ($function:ident($($number:expr),*; $($slice:expr),*)) => {
         // SAFETY: the slices are this book's own or local, so they are apart, and each has the
-        // length given. A frame, which stands among the numbers, is only read.
+        // length given. A frame or a text, which stands among the numbers, is only read.
         unsafe { sys::$function($($number),*, $($slice.as_mut_ptr(), $slice.len()),*) }
     };
 }
@@ -216,6 +216,28 @@ impl Book {
     pub fn add_frame(&mut self, frame: &[u8]) -> Result<(), Refusal> {
         let answer = lend!(stakebook_add_frame(
             self.count, frame.as_ptr(), frame.len();
+            self.xs, self.ys, self.sums
+        ));
+        self.changed(answer)
+    }
+
+    /// All samples of a text at the end, or none: readings as written in the field book, one sample a
+    /// line. Refused by [`Refusal::MalformedLine`], [`Refusal::TooManyDigits`] and [`Refusal::Full`].
+    ///
+    /// A line is x, one space, y and a newline, the last one too. A reading is an optional minus,
+    /// digits, and optionally a point with a digit on either side, so that `.5`, `5.`, `+1` and `1e3`
+    /// are none, and a line that ends in CR LF is malformed. The sample gets the doubles nearest to
+    /// what is written.
+    ///
+    /// ```
+    /// let mut book = stakebook::Book::with_capacity(10);
+    /// book.add_lines(b"0.10 212\n0.30 240.5\n")?;
+    /// assert_eq!((book.xs(), book.ys()), (&[0.1, 0.3][..], &[212.0, 240.5][..]));
+    /// # Ok::<(), stakebook::Refusal>(())
+    /// ```
+    pub fn add_lines(&mut self, text: &[u8]) -> Result<(), Refusal> {
+        let answer = lend!(stakebook_add_lines(
+            self.count, text.as_ptr(), text.len();
             self.xs, self.ys, self.sums
         ));
         self.changed(answer)

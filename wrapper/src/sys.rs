@@ -52,6 +52,17 @@ extern "C" {
         sums: *mut f64,
         sums_len: usize,
     ) -> u64;
+    pub fn stakebook_add_lines(
+        count: usize,
+        text: *const u8,
+        text_len: usize,
+        xs: *mut f64,
+        xs_len: usize,
+        ys: *mut f64,
+        ys_len: usize,
+        sums: *mut f64,
+        sums_len: usize,
+    ) -> u64;
     pub fn stakebook_fit(
         count: usize,
         degree: usize,

@@ -61,6 +61,21 @@ fn a_frame_is_its_samples() {
 }
 
 #[test]
+fn lines_are_their_samples() {
+    let mut book = Book::with_capacity(3);
+    assert_eq!(book.add_lines(b""), Ok(()));
+    assert_eq!(book.add_lines(b"0 1\n1.0 3.00\n"), Ok(()));
+    assert_eq!(book.sums(), book_of(&[(0.0, 1.0), (1.0, 3.0)]).sums());
+    assert_eq!(book.add_lines(b"2 5\n3 7\n"), Err(Refusal::Full));
+    assert_eq!(book.add_lines(b"2 5\n3 7"), Err(Refusal::MalformedLine));
+    assert_eq!(book.add_lines(b"2 5\r\n"), Err(Refusal::MalformedLine));
+    assert_eq!(book.add_lines(b"1234567890123456 5\n"), Err(Refusal::TooManyDigits));
+    assert_eq!(book.len(), 2);
+    assert_eq!(book.add_lines(b"0.3 -0\n"), Ok(()));
+    assert_eq!((book.xs()[2], book.ys()[2].to_bits()), (0.3, 1 << 63));
+}
+
+#[test]
 fn refusals_by_name() {
     let mut book = Book::with_capacity(1);
     assert_eq!(book.report(SETTINGS), Err(Refusal::NoSamples));
