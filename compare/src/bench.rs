@@ -207,7 +207,51 @@ fn print_rows(count: usize, port: &dyn Side, further: &mut Further) {
     }
 }
 
-/// Prints the table, how a withdrawal compares with a plain fold, and how a report grows with n.
+/// The lines of a text that is timed: as many as fill a book.
+const LINES: usize = 4_096;
+
+/// A text of depth and density as observers write them, and one of as many digits as pass.
+fn texts() -> [(&'static str, String); 2] {
+    let pit = |i: usize| format!("{}.{:02} {}.5\n", i / 1000, i % 100, 200 + i * 7 % 400);
+    let long = |i: usize| format!("-0.{:015} {:09}.{:06}\n", i * 7919, 123_456_789 - i, i);
+    let text = |line: fn(usize) -> String| (0..LINES).map(line).collect::<String>();
+    [("a pit's", text(pit)), ("15 digits", text(long))]
+}
+
+/// The readings by the platform's parser, which judges neither their digits nor the spaces between.
+fn parsed(text: &str) -> Vec<(f64, f64)> {
+    let line = |line: &str| {
+        let (x, y) = line.split_once(' ')?;
+        Some((x.parse().ok()?, y.parse().ok()?))
+    };
+    text.split_terminator('\n').filter_map(line).collect()
+}
+
+/// Lines in MB/s: read, judged and then refused by 5 in a book of no places, and read, judged and added;
+/// beside them, only read by the platform's parser.
+fn print_lines(port: &dyn Side) {
+    println!();
+    println!("| Lines | bytes | port / parser | port, MB/s | plain, MB/s | parser, MB/s |");
+    println!("|---|---|---|---|---|---|");
+    for (name, text) in texts() {
+        let rate = |time: f64| text.len() as f64 / 1e3 / time;
+        let call = Call::AddLines(text.clone().into_bytes());
+        let parser = rate(best(|| drop(black_box(parsed(black_box(&text))))));
+        let room = [Sample { x: 0.0, y: 0.0 }; LINES];
+        for (what, room) in [("judged", &room[..0]), ("judged and added", &room[..])] {
+            let ported = rate(by_side(port, &call, 0, room));
+            let plain = rate(by_side(&Judge, &call, 0, room));
+            println!(
+                "| {name}, {what} | {} | {:.2} | {ported:.1} | {plain:.1} | {parser:.1} |",
+                text.len(),
+                ported / parser
+            );
+        }
+    }
+}
+
+/// Prints the table, how a withdrawal compares with a plain fold, how a report grows with n, and how fast
+/// lines are read.
 pub fn run(port: &dyn Side) {
     println!("| Call | n | port / plain | polyfit / port | GSL / port | port, ms | plain, ms | polyfit, ms | GSL, ms |");
     println!("|---|---|---|---|---|---|---|---|---|");
@@ -224,11 +268,27 @@ pub fn run(port: &dyn Side) {
         let (samples, time) = (many as f64 / few as f64, after / before);
         println!("A report from n {few} to n {many}: {samples:.1} times the samples, {time:.1} times as long");
     }
+    print_lines(port);
 }
 
 #[cfg(test)]
 mod tests {
     use super::*;
+
+    /// The texts that are timed pass, and the parser reads what the judge reads.
+    #[test]
+    fn texts_pass() {
+        for (name, text) in texts() {
+            let lines = judge::lines::lines(text.as_bytes());
+            assert_eq!(lines.len(), LINES);
+            let bad =
+                |line: &&[u8]| judge::lines::malformed(line) || judge::lines::too_many_digits(line);
+            assert!(!lines.iter().any(bad), "{name}");
+            let samples = judge::lines::samples(text.as_bytes());
+            let pairs: Vec<(f64, f64)> = samples.iter().map(|s| (s.x, s.y)).collect();
+            assert_eq!(pairs, parsed(&text), "{name}");
+        }
+    }
 
     /// The plain fold has the bits of document 01's, so that what is timed is the same sums.
     #[test]
