@@ -21,6 +21,15 @@ FAULTS = [
     ("AIC's correction from n/k of 5 down", "fit.rs", "if n / k < 4.0 &&", "if n / k < 5.0 &&"),
     ("a pivot equal to its bound", "solve.rs", "m[p][p] > PIVOT_FACTOR * starting[p]", "m[p][p] >= PIVOT_FACTOR * starting[p]"),
     ("the multiplier by another grouping", "solve.rs", "let f = m[r][p] / m[p][p];", "let f = m[r][p] * (1.0 / m[p][p]);"),
+    ("16 digits let through", "lines.rs", "MOST_DIGITS: usize = 15", "MOST_DIGITS: usize = 16"),
+    ("23 places let through", "lines.rs", "MOST_PLACES: usize = 22", "MOST_PLACES: usize = 23"),
+    ("minus zero without its sign", "lines.rs", "if self.minus {", "if self.minus && size > 0.0 {"),
+    ("a reading by a product with a power of ten", "lines.rs", "let size = nearest(number, power);", "let size = number as f64 * (1.0 / power as f64);"),
+    ("a reading cut, not rounded", "lines.rs", "whole += u128::from(up);", "whole += u128::from(up && rest == 0);"),
+    (".5 let through", "lines.rs", "if !is_digits(whole) ||", "if !(whole.is_empty() || is_digits(whole)) ||"),
+    ("a last line without its newline", "lines.rs", 'line.strip_suffix(b"\\n")?;', 'line.strip_suffix(b"\\n").unwrap_or(line);'),
+    ("14 before 13 within a line", "refusals.rs", "conditions.push((13, lines::malformed(line)));",
+     "conditions.push((14, lines::too_many_digits(line))); conditions.push((13, lines::malformed(line)));"),
 ]
 
 
