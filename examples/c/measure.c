@@ -14,7 +14,7 @@
 
 static double xs[ROOM], ys[ROOM], sums[STAKEBOOK_SUMS], scratch[ROOM], numbers[STAKEBOOK_BAND];
 static double coefficients[STAKEBOOK_TERMS], errors[STAKEBOOK_TERMS], lower[ROOM], upper[ROOM];
-static uint8_t pruned[STAKEBOOK_TERMS], outliers[ROOM], frame[3 + 16 * 4095];
+static uint8_t pruned[STAKEBOOK_TERMS], outliers[ROOM], frame[3 + 16 * 4095], text[11 * ROOM];
 static size_t count;
 
 static uint64_t add(double x, double y) {
@@ -115,6 +115,7 @@ static void one_add(void) { stakebook_add(count - 1, 0.5, 1, xs, ROOM, ys, ROOM,
 static void one_correct(void) { stakebook_correct(count, 0, 1, xs, ROOM, ys, ROOM, sums, STAKEBOOK_SUMS); }
 static void one_withdraw(void) { stakebook_withdraw(count, 0, xs, ROOM, ys, ROOM, sums, STAKEBOOK_SUMS); }
 static void one_frame(void) { stakebook_add_frame(0, frame, sizeof frame, xs, ROOM, ys, ROOM, sums, STAKEBOOK_SUMS); }
+static void one_text(void) { stakebook_add_lines(0, text, sizeof text, xs, ROOM, ys, ROOM, sums, STAKEBOOK_SUMS); }
 static void one_fit(void) { fit(15); }
 static void one_band(void) { band(15); }
 static void one_report(void) { report(STAKEBOOK_CUSTOM_DEGREE, 15, STAKEBOOK_VARIANCE, 0.1); }
@@ -212,12 +213,15 @@ int main(void) {
     frame[1] = (uint8_t)((sizeof frame - 2) & 0xFF);
     frame[2] = 1;
     for (size_t i = 3; i < sizeof frame; i += 8) memcpy(frame + i, one, 8);
+    /* a text of 4,096 lines, all the same */
+    for (size_t i = 0; i < sizeof text; i += 11) memcpy(text + i, "0.25 212.5\n", 11);
     puts("at n 4,096:");
     show_cost("open", one_open, 100);
     show_cost("add", one_add, 100);
     show_cost("correct", one_correct, 100);
     show_cost("withdraw", one_withdraw, 100);
     show_cost("add_frame", one_frame, 100);
+    show_cost("add_lines", one_text, 100);
     show_cost("fit of degree 15", one_fit, 100);
     show_cost("band of degree 15", one_band, 100);
     show_cost("report up to degree 15", one_report, 100);

@@ -45,6 +45,11 @@ static void changed(uint64_t answer) {
     printf("book %zu\n", count);
 }
 
+/* what an observer wrote, without the NUL at the end of the string */
+static void add_lines(const char *text) {
+    changed(stakebook_add_lines(count, (const uint8_t *)text, strlen(text), xs, ROOM, ys, ROOM, sums, STAKEBOOK_SUMS));
+}
+
 static void add(double depth, double density) {
     changed(stakebook_add(count, depth, density, xs, ROOM, ys, ROOM, sums, STAKEBOOK_SUMS));
 }
@@ -102,5 +107,9 @@ int main(void) {
                               coefficients, STAKEBOOK_TERMS));
     band(1, 1);
     band(2, 1);
+    /* the observer's own lines; sent from elsewhere, with a CR at their ends, they are refused */
+    add_lines("1.70 349.5\n1.90 377\n");
+    add_lines("2.10 391\r\n");
+    report();
     return 0;
 }
