@@ -10,7 +10,7 @@ import pathlib, re, shutil, subprocess, sys, tempfile, time
 FAULTS = [
     ("a table digit: 2.306 as 2.360", "statistics.rs", "1.86,     2.306,", "1.86,     2.360,"),
     ("a table's last place: 2.045 as 2.046", "statistics.rs", "1.699,    2.045,", "1.699,    2.046,"),
-    ("row 30 read at df 30", "statistics.rs", "if df >= 30 {", "if df >= 31 {"),
+    ("the z score at df 30", "statistics.rs", "if df > 30 {", "if df >= 30 {"),
     ("Huber's constant 1.345 as 1.346", "statistics.rs", "HUBER_CONST: f64 = 1.345", "HUBER_CONST: f64 = 1.346"),
     ("the 2 of the choice as 1.9", "fit.rs", "score - least <= 2.0", "score - least <= 1.9"),
     ("below 2 for at most 2", "fit.rs", "score - least <= 2.0", "score - least < 2.0"),

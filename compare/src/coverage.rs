@@ -34,7 +34,7 @@ pub struct Seen<'a> {
 #[derive(Default)]
 pub struct Coverage {
     counts: BTreeMap<String, u64>,
-    /// Confidences and degrees of freedom, 30 for more, with a term just below and above the score.
+    /// Confidences and degrees of freedom, 31 for more, with a term just below and above the score.
     beside: BTreeSet<(&'static str, usize, bool)>,
     pub calls: u64,
     pub by_reference: u64,
@@ -64,7 +64,7 @@ const BY_REFERENCE: [(&str, &[u8]); 4] =
     [("fit", &[10]), ("report", &[11, 12]), ("validate", &[10, 11]), ("band", &[10, 12])];
 
 const CONFIDENCES: [&str; 7] = ["P80", "P90", "P95", "P98", "P99", "P999", "Custom"];
-const FREEDOMS: [&str; 3] = ["df 0", "df 1 to 29", "df 30 or more"];
+const FREEDOMS: [&str; 3] = ["df 0", "df 1 to 30", "df 31 or more"];
 const TOLERANCES: [&str; 4] = ["none", "absolute", "variance", "measurement"];
 const BOUNDS: [&str; 4] = ["Conservative", "Relaxed", "Aggressive", "Custom"];
 const CRITERIA: [&str; 2] = ["Aic", "Bic"];
@@ -152,8 +152,8 @@ const EVENTS: [&str; 53] = [
     "replay: a report refused",
 ];
 
-/// Six confidences; df 1 to 29 by the table, 30 and more by the z score.
-const T_SCORES: usize = 6 * 30;
+/// Six confidences; df 1 to 30 by the table, 31 and more by the z score.
+const T_SCORES: usize = 6 * 31;
 
 const COUNTS: [usize; 4] = [1, 2, 3, 4096];
 
@@ -423,7 +423,7 @@ impl Coverage {
     fn note_settings(&mut self, settings: Settings, df: usize) {
         let freedom = match df {
             0 => FREEDOMS[0],
-            1..=29 => FREEDOMS[1],
+            1..=30 => FREEDOMS[1],
             _ => FREEDOMS[2],
         };
         self.note(format!("report: {} at {freedom}", confidence_name(settings.confidence)));
@@ -442,7 +442,7 @@ impl Coverage {
             let pruned = seen.memory.pruned[j] == 1;
             let part = coefficient / error / critical;
             if level != "Custom" && df > 0 && (part - 1.0).abs() < 1e-5 {
-                self.beside.insert((level, df.min(30), part > 1.0));
+                self.beside.insert((level, df.min(31), part > 1.0));
             }
             self.note_if(pruned, "report: pruned terms");
             self.note_if(pruned && df == 0, "report: pruned terms at df 0");

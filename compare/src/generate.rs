@@ -43,7 +43,7 @@ pub fn list(seed: u64, number: u64) -> List {
         31 | 32 => overflowing_mean(random),
         33 if number % 256 == 33 => pivot_edge(random),
         34 => long_columns(random),
-        35 => beside_t_scores(random, 1 + (number / 64 % 30) as usize),
+        35 => beside_t_scores(random, 1 + (number / 64 % 31) as usize),
         36..=38 => written(random),
         _ => mixed(random),
     };

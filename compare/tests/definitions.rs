@@ -43,7 +43,7 @@ const CONFIDENCES: [(Confidence, theirs::Confidence); 7] = [
     (Confidence::Custom(1.25), theirs::Confidence::Custom(1.25)),
 ];
 
-/// All 180 entries, row 30 too, which no call ever reads.
+/// All 180 entries.
 #[test]
 fn table_is_the_text_entry_by_entry() {
     let text = include_str!("../../reference/src/statistics.rs");

@@ -331,9 +331,10 @@ fn pruning() {
     assert_eq!(flipped, below.shown("coefficients")[0][0]);
     assert!(report("pruning: P95 at df 8").ends_with(" 0"));
     assert!(report("pruning: P95 at df 29").ends_with(" 1"));
-    assert!(report("pruning: at df 30").ends_with(" 0"));
+    assert!(report("pruning: at df 30").ends_with(" 1"));
+    assert!(report("pruning: at df 31").ends_with(" 0"));
     let beside = edge("pruning: just below");
-    assert_eq!(beside.of("report").len(), 2 * 6 * 30);
+    assert_eq!(beside.of("report").len(), 2 * 6 * 31);
     for (at, answer) in beside.of("report").into_iter().enumerate() {
         assert!(answer.ends_with(if at % 2 == 0 { " 1" } else { " 0" }), "{at}: {answer}");
     }

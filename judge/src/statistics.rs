@@ -1,4 +1,4 @@
-//! Document 01, "Statistics", after polyfit's `statistics.rs`.
+//! Document 01, "Statistics", after polyfit's `statistics.rs`; the t score with document 02's E2.
 
 use crate::numbers::{abs, square_root};
 use crate::Sample;
@@ -93,12 +93,13 @@ pub fn z_score(confidence: Confidence) -> f64 {
     }
 }
 
-/// `t_score`: df 0 gives +infinity for every confidence; df 30 or more, or Custom, gives `z_score`.
+/// `t_score`: df 0 gives +infinity for every confidence; Custom gives its own score; df 1 to 30
+/// gives the table's row; from 31 on it is `z_score`.
 pub fn t_score(confidence: Confidence, df: usize) -> f64 {
     if df == 0 {
         return f64::INFINITY;
     }
-    if df >= 30 {
+    if df > 30 {
         return z_score(confidence);
     }
     let row = T_TABLE[df - 1];
@@ -268,7 +269,19 @@ mod tests {
 
     #[test]
     fn t8_p95_df_30() {
-        assert_eq!(t_score(Confidence::P95, 30), 1.959);
+        assert_eq!(t_score(Confidence::P95, 30), 2.042);
+    }
+
+    /// Row 30 comes first at df 30, the z score starts at 31.
+    #[test]
+    fn thirty_degrees_of_freedom() {
+        let row = [1.310, 1.697, 2.042, 2.457, 2.75, 3.646];
+        let z = [1.281, 1.644, 1.959, 2.326, 2.575, 3.290];
+        for (at, confidence) in LEVELS.into_iter().enumerate() {
+            assert_eq!(t_score(confidence, 30), row[at]);
+            assert_eq!(t_score(confidence, 31), z[at]);
+        }
+        assert_eq!(t_score(Confidence::Custom(1.5), 30), 1.5);
     }
 
     #[test]

@@ -1,7 +1,7 @@
 //! The text under `src/` is byte for byte the published one, and what is compiled is that text with
 //! the diffs of `patches/` and nothing else.
 
-use std::collections::BTreeSet;
+use std::collections::{BTreeMap, BTreeSet};
 use std::fs;
 use std::path::{Path, PathBuf};
 
@@ -61,24 +61,29 @@ fn every_file_of_the_text_is_listed() {
     assert!(files.is_subset(&listed));
 }
 
-/// What the build script made, file by file: the text, or the text with a diff applied.
+/// What the build script made, file by file: the text, or the text with its diffs applied in the
+/// order of their names.
 #[test]
 fn compiled_text_is_the_text_with_the_diffs() {
     let compiled = Path::new(env!("OUT_DIR")).join("polyfit");
-    let mut patched = Vec::new();
-    for entry in fs::read_dir(here().join("patches")).unwrap() {
-        let patch = patch::parse(&fs::read_to_string(entry.unwrap().path()).unwrap()).unwrap();
-        let text = fs::read_to_string(here().join("src").join(&patch.path)).unwrap();
-        let made = fs::read_to_string(compiled.join(&patch.path)).unwrap();
-        assert_eq!(patch.apply(&text).unwrap(), made);
+    let mut diffs = BTreeSet::new();
+    files_below(&here().join("patches"), &mut diffs);
+    assert_eq!(diffs.len(), 3);
+    let mut patched = BTreeMap::new();
+    for diff in diffs {
+        let patch = patch::parse(&fs::read_to_string(diff).unwrap()).unwrap();
+        let published = || fs::read_to_string(here().join("src").join(&patch.path)).unwrap();
+        let text = patched.remove(&patch.path).unwrap_or_else(published);
+        let made = patch.apply(&text).unwrap();
         assert_ne!(text, made);
-        patched.push(patch.path);
+        patched.insert(patch.path, made);
     }
-    assert_eq!(patched.len(), 2, "one diff a file, so that each can be checked alone");
     for (path, hash) in hashes() {
         let Some(path) = path.strip_prefix("src/") else { continue };
-        if !patched.contains(&path.to_string()) {
-            assert_eq!(sha256::hex(&fs::read(compiled.join(path)).unwrap()), hash, "{path}");
+        let bytes = fs::read(compiled.join(path)).unwrap();
+        match patched.get(path) {
+            Some(made) => assert_eq!(bytes, made.as_bytes(), "{path}"),
+            None => assert_eq!(sha256::hex(&bytes), hash, "{path}"),
         }
     }
 }

@@ -52,8 +52,8 @@ pub record Cases : Type 0 where
   pub t6 : tScore P95 8 ≡ milli 2306
   -- df 29 gives 2.045
   pub t7 : tScore P95 29 ≡ milli 2045
-  -- df 30 gives 1.959
-  pub t8 : tScore P95 30 ≡ milli 1959
+  -- df 30 gives 2.042
+  pub t8 : tScore P95 30 ≡ milli 2042
   -- median 1, 2, 3, 10 is 2.5
   pub t9 : medianOf (num 1 ∷ num 2 ∷ num 3 ∷ num 10 ∷ []) ≡ twoAndHalf
   -- samples (0,1),(1,3),(2,5) fit degree 1 as 1, 2

@@ -1,4 +1,5 @@
--- The z and t scores of document 01's "Statistics": polyfit's `Confidence::z_score` and `t_score`. The numbers stand in `Table.antt`. Definitions only.
+-- The z and t scores of document 01's "Statistics", with document 02's E2: polyfit's `Confidence::z_score`, and its `t_score` but at df 30. The numbers stand
+-- in `Table.antt`. Definitions only.
 use Prim.Native.Nat.{ℕ, _-_}
 use mathlib.Core.Bool.{false, cond}
 use lib.Dec.{eqb, leb}
@@ -31,7 +32,7 @@ zScore (Custom z) = z
 unfoldable pub entryAt : ℕ → ℕ → Float
 entryAt df col = milli (tableEntry (df - 1) col)
 
--- the entry in the column of the confidence; Custom has none, and gives the z score
+-- the row's entry in the column of the confidence; Custom has none, and gives its own score
 unfoldable pub tableScore : Confidence → ℕ → Float
 tableScore P80 df = entryAt df 0
 tableScore P90 df = entryAt df 1
@@ -41,9 +42,9 @@ tableScore P99 df = entryAt df 4
 tableScore P999 df = entryAt df 5
 tableScore (Custom z) df = zScore (Custom z)
 
--- `t_score`: df 0 gives +infinity for every confidence, Custom too; df 30 or more gives the z score, so that row 30 is never read
+-- `t_score`: df 0 gives +infinity for every confidence, Custom too; Custom gives its own score; df 1 to 30 gives the table's row; the z score starts at 31
 unfoldable pub tScore : Confidence → ℕ → Float
-tScore c df = cond (eqb df 0) infinityF (cond (leb 30 df) (zScore c) (tableScore c df))
+tScore c df = cond (eqb df 0) infinityF (cond (leb df 30) (tableScore c df) (zScore c))
 
 -- the degrees of freedom of n samples and k coefficients: n − k, 0 at the least
 abbrev pub degreesOfFreedom : ℕ → ℕ → ℕ

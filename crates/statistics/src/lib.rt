@@ -78,17 +78,17 @@ fn table_score(confidence: Confidence, df: usize) -> f64
     }
 }
 
-// The t score of a confidence for df degrees of freedom.
+// The t score of a confidence for df degrees of freedom: the table's row up to 30, the z score from 31 on.
 pub fn t_score(confidence: Confidence, df: usize) -> f64
     ensures { λ r. ⌜ r ≡ tScore confidence df ⌝ }
 {
     if df == 0 {
         return f64::from_bits(0x7FF0_0000_0000_0000);
     }
-    if df >= 30 {
-        return z_score(confidence);
+    if df <= 30 {
+        return table_score(confidence, df);
     }
-    table_score(confidence, df)
+    z_score(confidence)
 }
 
 // The highest degree to be tried with n samples.

@@ -19,13 +19,13 @@ returns-2 : tie.Need-returns-2
 unfolding tScore
 returns-2 c =
     let at-args = c .before .before .before .args in
-    rw (ne-eqb (at-args .df) 0 (c .before .before .if1 .left), le-leb 30 (at-args .df) (omega arith)) (c .z-score .ensures)
+    rw (ne-eqb (at-args .df) 0 (c .before .before .if1 .left), le-leb (at-args .df) 30 (omega arith)) (c .table-score .ensures)
 
 returns-3 : tie.Need-returns-3
 unfolding tScore
 returns-3 c =
     let at-args = c .before .before .before .args in
-    rw (ne-eqb (at-args .df) 0 (c .before .before .if1 .left), lt-leb 30 (at-args .df) (omega arith)) (c .table-score .ensures)
+    rw (ne-eqb (at-args .df) 0 (c .before .before .if1 .left), lt-leb (at-args .df) 30 (omega arith)) (c .z-score .ensures)
 
 pub t-score-spec : {M : Type 1} → statement M
 t-score-spec =

@@ -281,12 +281,16 @@ fn pruning(list: &mut List) {
     list.framed_book(&with_t(29, 2.0));
     list.whole_report(up_to(0), 30);
 
-    list.head("pruning: at df 30 the z score 1.959 and not row 30's 2.042: t of 2 is kept");
+    list.head("pruning: at df 30 row 30's 2.042 and not the z score 1.959: t of 2 is pruned");
     list.framed_book(&with_t(30, 2.0));
     list.whole_report(up_to(0), 31);
 
-    list.head("pruning: just below the score, pruned, and just above it, kept, at df 1 to 30");
-    for df in 1..=30 {
+    list.head("pruning: at df 31 the z score 1.959: t of 2 is kept");
+    list.framed_book(&with_t(31, 2.0));
+    list.whole_report(up_to(0), 32);
+
+    list.head("pruning: just below the score, pruned, and just above it, kept, at df 1 to 31");
+    for df in 1..=31 {
         for confidence in LEVELS {
             for part in [1.0 - 2e-6, 1.0 + 2e-6] {
                 list.framed_book(&with_t(df, part * t_score(confidence, df)));
