@@ -2,3 +2,5 @@
 pub mod Cases
 pub mod Solutions
 pub mod CaseLaws
+pub mod Thirty
+pub mod ThirtyLaws
