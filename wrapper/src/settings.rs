@@ -26,7 +26,8 @@ pub enum Criterion {
     Bic,
 }
 
-/// How sure a band is.
+/// How sure a band is, by its z score, and pruning, by Student's t for the samples less the
+/// coefficients: the table's row up to 30, the z score from 31 on.
 #[derive(Debug, Clone, Copy, PartialEq)]
 pub enum Confidence {
     P80,
