@@ -10,14 +10,12 @@ ghost use mathlib.Core.List.{_++_, map};
 ghost use Prim.Native.Nat.{_+_, _≤_};
 ghost use lib.ListN.{length, take, drop};
 ghost use Rattle.basis.specs.Sizes.{highestDegree, maxTerms, sumPlaces};
-ghost use Rattle.loops.specs.All.{All};
 ghost use Rattle.loops.specs.Fold.{allOf};
 ghost use Rattle.loops.specs.Within.{Within};
 ghost use Rattle.value.specs.Absolute.{absF};
 ghost use Rattle.value.specs.Finite.{finite};
 ghost use Rattle.value.specs.Total.{totalF};
 ghost use Rattle.statistics.specs.Losses.{losses};
-ghost use Rattle.statistics.specs.Medians.{Size};
 ghost use Rattle.basis.specs.Counts.{countOf};
 ghost use Rattle.monomial.specs.Terms.{termsAt};
 ghost use Rattle.monomial.specs.Rows.{rowsAt};
@@ -97,9 +95,9 @@ pub fn attempt(
     }
 }
 
-// The score of k coefficients, the sizes of whose residuals are the first n numbers.
+// The score of k coefficients, whose residuals are the first n numbers, or their sizes.
 pub fn score_on(criterion: Criterion, a: &[f64], n: usize, k: CoefficientCount) -> f64
-    requires { ⌜ (n ≤ length (now a)) × All Size (take n (now a)) ⌝ }
+    requires { ⌜ n ≤ length (now a) ⌝ }
     ensures { λ r. ⌜ r ≡ scoreOf criterion n (k .0) (totalF (losses (take n (now (a .entry))))) ⌝ }
 {
     let total = statistics::total_loss(a, n);

@@ -1,16 +1,13 @@
 -- A fold's own part of the sizes in scratch, and its score.
-use mathlib.Core.Path.{_≡_, sym, ap, subst, _∙_}
+use mathlib.Core.Path.{_≡_, sym, ap, _∙_}
 use mathlib.Core.List.{List, map}
 use Prim.Native.Nat.{ℕ, _-_, _≤_}
 use native.Mathlib.Omega.{arith}
 use lib.ListN.{length, take, drop, length-take, length-drop}
 use lib.Seq.{take-all}
 use lib.Ieee.{Float}
-use Rattle.loops.specs.All.{All}
-use Rattle.loops.specs.AllLaws.{all-part}
 use Rattle.loops.specs.PlaceLaws.{part-take, map-part}
 use Rattle.value.specs.Absolute.{absF}
-use Rattle.statistics.specs.Medians.{Size}
 use Rattle.monomial.specs.Rows.{Row}
 use Rattle.monomial.specs.Sums.{sumsOf}
 use Rattle.monomial.specs.SumLaws.{length-sums}
@@ -32,9 +29,6 @@ module _ (start end n : ℕ) (s : List Float) (h : start ≤ end) (g : end ≤ n
   part-is l e =
       ap (λ r. take (end - start) r) (take-all (length s - start) (drop start s) (omega (arith, length-drop start s)))
       ∙ sym (part-take start (end - start) n s (omega arith)) ∙ ap (λ r. take (end - start) (drop start r)) e
-
-  pub own-fine : (l : List Float) → take n s ≡ l → All Size l → All Size (take (end - start) (take (length s - start) (drop start s)))
-  own-fine l e a = subst (All Size) (sym (part-is l e)) (all-part Size start (end - start) l a)
 
   pub own-sizes : (k : ℕ) (c : List Float) (rows : List Row) → take n s ≡ map absF (residuals k c rows)
       → take (end - start) (take (length s - start) (drop start s)) ≡ map absF (residuals k c (ownOf start end rows))

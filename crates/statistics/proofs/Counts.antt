@@ -20,8 +20,8 @@ use Rattle.loops.specs.Fold.{fold}
 use Rattle.loops.specs.FoldLaws.{fold-map-again}
 use Rattle.value.specs.Absolute.{absF}
 use Rattle.value.specs.Keys.{bits-le, plain-fits}
-use Rattle.statistics.specs.Medians.{sort, deviations, Plain}
-use Rattle.statistics.specs.Counting.{one, count, upto, under, AtPlace, Narrowed, nearer, farther, leastFrom, greatestUnder}
+use Rattle.statistics.specs.Medians.{sort}
+use Rattle.statistics.specs.Counting.{Plain, distances, one, count, upto, under, AtPlace, Narrowed, nearer, farther, leastFrom, greatestUnder}
 use Rattle.statistics.proofs.Sorting.{place, all-sort, length-sort}
 
 -- ---- counts along a list
@@ -37,22 +37,22 @@ count-again p f l d i h =
     ap (λ m. count p (map f m)) (ap (λ k. take k l) (add-one i) ∙ take-suc l i d h) ∙ ap (count p) (map-append f (take i l) (getD l i d ∷ []))
     ∙ count-snoc p (map f (take i l)) (f (getD l i d))
 
--- one turn of a loop over deviations: k is the bits of the one at i
-module _ (d : Float) (a : List Float) (i : ℕ) (h : i < length a) (k : ℕ) (e : k ≡ toBits binary64 (absF (sub binary64 (getD a i nan) d))) where
-  pub count-turn : (b found t : ℕ) → found ≡ count (upto b) (deviations d (take i a)) → t ≡ one (leb k b) → found + t ≡ count (upto b) (deviations d (take (i + 1) a))
-  unfolding deviations
-  count-turn b found t q u = rw (q, u, e) (sym (count-again (upto b) (λ x. absF (sub binary64 x d)) a nan i h))
+-- one turn of a loop over distances: k is the bits of the one at i
+module _ (d : Float) (a : List Float) (i : ℕ) (h : i < length a) (k : ℕ) (e : k ≡ toBits binary64 (absF (sub binary64 (absF (getD a i nan)) d))) where
+  pub count-turn : (b found t : ℕ) → found ≡ count (upto b) (distances d (take i a)) → t ≡ one (leb k b) → found + t ≡ count (upto b) (distances d (take (i + 1) a))
+  unfolding distances
+  count-turn b found t q u = rw (q, u, e) (sym (count-again (upto b) (λ x. absF (sub binary64 (absF x) d)) a nan i h))
 
-  fold-turn : (f : ℕ → ℕ → ℕ) (z v r : ℕ) → v ≡ fold (λ w x. f (toBits binary64 x) w) z (deviations d (take i a)) → r ≡ f k v
-      → r ≡ fold (λ w x. f (toBits binary64 x) w) z (deviations d (take (i + 1) a))
-  unfolding deviations
-  fold-turn f z v r q u = rw (u, q, e) (sym (fold-map-again (λ w x. f (toBits binary64 x) w) z (λ x. absF (sub binary64 x d)) a nan i h))
+  fold-turn : (f : ℕ → ℕ → ℕ) (z v r : ℕ) → v ≡ fold (λ w x. f (toBits binary64 x) w) z (distances d (take i a)) → r ≡ f k v
+      → r ≡ fold (λ w x. f (toBits binary64 x) w) z (distances d (take (i + 1) a))
+  unfolding distances
+  fold-turn f z v r q u = rw (u, q, e) (sym (fold-map-again (λ w x. f (toBits binary64 x) w) z (λ x. absF (sub binary64 (absF x) d)) a nan i h))
 
-  pub least-turn : (b v r : ℕ) → v ≡ leastFrom b (deviations d (take i a)) → r ≡ nearer b k v → r ≡ leastFrom b (deviations d (take (i + 1) a))
+  pub least-turn : (b v r : ℕ) → v ≡ leastFrom b (distances d (take i a)) → r ≡ nearer b k v → r ≡ leastFrom b (distances d (take (i + 1) a))
   unfolding leastFrom
   least-turn b v r q u = fold-turn (nearer b) 0x7FF0_0000_0000_0000 v r q u
 
-  pub greatest-turn : (b v r : ℕ) → v ≡ greatestUnder b (deviations d (take i a)) → r ≡ farther b k v → r ≡ greatestUnder b (deviations d (take (i + 1) a))
+  pub greatest-turn : (b v r : ℕ) → v ≡ greatestUnder b (distances d (take i a)) → r ≡ farther b k v → r ≡ greatestUnder b (distances d (take (i + 1) a))
   unfolding greatestUnder
   greatest-turn b v r q u = fold-turn (farther b) 0 v r q u
 

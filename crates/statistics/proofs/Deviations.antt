@@ -1,33 +1,33 @@
--- Deviations |x − d|: their bits, that they have no sign, that those from +0 are the numbers themselves; and the median by the number's evenness.
+-- Deviations ||x| − d| of sizes: their bits, that those which are no NaN have no sign, that those from +0 are the sizes themselves; and the median by the
+-- number's evenness.
 use mathlib.Core.Path.{_≡_, refl, sym, ap, ap₂, subst, _∙_}
-use mathlib.Core.Bool.{Bool, true, false, not, _&&_, Bool·beq}
+use mathlib.Core.Bool.{Bool, true, false, not, _||_}
 use mathlib.Core.List.{List, [], _∷_, map}
 use Prim.Native.Nat.{ℕ, zero, suc, _+_, _-_, _*_, _/_, _%_, _^_, _≤_, _<_, zero-le}
 use native.Mathlib.Nat.{zero-add, add-assoc, mul-one, zero-mul, sub-zero}
 use native.Mathlib.Omega.{arith}
-use borrow.Author.Tests.{eq-eqb, ne-eqb, eqb-false, le-ltb}
-use lib.Dec.{T, leb, ltb, eqb, eqb→eq}
+use borrow.Author.Tests.{eq-eqb, ne-eqb, le-ltb}
+use lib.Dec.{T, leb, ltb, eqb→eq}
 use lib.IntN.{ℤ}
 use lib.ListN.{length, getD, take, length-map}
 use lib.Seq.{length-take-le, getD-take}
-use lib.Ieee.{Float, nan, inf, fin, binary64, round, units, odd, sum, add, sub, neg, div, le, toBits, ofBits, fits, isNan, nanBits, low, prec, emax, up, down, size}
-use lib.Ieee.Bits.{cond-no, nanBits-is, ofBits-fits, toBits-ofBits}
-use lib.Ieee.Fits.{round-is, sub-fits}
+use lib.Ieee.{Float, nan, inf, fin, binary64, round, sum, add, sub, neg, le, ne, toBits, ofBits, fits, isNan, nanBits, up, down, size}
+use lib.Ieee.Bits.{cond-no, nanBits-is, ofBits-fits, ofBits-toBits, toBits-ofBits}
+use lib.Ieee.Fits.{sub-fits}
 use Rattle.loops.specs.All.{All}
-use Rattle.loops.specs.AllLaws.{all-at, all-map}
-use Rattle.loops.specs.Cases.{choose}
+use Rattle.loops.specs.AllLaws.{all-at}
+use Rattle.loops.specs.Cases.{by-test, or-false}
+use Rattle.loops.specs.Fold.{fold}
+use Rattle.loops.specs.FoldLaws.{fold-map-again}
 use Rattle.loops.specs.PlaceLaws.{map-at}
 use Rattle.value.specs.Absolute.{absF}
 use Rattle.value.specs.AbsoluteLaws.{flat}
 use Rattle.value.specs.Exact.{round-itself}
-use Rattle.value.specs.Finite.{finite}
-use Rattle.value.specs.Keys.{bits-le, le-key}
-use Rattle.value.specs.Nan.{bits-some as pattern-some}
-use Rattle.value.specs.Numbers.{zeroF, twoF}
-use Rattle.value.proofs.Positive.{round-plain, plain-some}
-use Rattle.statistics.specs.Medians.{sort, midpoint, medianOf, deviations, Plain, Size}
-use Rattle.statistics.specs.MedianLaws.{abs-plain}
-use Rattle.statistics.proofs.Sorting.{all-sort, length-sort}
+use Rattle.value.specs.Keys.{bits-le, le-key, plain-fits}
+use Rattle.value.specs.Nan.{bits-some as pattern-some, nan-itself, not-nan, some}
+use Rattle.value.specs.Numbers.{zeroF}
+use Rattle.statistics.specs.Medians.{anyNan, sort, midpoint, medianOf, deviations}
+use Rattle.statistics.specs.Counting.{Plain, distances}
 
 -- ---- the bits of a size
 
@@ -60,11 +60,26 @@ abs-bits (inf false) p = low-same (toBits binary64 (inf false)) (bits-le (inf fa
 abs-bits (fin true m e) p = low-part (toBits binary64 (fin true m e)) (toBits binary64 (fin false m e)) (sign-bits m e) (bits-le (fin false m e) p)
 abs-bits (fin false m e) p = low-same (toBits binary64 (fin false m e)) (bits-le (fin false m e) p)
 
+-- the size of a double that is no NaN has no sign
+abs-plain : (x : Float) → T (fits binary64 x) → T (not (isNan x)) → Plain (absF x)
+unfolding absF isNan fits
+abs-plain nan p q = absurd q
+abs-plain (inf s) p q = tt
+abs-plain (fin s zero e) p q = p
+abs-plain (fin s (suc m) e) p q = p
+
 pub abs-some : (v : Float) → Plain (absF v) → T (not (isNan v))
 unfolding absF isNan
 abs-some nan p = absurd p
 abs-some (inf s) p = tt
 abs-some (fin s m e) p = tt
+
+-- a deviation that is no NaN is one of a number that is none
+pub sub-some : (x d : Float) → T (not (isNan (sub binary64 (absF x) d))) → T (not (isNan x))
+unfolding sub add absF isNan
+sub-some nan d p = p
+sub-some (inf s) d p = tt
+sub-some (fin s m e) d p = tt
 
 -- the bits at a place are no NaN's
 pub bits-some : (b : ℕ) → b ≤ 0x7FF0_0000_0000_0000 → T (not (nanBits binary64 b))
@@ -91,18 +106,71 @@ bits-plain b h =
 pub bits-order : (a b : ℕ) → a ≤ 0x7FF0_0000_0000_0000 → b ≤ 0x7FF0_0000_0000_0000 → le (ofBits binary64 a) (ofBits binary64 b) ≡ leb a b
 bits-order a b h k = le-key (ofBits binary64 a) (ofBits binary64 b) (bits-plain a h) (bits-plain b k) ∙ ap₂ leb (bits-back a h) (bits-back b k)
 
--- ---- the deviations of the first n of a list
+-- the size of a double, by its bits
+module _ (x : Float) (f : T (fits binary64 x)) (n : T (not (isNan x))) where
+  pub size-pattern : T (not (nanBits binary64 (toBits binary64 x % 0x8000_0000_0000_0000)))
+  size-pattern = bits-some _ (subst (λ (b : ℕ). b ≤ 0x7FF0_0000_0000_0000) (sym (abs-bits x (abs-plain x f n))) (bits-le (absF x) (abs-plain x f n)))
 
-pub length-deviations : (d : Float) (n : ℕ) (a : List Float) → n ≤ length a → length (deviations d (take n a)) ≡ n
-unfolding deviations
-length-deviations d n a h = length-map (take n a) (λ x. absF (sub binary64 x d)) ∙ length-take-le n a h
+  pub size-bits : ofBits binary64 (toBits binary64 x % 0x8000_0000_0000_0000) ≡ absF x
+  size-bits = ap (ofBits binary64) (abs-bits x (abs-plain x f n)) ∙ ofBits-toBits binary64 (absF x) (plain-fits (absF x) (abs-plain x f n))
 
-pub plain-at : (d : Float) (n : ℕ) (a : List Float) (i : ℕ) → n ≤ length a → i < n → All Plain (deviations d (take n a)) → Plain (absF (sub binary64 (getD a i nan) d))
-unfolding deviations
+-- ---- the distances of the first n of a list
+
+pub length-distances : (d : Float) (n : ℕ) (a : List Float) → n ≤ length a → length (distances d (take n a)) ≡ n
+unfolding distances
+length-distances d n a h = length-map (take n a) (λ x. absF (sub binary64 (absF x) d)) ∙ length-take-le n a h
+
+pub plain-at : (d : Float) (n : ℕ) (a : List Float) (i : ℕ) → n ≤ length a → i < n → All Plain (distances d (take n a))
+    → Plain (absF (sub binary64 (absF (getD a i nan)) d))
+unfolding distances
 plain-at d n a i h g p =
-    let f : Float → Float = λ x. absF (sub binary64 x d) in
+    let f : Float → Float = λ x. absF (sub binary64 (absF x) d) in
     let l : i < length (take n a) = rw (length-take-le n a h) g in
     subst Plain (map-at f (take n a) i nan nan l ∙ ap f (getD-take n a i nan g)) (all-at Plain (map f (take n a)) i nan p (rw (length-map (take n a) f) l))
+
+-- they are the deviations of the sizes
+pub distances-are : (d : Float) (l : List Float) → distances d l ≡ deviations d (map absF l)
+unfolding distances deviations
+distances-are d [] = refl
+distances-are d (x ∷ xs) = ap (λ (r : List Float). absF (sub binary64 (absF x) d) ∷ r) (distances-are d xs)
+
+-- ---- NaNs
+
+nan-size : (v : Float) → isNan (absF v) ≡ ne v v
+nan-size v =
+    by-test (ne v v) (λ t. ap (λ (x : Float). isNan (absF x)) (nan-itself v t) ∙ the-nan ∙ sym t) (λ t. same v ∙ not-nan v t ∙ sym t)
+  where
+    the-nan : isNan (absF nan) ≡ true
+    the-nan = unfold isNan in unfold absF in refl
+
+    same : (x : Float) → isNan (absF x) ≡ isNan x
+    same nan = unfold isNan in unfold absF in refl
+    same (inf s) = unfold isNan in unfold absF in refl
+    same (fin s m e) = unfold isNan in unfold absF in refl
+
+-- one turn of the loop that looks for one: v is the number at i less d
+pub nan-turn : (d : Float) (a : List Float) (i : ℕ) → i < length a → (found : Bool) (v : Float) → found ≡ anyNan (distances d (take i a))
+    → v ≡ sub binary64 (absF (getD a i nan)) d → (found || ne v v) ≡ anyNan (distances d (take (i + 1) a))
+unfolding distances anyNan
+nan-turn d a i h found v q u =
+    rw (q, ← nan-size v, u) (sym (fold-map-again (λ b x. b || isNan x) false (λ x. absF (sub binary64 (absF x) d)) a nan i h))
+
+-- where none is, all are no NaN
+no-nan : (l : List Float) (b : Bool) → fold (λ c x. c || isNan x) b l ≡ false → (b ≡ false) × All (λ x. isNan x ≡ false) l
+unfolding fold
+no-nan [] b h = (h, tt)
+no-nan (x ∷ xs) b h = let r = no-nan xs (b || isNan x) h in let p = or-false b (isNan x) (r .0) in (p .0, (p .1, r .1))
+
+pub distances-plain : (d : Float) (l : List Float) → anyNan (distances d l) ≡ false → All Plain (distances d l)
+unfolding anyNan distances
+distances-plain d l h = each l (no-nan (map (λ x. absF (sub binary64 (absF x) d)) l) false h .1)
+  where
+    one : (v : Float) → T (fits binary64 v) → isNan (absF v) ≡ false → Plain (absF v)
+    one v f h = abs-plain v f (some v (sym (nan-size v) ∙ h))
+
+    each : (m : List Float) → All (λ x. isNan x ≡ false) (map (λ x. absF (sub binary64 (absF x) d)) m) → All Plain (map (λ x. absF (sub binary64 (absF x) d)) m)
+    each [] a = tt
+    each (x ∷ xs) a = (one (sub binary64 (absF x) d) (sub-fits binary64 (absF x) d) (a .0), each xs (a .1))
 
 -- ---- a number less +0 is itself
 
@@ -120,129 +188,40 @@ flat-round m e =
     let d : down e * 1 ≡ down e = mul-one (down e) in
     rw (a, b, d) (sum-flat (m * up e) (down e))
 
-less-zero : (x : Float) → Plain x → absF (sub binary64 x zeroF) ≡ x
+less-zero : (x : Float) → T (fits binary64 x) → absF (sub binary64 (absF x) zeroF) ≡ absF x
 unfolding absF sub add neg sum round ofBits fits
-less-zero nan p = absurd p
-less-zero (inf true) p = absurd p
-less-zero (inf false) p = refl
-less-zero (fin true m e) p = absurd p
-less-zero (fin false zero e) p = rw (flat e (eqb→eq (up e * down e) 1 p))
-less-zero (fin false (suc m) e) p = ap absF (flat-round (suc m) e ∙ round-itself false m e p)
+less-zero nan p = refl
+less-zero (inf s) p = refl
+less-zero (fin s zero e) p = rw (flat e (eqb→eq (up e * down e) 1 p))
+less-zero (fin s (suc m) e) p = ap absF (flat-round (suc m) e ∙ round-itself false m e p)
 
-pub deviations-zero : (l : List Float) → All Plain l → deviations zeroF l ≡ l
-unfolding deviations
-deviations-zero [] a = refl
-deviations-zero (x ∷ xs) a = rw (less-zero x (a .0)) (ap (λ (r : List Float). x ∷ r) (deviations-zero xs (a .1)))
+pub distances-zero : (l : List Float) → All (λ x. T (fits binary64 x)) l → distances zeroF l ≡ map absF l
+unfolding distances
+distances-zero [] a = refl
+distances-zero (x ∷ xs) a = rw (less-zero x (a .0)) (ap (λ (r : List Float). absF x ∷ r) (distances-zero xs (a .1)))
 
--- ---- the deviations of sizes have no sign
-
-some : Float → Bool
-some x = not (isNan x)
-
-odd-some : (d : ℕ) (s : Bool) (q k l : ℕ) → T (some (odd d s q k l))
-unfolding some odd isNan
-odd-some d s zero k l = tt
-odd-some d s (suc q) k l = tt
-
-inf-some : (s : Bool) → T (some (inf s))
-unfolding some isNan
-inf-some s = tt
-
-units-some : (s : Bool) (q k : ℕ) → T (some (units binary64 s q k))
-unfolding units
-units-some s q k =
-    choose (λ x. T (some x)) (ltb (q * 2 ^ k) (2 ^ (low binary64 + suc (emax binary64)))) (odd (suc (prec binary64)) s q k (low binary64)) (inf s)
-    (λ _. odd-some (suc (prec binary64)) s q k (low binary64)) (λ _. inf-some s)
-
-round-some : (s : Bool) (a b : ℕ) → T (some (round binary64 s a b))
-round-some s a b = subst (λ (x : Float). T (some x)) (sym (round-is binary64 s a b)) (units-some s _ _)
-
-sum-some : (s : Bool) (a : ℕ) (t : Bool) (b c : ℕ) → T (some (sum binary64 s a t b c))
-unfolding sum
-sum-some s a t b c =
-    choose (λ x. T (some x)) (Bool·beq s t) _ _ (λ _. round-some s (a + b) c)
-    (λ _. choose (λ x. T (some x)) (ltb a b) _ _ (λ _. round-some t (b - a) c) (λ _. round-some (s && ltb b a) (a - b) c))
-
--- a finite number less a number that is no NaN is no NaN
-sub-some : (x y : Float) → T (finite x) → T (some y) → T (some (sub binary64 x y))
-unfolding some sub add neg isNan finite
-sub-some nan y p q = absurd p
-sub-some (inf s) y p q = absurd p
-sub-some (fin s m e) nan p q = absurd q
-sub-some (fin s m e) (inf t) p q = tt
-sub-some (fin s m e) (fin t n d) p q = sum-some s (m * up e * down d) (not t) (n * up d * down e) (down e * down d)
-
-pub deviations-plain : (d : Float) → Plain d → (l : List Float) → All Size l → All Plain (deviations d l)
-unfolding deviations some
-deviations-plain d p l a =
-    all-map Size Plain (λ x. absF (sub binary64 x d)) l
-    (λ x h. abs-plain (sub binary64 x d) (sub-fits binary64 x d) (sub-some x d (h .0) (plain-some d p))) a
-
-pub sizes-plain : (l : List Float) → All Size l → All Plain l
-sizes-plain [] a = tt
-sizes-plain (x ∷ xs) a = (a .0 .1, sizes-plain xs (a .1))
-
--- and are their own sizes
-pub sizes-themselves : (l : List Float) → All Plain l → map absF l ≡ l
-unfolding absF
-sizes-themselves [] a = refl
-sizes-themselves (nan ∷ xs) a = absurd (a .0)
-sizes-themselves (inf true ∷ xs) a = absurd (a .0)
-sizes-themselves (inf false ∷ xs) a = ap (λ (r : List Float). inf false ∷ r) (sizes-themselves xs (a .1))
-sizes-themselves (fin true m e ∷ xs) a = absurd (a .0)
-sizes-themselves (fin false m e ∷ xs) a = ap (λ (r : List Float). fin false m e ∷ r) (sizes-themselves xs (a .1))
+-- what every place has, the first n have
+pub all-places : (P : Float → Type 0) (d : Float) (n : ℕ) (l : List Float) → ((i : ℕ) → P (getD l i d)) → All P (take n l)
+all-places P d zero l f = tt
+all-places P d (suc n) [] f = tt
+all-places P d (suc n) (x ∷ xs) f = (f 0, all-places P d n xs (λ i. f (suc i)))
 
 -- ---- the median, by the number's evenness
 
 pub median-none : (l : List Float) → length l ≡ 0 → zeroF ≡ medianOf l
-unfolding medianOf
-median-none l e = rw (eq-eqb (length l) 0 e)
+unfolding medianOf anyNan fold
+median-none [] e = refl
+median-none (x ∷ xs) e = absurd (omega arith)
 
-pub median-odd : (l : List Float) → (length l ≡ 0 → ⊥) → length l % 2 ≡ 1 → getD (sort l) (length l / 2) nan ≡ medianOf l
+pub median-nan : (l : List Float) → anyNan l ≡ true → nan ≡ medianOf l
 unfolding medianOf
-median-odd l n e = rw (ne-eqb (length l) 0 n, eq-eqb (length l % 2) 1 e)
+median-nan l h = rw h
 
-pub median-even : (l : List Float) → (length l ≡ 0 → ⊥) → (length l % 2 ≡ 1 → ⊥)
+pub median-odd : (l : List Float) → anyNan l ≡ false → (length l ≡ 0 → ⊥) → length l % 2 ≡ 1 → getD (sort l) (length l / 2) nan ≡ medianOf l
+unfolding medianOf
+median-odd l h n e = rw (h, ne-eqb (length l) 0 n, eq-eqb (length l % 2) 1 e)
+
+pub median-even : (l : List Float) → anyNan l ≡ false → (length l ≡ 0 → ⊥) → (length l % 2 ≡ 1 → ⊥)
     → midpoint (getD (sort l) (length l / 2 - 1) nan) (getD (sort l) (length l / 2) nan) ≡ medianOf l
 unfolding medianOf
-median-even l n e = rw (ne-eqb (length l) 0 n, ne-eqb (length l % 2) 1 e)
-
--- ---- the median of numbers with no sign has none
-
-add-plain : (x y : Float) → Plain x → Plain y → Plain (add binary64 x y)
-unfolding add sum
-add-plain nan y p q = absurd p
-add-plain (inf true) y p q = absurd p
-add-plain (inf false) nan p q = absurd q
-add-plain (inf false) (inf true) p q = absurd q
-add-plain (inf false) (inf false) p q = tt
-add-plain (inf false) (fin t n d) p q = tt
-add-plain (fin true m e) y p q = absurd p
-add-plain (fin false m e) nan p q = absurd q
-add-plain (fin false m e) (inf true) p q = absurd q
-add-plain (fin false m e) (inf false) p q = tt
-add-plain (fin false m e) (fin true n d) p q = absurd q
-add-plain (fin false m e) (fin false n d) p q = round-plain (m * up e * down d + n * up d * down e) (down e * down d)
-
-half-plain : (x : Float) → Plain x → Plain (div binary64 x twoF)
-unfolding div ofBits
-half-plain nan p = absurd p
-half-plain (inf true) p = absurd p
-half-plain (inf false) p = tt
-half-plain (fin true m e) p = absurd p
-half-plain (fin false m e) p = round-plain (m * up e * 1) (1 * 2 * down e)
-
-zero-plain : Plain zeroF
-unfolding ofBits fits
-zero-plain = tt
-
-pub median-plain : (l : List Float) → All Plain l → Plain (medianOf l)
-unfolding medianOf midpoint
-median-plain l a =
-    choose Plain (eqb (length l) 0) _ _ (λ _. zero-plain)
-    (λ z. choose Plain (eqb (length l % 2) 1) _ _
-    (λ _. at (length l / 2) (let h = eqb-false (length l) 0 z in omega arith))
-    (λ _. half-plain _ (add-plain _ _ (at (length l / 2 - 1) (let h = eqb-false (length l) 0 z in omega arith)) (at (length l / 2) (let h = eqb-false (length l) 0 z in omega arith)))))
-  where
-    at : (m : ℕ) → m < length l → Plain (getD (sort l) m nan)
-    at m h = all-at Plain (sort l) m nan (all-sort Plain l a) (rw (length-sort l) h)
+median-even l h n e = rw (h, ne-eqb (length l) 0 n, ne-eqb (length l % 2) 1 e)

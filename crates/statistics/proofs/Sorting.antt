@@ -12,8 +12,8 @@ use lib.Ieee.{Float, binary64, le, toBits}
 use Rattle.loops.specs.All.{All}
 use Rattle.loops.specs.Cases.{choose, either}
 use Rattle.value.specs.Keys.{le-key}
-use Rattle.statistics.specs.Medians.{insert, sort, Plain}
-use Rattle.statistics.specs.Counting.{one, count, upto, under}
+use Rattle.statistics.specs.Medians.{insert, sort}
+use Rattle.statistics.specs.Counting.{Plain, one, count, upto, under}
 
 -- ---- a sort changes no count, no length, and nothing that holds of every element
 

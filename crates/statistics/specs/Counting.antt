@@ -1,13 +1,23 @@
 -- What the code counts to find the numbers in the middle without a sort. Not needed to read a public promise. Definitions only.
 -- The bits of doubles with no sign are in the order of the doubles, so a place of the list in order is told by two counts of bits.
 use mathlib.Core.Bool.{Bool, true, false, cond, not, _&&_}
-use mathlib.Core.Path.{_≡_}
-use mathlib.Core.List.{List, [], _∷_}
+use mathlib.Core.Path.{_≡_, ap}
+use mathlib.Core.List.{List, [], _∷_, map}
 use mathlib.Core.Logic.{_⊎_}
 use Prim.Native.Nat.{ℕ, _+_, _≤_, _<_}
-use lib.Dec.{leb, ltb}
-use lib.Ieee.{Float, binary64, toBits}
+use lib.Dec.{T, leb, ltb}
+use lib.Ieee.{Float, binary64, sub, toBits}
 use Rattle.loops.specs.Fold.{fold}
+use Rattle.value.specs.Absolute.{absF}
+use Rattle.value.specs.Numbers.{plain}
+
+-- no NaN and no sign. +infinity is one of them.
+abbrev pub Plain : Float → Type 0
+Plain x = T (plain x)
+
+-- the deviations of sizes from d, worked out from the numbers: ||x| − d| of each
+unfoldable pub distances : Float → List Float → List Float
+distances d l = map (λ x. absF (sub binary64 (absF x) d)) l
 
 abbrev pub one : Bool → ℕ
 one true = 1

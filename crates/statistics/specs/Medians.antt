@@ -1,13 +1,13 @@
 -- polyfit's `median` and `median_absolute_deviation`: sort, then the middle. Definitions only.
 use mathlib.Core.Path.{ap}
-use mathlib.Core.Bool.{cond}
+use mathlib.Core.Bool.{Bool, false, cond, _||_}
 use mathlib.Core.List.{List, [], _∷_, map}
-use Prim.Native.Nat.{zero, _-_, _/_, _%_}
-use lib.Dec.{T, eqb}
+use Prim.Native.Nat.{_-_, _/_, _%_}
+use lib.Dec.{eqb}
 use lib.ListN.{length, getD}
-use lib.Ieee.{Float, nan, fin, binary64, add, sub, div, le}
-use Rattle.value.specs.Numbers.{zeroF, twoF, plain}
-use Rattle.value.specs.Finite.{finite}
+use lib.Ieee.{Float, nan, binary64, add, sub, div, le, isNan}
+use Rattle.loops.specs.Fold.{fold}
+use Rattle.value.specs.Numbers.{zeroF, twoF}
 use Rattle.value.specs.Absolute.{absF}
 
 -- a list in ascending order with one more element, before those that are not less
@@ -23,12 +23,17 @@ sort (x ∷ xs) = insert x (sort xs)
 unfoldable pub midpoint : Float → Float → Float
 midpoint low high = div binary64 (add binary64 low high) twoF
 
--- `median`: +0 of an empty list; the middle of an odd number in order; of an even number, (lower middle + upper middle) / 2
+-- whether one is a NaN
+unfoldable pub anyNan : List Float → Bool
+anyNan l = fold (λ b x. b || isNan x) false l
+
+-- `median`: +0 of an empty list; the middle of an odd number in order; of an even number, (lower middle + upper middle) / 2. A NaN has no place in the
+-- order, and the Rust leaves open where its sort puts one: the median of a list with a NaN is NaN. No call makes such a list.
 unfoldable pub medianOf : List Float → Float
 medianOf l =
     let n = length l in
     let s = sort l in
-    cond (eqb n 0) zeroF (cond (eqb (n % 2) 1) (getD s (n / 2) nan) (midpoint (getD s (n / 2 - 1) nan) (getD s (n / 2) nan)))
+    cond (anyNan l) nan (cond (eqb n 0) zeroF (cond (eqb (n % 2) 1) (getD s (n / 2) nan) (midpoint (getD s (n / 2 - 1) nan) (getD s (n / 2) nan))))
 
 -- |x − d| of each
 unfoldable pub deviations : Float → List Float → List Float
@@ -37,11 +42,3 @@ deviations d l = map (λ x. absF (sub binary64 x d)) l
 -- `median_absolute_deviation` of residuals: the median of their sizes, then the median of the sizes' deviations from it
 unfoldable pub medianAbsoluteDeviation : List Float → Float
 medianAbsoluteDeviation rs = let sizes = map absF rs in medianOf (deviations (medianOf sizes) sizes)
-
--- What the code finds medians of: no NaN, and no sign. +infinity is one of them.
-abbrev pub Plain : Float → Type 0
-Plain x = T (plain x)
-
--- What it finds deviations of: these but +infinity, as the sizes of finite residuals are (`sizes-of`).
-abbrev pub Size : Float → Type 0
-Size x = T (finite x) × Plain x

@@ -1,12 +1,13 @@
 // polyfit's `statistics.rs`: scores, the bound on the degree, medians, losses and variances.
 ghost use mathlib.Core.Path.{_≡_};
+ghost use mathlib.Core.List.{map};
 ghost use Prim.Native.Nat.{_≤_, _<_};
 ghost use lib.ListN.{length, take};
-ghost use Rattle.loops.specs.All.{All};
+ghost use Rattle.value.specs.Absolute.{absF};
 ghost use Rattle.value.specs.Total.{totalF};
 ghost use Rattle.statistics.specs.Scores.{zScore, tableScore, tScore};
 ghost use Rattle.statistics.specs.Degrees.{maxDegree};
-ghost use Rattle.statistics.specs.Medians.{medianOf, medianAbsoluteDeviation, Plain, Size};
+ghost use Rattle.statistics.specs.Medians.{medianOf, medianAbsoluteDeviation};
 ghost use Rattle.statistics.specs.Losses.{huberConst, huberLoss, losses};
 ghost use Rattle.statistics.specs.Variances.{residualVariance, stddevAndMean};
 
@@ -103,20 +104,20 @@ pub fn max_degree(bound: DegreeBound, n: usize) -> Degree
     }
 }
 
-// The median of the first n numbers, of which none is a NaN and none has a sign.
-fn median(a: &[f64], n: usize) -> f64
-    requires { ⌜ (n ≤ length (now a)) × All Plain (take n (now a)) ⌝ }
-    ensures { λ r. ⌜ r ≡ medianOf (take n (now (a .entry))) ⌝ }
+// The median of the sizes of the first n numbers.
+fn median_of_sizes(a: &[f64], n: usize) -> f64
+    requires { ⌜ n ≤ length (now a) ⌝ }
+    ensures { λ r. ⌜ r ≡ medianOf (map absF (take n (now (a .entry)))) ⌝ }
 {
     order::median_from(a, n, 0.0)
 }
 
-// The median absolute deviation of residuals whose sizes are the first n numbers.
+// The median absolute deviation of residuals, the first n numbers. It takes their sizes, so that these may stand there too.
 pub fn median_absolute_deviation(a: &[f64], n: usize) -> f64
-    requires { ⌜ (n ≤ length (now a)) × All Size (take n (now a)) ⌝ }
+    requires { ⌜ n ≤ length (now a) ⌝ }
     ensures { λ r. ⌜ r ≡ medianAbsoluteDeviation (take n (now (a .entry))) ⌝ }
 {
-    let m = median(a, n);
+    let m = median_of_sizes(a, n);
     order::median_from(a, n, m)
 }
 
@@ -139,9 +140,9 @@ pub fn huber_loss(r: f64, constant: f64, mad: f64) -> f64
     delta * (s - 0.5 * delta)
 }
 
-// The sum of the losses of residuals whose sizes are the first n numbers.
+// The sum of the losses of residuals, the first n numbers, or their sizes.
 pub fn total_loss(a: &[f64], n: usize) -> f64
-    requires { ⌜ (n ≤ length (now a)) × All Size (take n (now a)) ⌝ }
+    requires { ⌜ n ≤ length (now a) ⌝ }
     ensures { λ r. ⌜ r ≡ totalF (losses (take n (now (a .entry)))) ⌝ }
 {
     let mad = median_absolute_deviation(a, n);

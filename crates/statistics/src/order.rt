@@ -1,5 +1,5 @@
 // Order statistics with no sort and no write: what stands at a place of the numbers in order is found by counting bit patterns.
-// The numbers are the deviations |x − d| of the first n of a from d. They are worked out anew in each pass, and not stored.
+// The numbers are the deviations ||x| − d| of the sizes of the first n of a from d. They are worked out anew in each pass, and not stored.
 ghost use mathlib.Core.Path.{_≡_};
 ghost use Prim.Native.Nat.{_+_, _≤_, _<_};
 ghost use lib.Dec.{leb};
@@ -7,16 +7,17 @@ ghost use lib.ListN.{length, getD, take};
 ghost use lib.Ieee.{nan, binary64, sub, toBits};
 ghost use Rattle.loops.specs.All.{All};
 ghost use Rattle.value.specs.Absolute.{absF};
-ghost use Rattle.statistics.specs.Medians.{Plain, sort, deviations, midpoint as midpointF, medianOf};
-ghost use Rattle.statistics.specs.Counting.{one, count, upto, under, Narrowed, nearer as nearerF, farther as fartherF, leastFrom};
+ghost use Rattle.statistics.specs.Medians.{anyNan, sort, midpoint as midpointF, medianOf};
+ghost use Rattle.statistics.specs.Counting.{Plain, distances, one, count, upto, under, Narrowed, nearer as nearerF, farther as fartherF, leastFrom};
 
-// The bits of |x − d|.
+// The bits of ||x| − d|.
 fn key(x: f64, d: f64) -> u64
-    requires { ⌜ Plain (absF (sub binary64 x d)) ⌝ }
-    ensures is { λ r. ⌜ r ≡ toBits binary64 (absF (sub binary64 x d)) ⌝ }
+    requires { ⌜ Plain (absF (sub binary64 (absF x) d)) ⌝ }
+    ensures is { λ r. ⌜ r ≡ toBits binary64 (absF (sub binary64 (absF x) d)) ⌝ }
     ensures small { λ r. ⌜ r ≤ 0x7FF0_0000_0000_0000 ⌝ }
 {
-    let v = x - d;
+    let size = f64::from_bits(f64::to_bits(x) % 0x8000_0000_0000_0000);
+    let v = size - d;
     f64::to_bits(v) % 0x8000_0000_0000_0000
 }
 
@@ -34,8 +35,8 @@ fn tally(k: u64, b: u64) -> usize
 
 // How many have bits up to b.
 fn count_upto(a: &[f64], n: usize, d: f64, b: u64) -> usize
-    requires { ⌜ (n ≤ length (now a)) × All Plain (deviations d (take n (now a))) × (b ≤ 0x7FF0_0000_0000_0000) ⌝ }
-    ensures { λ r. ⌜ r ≡ count (upto b) (deviations d (take n (now (a .entry)))) ⌝ }
+    requires { ⌜ (n ≤ length (now a)) × All Plain (distances d (take n (now a))) × (b ≤ 0x7FF0_0000_0000_0000) ⌝ }
+    ensures { λ r. ⌜ r ≡ count (upto b) (distances d (take n (now (a .entry)))) ⌝ }
 {
     let mut found: usize = 0;
     for i in 0..n {
@@ -66,8 +67,8 @@ fn farther(b: u64, k: u64, v: u64) -> u64
 
 // The least bits that are b or above.
 fn least_from(a: &[f64], n: usize, d: f64, b: u64) -> u64
-    requires { ⌜ (n ≤ length (now a)) × All Plain (deviations d (take n (now a))) ⌝ }
-    ensures { λ r. ⌜ r ≡ leastFrom b (deviations d (take n (now (a .entry)))) ⌝ }
+    requires { ⌜ (n ≤ length (now a)) × All Plain (distances d (take n (now a))) ⌝ }
+    ensures { λ r. ⌜ r ≡ leastFrom b (distances d (take n (now (a .entry)))) ⌝ }
 {
     let mut v: u64 = 0x7FF0_0000_0000_0000;
     for i in 0..n {
@@ -78,7 +79,7 @@ fn least_from(a: &[f64], n: usize, d: f64, b: u64) -> u64
 
 // The middle one of three: the bits of the first number, of the last, and of one between. A guess at those at a place in the middle.
 fn sampled(a: &[f64], n: usize, d: f64) -> u64
-    requires { ⌜ (n ≤ length (now a)) × All Plain (deviations d (take n (now a))) × (0 < n) ⌝ }
+    requires { ⌜ (n ≤ length (now a)) × All Plain (distances d (take n (now a))) × (0 < n) ⌝ }
 {
     let x = key(a[0], d);
     let y = key(a[n / 2], d);
@@ -142,8 +143,8 @@ struct Place {
 // Looks for place m, from 0. Its bits lie from lo to hi; `below` are under lo, `upto` up to hi. The range is cut until m are under lo, so that the least
 // from lo on stands at place m, or until lo is hi, which stands there itself.
 fn narrow(a: &[f64], n: usize, d: f64, m: usize) -> Place
-    requires { ⌜ (n ≤ length (now a)) × All Plain (deviations d (take n (now a))) × (m < n) ⌝ }
-    ensures { λ r. ⌜ Narrowed (deviations d (take n (now (a .entry)))) m (r .bits) (r .below) ⌝ }
+    requires { ⌜ (n ≤ length (now a)) × All Plain (distances d (take n (now a))) × (m < n) ⌝ }
+    ensures { λ r. ⌜ Narrowed (distances d (take n (now (a .entry)))) m (r .bits) (r .below) ⌝ }
 {
     let first = sampled(a, n, d);
     let mut lo: u64 = 0;
@@ -171,8 +172,8 @@ fn narrow(a: &[f64], n: usize, d: f64, m: usize) -> Place
 
 // The number at place m.
 fn select(a: &[f64], n: usize, d: f64, m: usize) -> f64
-    requires { ⌜ (n ≤ length (now a)) × All Plain (deviations d (take n (now a))) × (m < n) ⌝ }
-    ensures { λ r. ⌜ r ≡ getD (sort (deviations d (take n (now (a .entry))))) m nan ⌝ }
+    requires { ⌜ (n ≤ length (now a)) × All Plain (distances d (take n (now a))) × (m < n) ⌝ }
+    ensures { λ r. ⌜ r ≡ getD (sort (distances d (take n (now (a .entry))))) m nan ⌝ }
 {
     let c = narrow(a, n, d, m);
     if c.below == m {
@@ -190,8 +191,8 @@ fn midpoint(low: f64, high: f64) -> f64
 
 // The midpoint of the greatest number whose bits are under b and the least one whose bits are not, at places m and m + 1.
 fn midpoint_at(a: &[f64], n: usize, d: f64, m: usize, b: u64) -> f64
-    requires { ⌜ (n ≤ length (now a)) × All Plain (deviations d (take n (now a))) × (m + 1 < n) × (b ≤ 0x7FF0_0000_0000_0000) × (count (under b) (deviations d (take n (now a))) ≡ m + 1) ⌝ }
-    ensures { λ r. ⌜ r ≡ midpointF (getD (sort (deviations d (take n (now (a .entry))))) m nan) (getD (sort (deviations d (take n (now (a .entry))))) (m + 1) nan) ⌝ }
+    requires { ⌜ (n ≤ length (now a)) × All Plain (distances d (take n (now a))) × (m + 1 < n) × (b ≤ 0x7FF0_0000_0000_0000) × (count (under b) (distances d (take n (now a))) ≡ m + 1) ⌝ }
+    ensures { λ r. ⌜ r ≡ midpointF (getD (sort (distances d (take n (now (a .entry))))) m nan) (getD (sort (distances d (take n (now (a .entry))))) (m + 1) nan) ⌝ }
 {
     let mut low: u64 = 0;
     let mut high: u64 = 0x7FF0_0000_0000_0000;
@@ -206,8 +207,8 @@ fn midpoint_at(a: &[f64], n: usize, d: f64, m: usize, b: u64) -> f64
 // The midpoint of the numbers at places m and m + 1. Where more than m + 1 are up to the bits at place m + 1, and no more than m under them, both are
 // the same.
 fn select_midpoint(a: &[f64], n: usize, d: f64, m: usize) -> f64
-    requires { ⌜ (n ≤ length (now a)) × All Plain (deviations d (take n (now a))) × (m + 1 < n) ⌝ }
-    ensures { λ r. ⌜ r ≡ midpointF (getD (sort (deviations d (take n (now (a .entry))))) m nan) (getD (sort (deviations d (take n (now (a .entry))))) (m + 1) nan) ⌝ }
+    requires { ⌜ (n ≤ length (now a)) × All Plain (distances d (take n (now a))) × (m + 1 < n) ⌝ }
+    ensures { λ r. ⌜ r ≡ midpointF (getD (sort (distances d (take n (now (a .entry))))) m nan) (getD (sort (distances d (take n (now (a .entry))))) (m + 1) nan) ⌝ }
 {
     let c = narrow(a, n, d, m + 1);
     if c.below == m + 1 {
@@ -217,13 +218,29 @@ fn select_midpoint(a: &[f64], n: usize, d: f64, m: usize) -> f64
     midpoint(both, both)
 }
 
-// The median of the deviations.
+// Whether one of the numbers is a NaN.
+fn any_nan(a: &[f64], n: usize, d: f64) -> bool
+    requires { ⌜ n ≤ length (now a) ⌝ }
+    ensures { λ r. ⌜ r ≡ anyNan (distances d (take n (now (a .entry)))) ⌝ }
+{
+    let mut found = false;
+    for i in 0..n {
+        let v = value::abs(a[i]) - d;
+        found = found | (v != v);
+    }
+    found
+}
+
+// The median of the numbers.
 pub fn median_from(a: &[f64], n: usize, d: f64) -> f64
-    requires { ⌜ (n ≤ length (now a)) × All Plain (deviations d (take n (now a))) ⌝ }
-    ensures { λ r. ⌜ r ≡ medianOf (deviations d (take n (now (a .entry)))) ⌝ }
+    requires { ⌜ n ≤ length (now a) ⌝ }
+    ensures { λ r. ⌜ r ≡ medianOf (distances d (take n (now (a .entry)))) ⌝ }
 {
     if n == 0 {
         return 0.0;
+    }
+    if any_nan(a, n, d) {
+        return 0.0 / 0.0;
     }
     if n % 2 == 1 {
         return select(a, n, d, n / 2);

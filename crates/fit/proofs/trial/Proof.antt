@@ -1,13 +1,11 @@
 -- `fit::trial` meets its contract.
-use mathlib.Core.Path.{sym, subst, _∙_}
+use mathlib.Core.Path.{sym, _∙_}
 use Prim.Native.Nat.{_-_}
 use borrow.Author.Needs.{needs}
-use Rattle.loops.specs.All.{All}
-use Rattle.statistics.specs.Medians.{Size}
 use borrow.Author.Tests.{not-true, not-false}
 use Rattle.monomial.specs.Rows.{rowsAt}
 use Rattle.monomial.specs.RowLaws.{length-rows-at}
-use Rattle.fit.specs.SolvedLaws.{sizes-fine, scored-not, scored-is}
+use Rattle.fit.specs.SolvedLaws.{scored-not, scored-is}
 use Rattle.fit.proofs.trial.Statement.{statement}
 use Rattle.fit.proofs.trial.Tie as tie
 
@@ -16,12 +14,6 @@ returns c =
     let at-args = c .before .before .before .before .before .before .before .before .before .before .before .args in
     let at-attempt = c .before .before .before .before .attempt in
     (scored-not (at-args .criterion) (at-args .sums .now) _ _ (at-args .k .0) (sym (at-attempt .ensures .is-solved) ∙ not-true _ (c .if1 .taken)), (at-attempt .ensures .tests, at-attempt .ensures .within))
-
-score-on-requires : tie.Need-score-on-requires
-score-on-requires c κs =
-    let at-attempt = c .before .before .before .before .before .attempt in
-    let at-args = c .before .before .before .before .before .before .before .before .before .before .before .before .args in
-    (search needs, subst (All Size) (sym (at-attempt .ensures .sizes (not-false _ (c .before .if1 .left)))) (sizes-fine (at-args .sums .now) (rowsAt (at-args .basis) (at-args .n) (at-args .xs .now) (at-args .zs .now) (at-args .ys .now)) (at-args .k .0) (sym (at-attempt .ensures .is-solved) ∙ not-false _ (c .before .if1 .left))))
 
 returns-2 : tie.Need-returns-2
 returns-2 c =
@@ -36,6 +28,6 @@ trial-spec =
     (λ c κs. search needs)
     (λ c. search needs)
     returns
-    score-on-requires
+    (λ c κs. search needs)
     (λ c. search needs)
     returns-2)

@@ -11,9 +11,9 @@ use Rattle.monomial.specs.Rows.{rowsAt}
 use Rattle.monomial.specs.RowLaws.{length-rows-at}
 use Rattle.solve.specs.Solve.{solve}
 use Rattle.fit.specs.Solved.{scoredBy}
-use Rattle.fit.specs.SolvedLaws.{sizes-fine, scored-not, scored-is}
+use Rattle.fit.specs.SolvedLaws.{scored-not, scored-is}
 use Rattle.folds.specs.Folds.{ownOf}
-use Rattle.folds.proofs.Own.{length-own, own-fine, own-sizes}
+use Rattle.folds.proofs.Own.{length-own, own-sizes}
 use Rattle.folds.proofs.score_fold.Statement.{statement}
 use Rattle.folds.proofs.score_fold.Tie as tie
 
@@ -26,13 +26,6 @@ returns c =
     let at-attempt = c .before .before .before .before .attempt in
     let e = ap (λ (m : ℕ). scoredBy (at-args .criterion) (at-args .sums .now) (rowsAt Curve (at-args .n) (at-args .xs .now) (at-args .xs .now) (at-args .ys .now)) (ownOf (at-args .start) (at-args .end) (rowsAt Curve (at-args .n) (at-args .xs .now) (at-args .xs .now) (at-args .ys .now))) m) (c .before .before .before .before .before .before .k .ensures) in
     (scored-not (at-args .criterion) (at-args .sums .now) _ _ (c .before .before .before .before .before .before .k .result .0) (sym (at-attempt .ensures .is-solved) ∙ not-true _ (c .if1 .taken)) ∙ e, at-attempt .ensures .within)
-
-score-on-requires : tie.Need-score-on-requires
-score-on-requires c κs =
-    let at-args = c .before .before .before .before .before .before .before .before .before .before .before .before .before .args in
-    let at-attempt = c .before .before .before .before .before .before .attempt in
-    let yes : at-attempt .result .solved ≡ true = not-false _ (c .before .before .if1 .left) in
-    (search needs, own-fine (at-args .start) (at-args .end) (at-args .n) _ (search needs) (search needs) _ (at-attempt .ensures .sizes yes) (sizes-fine (at-args .sums .now) (rowsAt Curve (at-args .n) (at-args .xs .now) (at-args .xs .now) (at-args .ys .now)) (c .before .before .before .before .before .before .before .before .k .result .0) (sym (at-attempt .ensures .is-solved) ∙ yes)))
 
 returns-2 : tie.Need-returns-2
 returns-2 c =
@@ -59,6 +52,6 @@ score-fold-spec =
     (λ c. search needs)
     (λ c. search needs)
     (λ c. search needs)
-    score-on-requires
+    (λ c κs. search needs)
     (λ c. search needs)
     returns-2)

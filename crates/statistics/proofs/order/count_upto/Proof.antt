@@ -4,21 +4,20 @@ use Prim.Native.Nat.{_-_, _≤_}
 use native.Mathlib.Omega.{arith}
 use borrow.Author.Needs.{needs}
 use lib.ListN.{take}
-use Rattle.statistics.specs.Medians.{deviations}
-use Rattle.statistics.specs.Counting.{count, upto}
+use Rattle.statistics.specs.Counting.{distances, count, upto}
 use Rattle.statistics.proofs.Counts.{count-turn}
 use Rattle.statistics.proofs.Deviations.{plain-at}
 use Rattle.statistics.proofs.order.count_upto.Statement.{statement}
 use Rattle.statistics.proofs.order.count_upto.Tie as tie
 
 abbrev Inv-loop : tie.InvT-loop
-Inv-loop a n d b found₀ i₀ found i = (i ≤ n) × (found ≤ i) × (found ≡ count (upto b) (deviations d (take i a)))
+Inv-loop a n d b found₀ i₀ found i = (i ≤ n) × (found ≤ i) × (found ≡ count (upto b) (distances d (take i a)))
 
 abbrev μ-loop : tie.MeasureT-loop
 μ-loop a n d b found₀ i₀ found i = n - i
 
 loop-holds : tie.Need-loop-holds Inv-loop μ-loop
-loop-holds c = (search needs, search needs, unfold count in unfold deviations in refl)
+loop-holds c = (search needs, search needs, unfold count in unfold distances in refl)
 
 key-requires : tie.Need-key-requires Inv-loop μ-loop
 key-requires c κs =

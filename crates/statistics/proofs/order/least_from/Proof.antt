@@ -5,21 +5,20 @@ use native.Mathlib.Omega.{arith}
 use borrow.Author.Needs.{needs}
 use lib.ListN.{take}
 use Rattle.loops.specs.Fold.{fold}
-use Rattle.statistics.specs.Medians.{deviations}
-use Rattle.statistics.specs.Counting.{leastFrom}
+use Rattle.statistics.specs.Counting.{distances, leastFrom}
 use Rattle.statistics.proofs.Counts.{least-turn}
 use Rattle.statistics.proofs.Deviations.{plain-at}
 use Rattle.statistics.proofs.order.least_from.Statement.{statement}
 use Rattle.statistics.proofs.order.least_from.Tie as tie
 
 abbrev Inv-loop : tie.InvT-loop
-Inv-loop a n d b v₀ i₀ v i = (i ≤ n) × (v ≡ leastFrom b (deviations d (take i a)))
+Inv-loop a n d b v₀ i₀ v i = (i ≤ n) × (v ≡ leastFrom b (distances d (take i a)))
 
 abbrev μ-loop : tie.MeasureT-loop
 μ-loop a n d b v₀ i₀ v i = n - i
 
 loop-holds : tie.Need-loop-holds Inv-loop μ-loop
-unfolding leastFrom fold deviations
+unfolding leastFrom fold distances
 loop-holds c = (search needs, refl)
 
 key-requires : tie.Need-key-requires Inv-loop μ-loop

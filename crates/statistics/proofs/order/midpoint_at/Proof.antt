@@ -5,21 +5,21 @@ use native.Mathlib.Omega.{arith}
 use borrow.Author.Needs.{needs}
 use lib.ListN.{length, take}
 use Rattle.loops.specs.Fold.{fold}
-use Rattle.statistics.specs.Medians.{deviations, midpoint}
-use Rattle.statistics.specs.Counting.{leastFrom, greatestUnder, AtPlace}
+use Rattle.statistics.specs.Medians.{midpoint}
+use Rattle.statistics.specs.Counting.{distances, leastFrom, greatestUnder, AtPlace}
 use Rattle.statistics.proofs.Counts.{least-turn, greatest-turn, least-place, greatest-place, placed}
-use Rattle.statistics.proofs.Deviations.{plain-at, length-deviations, bits-some}
+use Rattle.statistics.proofs.Deviations.{plain-at, length-distances, bits-some}
 use Rattle.statistics.proofs.order.midpoint_at.Statement.{statement}
 use Rattle.statistics.proofs.order.midpoint_at.Tie as tie
 
 abbrev Inv-loop : tie.InvT-loop
-Inv-loop a n d m b low₀ high₀ i₀ low high i = (i ≤ n) × (low ≡ greatestUnder b (deviations d (take i a))) × (high ≡ leastFrom b (deviations d (take i a)))
+Inv-loop a n d m b low₀ high₀ i₀ low high i = (i ≤ n) × (low ≡ greatestUnder b (distances d (take i a))) × (high ≡ leastFrom b (distances d (take i a)))
 
 abbrev μ-loop : tie.MeasureT-loop
 μ-loop a n d m b low₀ high₀ i₀ low high i = n - i
 
 loop-holds : tie.Need-loop-holds Inv-loop μ-loop
-unfolding leastFrom greatestUnder fold deviations
+unfolding leastFrom greatestUnder fold distances
 loop-holds c = (search needs, refl, refl)
 
 key-requires : tie.Need-key-requires Inv-loop μ-loop
@@ -39,19 +39,19 @@ loop-again c =
     )
 
 -- after the loop, low stands at place m
-low-stands : (c : tie.After-loop Inv-loop μ-loop) → AtPlace (deviations (c .before .before .before .args .d) (take (c .before .before .before .args .n) (c .before .before .before .args .a .now))) (c .before .before .before .args .m) (c .before .loop .low)
+low-stands : (c : tie.After-loop Inv-loop μ-loop) → AtPlace (distances (c .before .before .before .args .d) (take (c .before .before .before .args .n) (c .before .before .before .args .a .now))) (c .before .before .before .args .m) (c .before .loop .low)
 low-stands c =
     let s = c .before .before .before in
-    let l = deviations (s .args .d) (take (s .args .n) (s .args .a .now)) in
+    let l = distances (s .args .d) (take (s .args .n) (s .args .a .now)) in
     let z : c .before .loop .i ≡ s .args .n = omega arith in
     subst (AtPlace l (s .args .m)) (sym (rw z at (c .before .loop .inv .1))) (greatest-place l (s .args .m) (s .args .b) (s .pre .3) (s .pre .4))
 
 -- and high at the next
-high-stands : (c : tie.After-loop Inv-loop μ-loop) → AtPlace (deviations (c .before .before .before .args .d) (take (c .before .before .before .args .n) (c .before .before .before .args .a .now))) (c .before .before .before .args .m + 1) (c .before .loop .high)
+high-stands : (c : tie.After-loop Inv-loop μ-loop) → AtPlace (distances (c .before .before .before .args .d) (take (c .before .before .before .args .n) (c .before .before .before .args .a .now))) (c .before .before .before .args .m + 1) (c .before .loop .high)
 high-stands c =
     let s = c .before .before .before in
-    let l = deviations (s .args .d) (take (s .args .n) (s .args .a .now)) in
-    let e = length-deviations (s .args .d) (s .args .n) (s .args .a .now) (s .pre .0) in
+    let l = distances (s .args .d) (take (s .args .n) (s .args .a .now)) in
+    let e = length-distances (s .args .d) (s .args .n) (s .args .a .now) (s .pre .0) in
     let z : c .before .loop .i ≡ s .args .n = omega arith in
     subst (AtPlace l (s .args .m + 1)) (sym (rw z at (c .before .loop .inv .2)))
     (least-place l (s .pre .1) (s .args .m + 1) (s .args .b) (let q = s .pre .3 in omega arith) (s .pre .4) (rw e (s .pre .2)))
@@ -59,8 +59,8 @@ high-stands c =
 returns : tie.Need-returns Inv-loop μ-loop
 returns c =
     let s = c .before .before .before .before in
-    let l = deviations (s .args .d) (take (s .args .n) (s .args .a .now)) in
-    let e = length-deviations (s .args .d) (s .args .n) (s .args .a .now) (s .pre .0) in
+    let l = distances (s .args .d) (take (s .args .n) (s .args .a .now)) in
+    let e = length-distances (s .args .d) (s .args .n) (s .args .a .now) (s .pre .0) in
     c .midpoint .ensures
     ∙ ap₂ midpoint (placed l (s .pre .1) (s .args .m) _ (low-stands (c .before)) (rw e (omega arith))) (placed l (s .pre .1) (s .args .m + 1) _ (high-stands (c .before)) (rw e (omega arith)))
 

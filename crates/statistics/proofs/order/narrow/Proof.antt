@@ -5,16 +5,15 @@ use Prim.Native.Nat.{_-_, _≤_, _<_}
 use native.Mathlib.Omega.{arith}
 use borrow.Author.Needs.{needs}
 use lib.ListN.{take}
-use Rattle.statistics.specs.Medians.{deviations}
-use Rattle.statistics.specs.Counting.{count, upto as bitsUpto, under}
+use Rattle.statistics.specs.Counting.{distances, count, upto as bitsUpto, under}
 use Rattle.statistics.proofs.Counts.{under-next, under-zero, upto-all}
-use Rattle.statistics.proofs.Deviations.{length-deviations}
+use Rattle.statistics.proofs.Deviations.{length-distances}
 use Rattle.statistics.proofs.order.narrow.Statement.{statement}
 use Rattle.statistics.proofs.order.narrow.Tie as tie
 
 abbrev Inv-loop : tie.InvT-loop
 Inv-loop a n d m first lo₀ hi₀ below₀ upto₀ turn₀ lo hi below upto turn =
-    (lo ≤ hi) × (hi ≤ 0x7FF0_0000_0000_0000) × (below ≡ count (under lo) (deviations d (take n a))) × (below ≤ m) × (m < count (bitsUpto hi) (deviations d (take n a)))
+    (lo ≤ hi) × (hi ≤ 0x7FF0_0000_0000_0000) × (below ≡ count (under lo) (distances d (take n a))) × (below ≤ m) × (m < count (bitsUpto hi) (distances d (take n a)))
 
 abbrev μ-loop : tie.MeasureT-loop
 μ-loop a n d m first lo₀ hi₀ below₀ upto₀ turn₀ lo hi below upto turn = hi - lo
@@ -25,8 +24,8 @@ sampled-requires c κs = let p = c .before .pre in (p .0, p .1, omega arith)
 loop-holds : tie.Need-loop-holds Inv-loop μ-loop
 loop-holds c =
     let s = c .before .before in
-    let l = deviations (s .args .d) (take (s .args .n) (s .args .a .now)) in
-    let e = length-deviations (s .args .d) (s .args .n) (s .args .a .now) (s .pre .0) in
+    let l = distances (s .args .d) (take (s .args .n) (s .args .a .now)) in
+    let e = length-distances (s .args .d) (s .args .n) (s .args .a .now) (s .pre .0) in
     (omega arith, omega arith, sym (under-zero l), omega arith, rw (upto-all l (s .pre .1), e) (s .pre .2))
 
 returns : tie.Need-returns Inv-loop μ-loop
@@ -43,7 +42,7 @@ loop-again-2 : tie.Need-loop-again-2 Inv-loop μ-loop
 loop-again-2 c =
     let at-loop = c .before .before .before .before .before .loop in
     let s = c .before .before .before .before .before .before .before .before in
-    let l = deviations (s .args .d) (take (s .args .n) (s .args .a .now)) in
+    let l = distances (s .args .d) (take (s .args .n) (s .args .a .now)) in
     (omega arith, at-loop .inv .1, c .before .count-upto .ensures ∙ sym (under-next (c .before .before .cut .result) l), c .if2 .left, at-loop .inv .4)
 
 returns-2 : tie.Need-returns-2 Inv-loop μ-loop

@@ -3,34 +3,33 @@ use mathlib.Core.Path.{sym, subst}
 use borrow.Author.Needs.{needs}
 use Prim.Native.Nat.{_<_}
 use lib.ListN.{length, take}
-use Rattle.statistics.specs.Medians.{deviations}
-use Rattle.statistics.specs.Counting.{AtPlace}
+use Rattle.statistics.specs.Counting.{distances, AtPlace}
 use Rattle.statistics.proofs.Counts.{least-stands, bits-stand, placed}
-use Rattle.statistics.proofs.Deviations.{length-deviations, bits-some}
+use Rattle.statistics.proofs.Deviations.{length-distances, bits-some}
 use Rattle.statistics.proofs.order.select.Statement.{statement}
 use Rattle.statistics.proofs.order.select.Tie as tie
 
 -- m are under the bits: the least from there on stands at place m
-least : (c : tie.After-least-from) → AtPlace (deviations (c .before .before .before .before .before .args .d) (take (c .before .before .before .before .before .args .n) (c .before .before .before .before .before .args .a .now))) (c .before .before .before .before .before .args .m) (c .least-from .result)
+least : (c : tie.After-least-from) → AtPlace (distances (c .before .before .before .before .before .args .d) (take (c .before .before .before .before .before .args .n) (c .before .before .before .before .before .args .a .now))) (c .before .before .before .before .before .args .m) (c .least-from .result)
 least c =
     let s = c .before .before .before .before .before in
-    let l = deviations (s .args .d) (take (s .args .n) (s .args .a .now)) in
-    let e = length-deviations (s .args .d) (s .args .n) (s .args .a .now) (s .pre .0) in
+    let l = distances (s .args .d) (take (s .args .n) (s .args .a .now)) in
+    let e = length-distances (s .args .d) (s .args .n) (s .args .a .now) (s .pre .0) in
     subst (AtPlace l (s .args .m)) (sym (c .least-from .ensures))
     (least-stands l (s .pre .1) (s .args .m) _ _ (rw e (s .pre .2)) (c .before .before .before .narrow .ensures) (c .before .if1 .taken))
 
 returns : tie.Need-returns
 returns c =
     let s = c .before .before .before .before .before in
-    let l = deviations (s .args .d) (take (s .args .n) (s .args .a .now)) in
-    let e = length-deviations (s .args .d) (s .args .n) (s .args .a .now) (s .pre .0) in
+    let l = distances (s .args .d) (take (s .args .n) (s .args .a .now)) in
+    let e = length-distances (s .args .d) (s .args .n) (s .args .a .now) (s .pre .0) in
     placed l (s .pre .1) (s .args .m) _ (least c) (rw e (s .pre .2))
 
 returns-2 : tie.Need-returns-2
 returns-2 c =
     let s = c .before .before .before .before .before in
-    let l = deviations (s .args .d) (take (s .args .n) (s .args .a .now)) in
-    let e = length-deviations (s .args .d) (s .args .n) (s .args .a .now) (s .pre .0) in
+    let l = distances (s .args .d) (take (s .args .n) (s .args .a .now)) in
+    let e = length-distances (s .args .d) (s .args .n) (s .args .a .now) (s .pre .0) in
     let h : s .args .m < length l = rw e (s .pre .2) in
     placed l (s .pre .1) (s .args .m) _ (bits-stand l (s .pre .1) (s .args .m) _ _ h (c .before .before .before .narrow .ensures) (c .before .if1 .left)) h
 

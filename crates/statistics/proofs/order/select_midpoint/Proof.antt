@@ -4,9 +4,10 @@ use Prim.Native.Nat.{_+_, _<_}
 use native.Mathlib.Omega.{arith}
 use borrow.Author.Needs.{needs}
 use lib.ListN.{length, take}
-use Rattle.statistics.specs.Medians.{deviations, midpoint}
+use Rattle.statistics.specs.Medians.{midpoint}
+use Rattle.statistics.specs.Counting.{distances}
 use Rattle.statistics.proofs.Counts.{bits-stand, place-before, placed}
-use Rattle.statistics.proofs.Deviations.{length-deviations, bits-some}
+use Rattle.statistics.proofs.Deviations.{length-distances, bits-some}
 use Rattle.statistics.proofs.order.select_midpoint.Statement.{statement}
 use Rattle.statistics.proofs.order.select_midpoint.Tie as tie
 
@@ -20,8 +21,8 @@ returns-2 : tie.Need-returns-2
 returns-2 c =
     let s = c .before .before .before .before .before .before in
     let p = c .before .before .before .before .narrow .ensures in
-    let l = deviations (s .args .d) (take (s .args .n) (s .args .a .now)) in
-    let e = length-deviations (s .args .d) (s .args .n) (s .args .a .now) (s .pre .0) in
+    let l = distances (s .args .d) (take (s .args .n) (s .args .a .now)) in
+    let e = length-distances (s .args .d) (s .args .n) (s .args .a .now) (s .pre .0) in
     let h : s .args .m + 1 < length l = rw e (s .pre .2) in
     let up = bits-stand l (s .pre .1) (s .args .m + 1) _ _ h p (c .before .before .if1 .left) in
     let down = place-before l (s .args .m) _ up (let q = p .is in let r = p .most in let n = c .before .before .if1 .left in omega (arith, q, r, n)) in
