@@ -12,6 +12,7 @@ FAULTS = [
     ("a table's last place: 2.045 as 2.046", "statistics.rs", "1.699,    2.045,", "1.699,    2.046,"),
     ("the z score at df 30", "statistics.rs", "if df > 30 {", "if df >= 30 {"),
     ("Huber's constant 1.345 as 1.346", "statistics.rs", "HUBER_CONST: f64 = 1.345", "HUBER_CONST: f64 = 1.346"),
+    ("a median of +infinity between finite values", "statistics.rs", "if sum.is_infinite() {", "if false {"),
     ("the 2 of the choice as 1.9", "fit.rs", "score - least <= 2.0", "score - least <= 1.9"),
     ("below 2 for at most 2", "fit.rs", "score - least <= 2.0", "score - least < 2.0"),
     ("an outlier at y = lower", "fit.rs", "sample.y < band.lower ||", "sample.y <= band.lower ||"),

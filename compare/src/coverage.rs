@@ -8,7 +8,7 @@ use judge::numbers::bits;
 use judge::refusals::{Conditions, Lengths};
 use judge::solve::inverse;
 use judge::statistics::{
-    max_degree, median, median_absolute_deviation, Confidence, DegreeBound, Tolerance, HUBER_CONST,
+    max_degree, median_absolute_deviation, Confidence, DegreeBound, Tolerance, HUBER_CONST,
 };
 use judge::sums::{a, folded_afresh, PLACES, TERMS};
 use judge::Sample;
@@ -96,7 +96,7 @@ const LENGTHS: [(&str, &[&str]); 8] = [
 ];
 
 /// Everything else that must happen.
-const EVENTS: [&str; 53] = [
+const EVENTS: [&str; 55] = [
     "report: 11 with no degree solved",
     "report: 11 with degrees solved",
     "report: degree 0 unsolved, a higher one chosen",
@@ -121,7 +121,7 @@ const EVENTS: [&str; 53] = [
     "report: correction term of the AIC not used",
     "report: square losses",
     "report: linear losses",
-    "report: infinite median of sizes",
+    "report: two middle sizes whose sum is infinite",
     "band: 9 before 10",
     "band: 9 before 12",
     "band: NaN",
@@ -133,6 +133,8 @@ const EVENTS: [&str; 53] = [
     "validate: the last fold takes a rest",
     "validate: a degree with solved and unsolved folds",
     "validate: a degree without a solved fold",
+    "median: the chosen degree's middle sizes have an infinite sum",
+    "median: a fold's middle sizes have an infinite sum",
     "samples: -0",
     "samples: subnormal",
     "samples: above 1e308",
@@ -371,6 +373,13 @@ impl Coverage {
             self.note_if(solved == 0, "validate: a degree without a solved fold");
             let some = solved > 0 && solved < folds;
             self.note_if(some, "validate: a degree with solved and unsolved folds");
+            for (range, sums) in ranges.iter().zip(&sums) {
+                if let Some(coefficients) = fit::solved(samples, sums, degree) {
+                    let own = fit::residuals(&samples[range.clone()], &coefficients);
+                    let key = "median: a fold's middle sizes have an infinite sum";
+                    self.note_if(middle_sum_is_infinite(&own), key);
+                }
+            }
         }
     }
 
@@ -410,8 +419,8 @@ impl Coverage {
     fn note_medians(&mut self, samples: &[Sample], sums: &[f64], bound: usize) {
         for coefficients in (0..=bound).filter_map(|degree| fit::solved(samples, sums, degree)) {
             let residuals = fit::residuals(samples, &coefficients);
-            let sizes: Vec<f64> = residuals.iter().map(|r| r.abs()).collect();
-            self.note_if(median(&sizes).is_infinite(), "report: infinite median of sizes");
+            let key = "report: two middle sizes whose sum is infinite";
+            self.note_if(middle_sum_is_infinite(&residuals), key);
         }
     }
 
@@ -465,6 +474,8 @@ impl Coverage {
 
     fn note_losses(&mut self, seen: &Seen, settings: Settings, degree: usize) {
         let residuals = fit::residuals(&seen.samples, &seen.memory.coefficients[..=degree]);
+        let key = "median: the chosen degree's middle sizes have an infinite sum";
+        self.note_if(middle_sum_is_infinite(&residuals), key);
         let delta = HUBER_CONST * median_absolute_deviation(&residuals);
         self.note_if(residuals.iter().any(|r| r.abs() <= delta), "report: square losses");
         self.note_if(residuals.iter().any(|r| r.abs() > delta), "report: linear losses");
@@ -475,6 +486,14 @@ impl Coverage {
             self.note_if(!used, "report: correction term of the AIC not used");
         }
     }
+}
+
+/// Whether the two middle sizes of an even number of residuals add up to infinity.
+fn middle_sum_is_infinite(residuals: &[f64]) -> bool {
+    let mut sizes: Vec<f64> = residuals.iter().map(|r| r.abs()).collect();
+    sizes.sort_by(f64::total_cmp);
+    let n = sizes.len();
+    n > 0 && n % 2 == 0 && (sizes[n / 2 - 1] + sizes[n / 2]).is_infinite()
 }
 
 fn required_refusals() -> Vec<String> {

@@ -419,6 +419,9 @@ fn choices_and_bounds() {
     assert_eq!(edge("choice: T12").of("report"), ["report 0 1 0 1"]);
     let solved = edge("choice: 11 with a solved");
     assert_eq!((solved.of("fit"), solved.of("report")), (vec!["fit 0"], vec!["refused 11"]));
+    let top = edge("choice: two middle sizes whose sum is infinite");
+    assert_eq!(top.of("report"), ["report 0 1 0 0"; 2]);
+    assert_eq!(top.of("validate"), ["fit 0"; 2]);
     let none = edge("choice: 11 with no");
     assert_eq!((none.of("fit"), none.of("report")), (vec!["refused 10"], vec!["refused 11"]));
     let custom = edge("bounds: Custom 20");

@@ -151,7 +151,7 @@ pub fn max_degree(bound: DegreeBound, n: usize) -> usize {
     root.min(obs_lim).min(hard_cap).min(theoretical_max)
 }
 
-/// `median`: sorted, then the middle, or half the sum of the two middle ones. Of no values, zero.
+/// `median`: sorted, then the middle, or what lies between the two middle ones. Of no values, zero.
 /// Only sizes of finite residuals and their distances from a median come here, so no NaN does.
 pub fn median(values: &[f64]) -> f64 {
     let mut sorted = values.to_vec();
@@ -162,7 +162,17 @@ pub fn median(values: &[f64]) -> f64 {
     } else if n % 2 == 1 {
         sorted[n / 2]
     } else {
-        (sorted[n / 2 - 1] + sorted[n / 2]) / 2.0
+        midpoint(sorted[n / 2 - 1], sorted[n / 2])
+    }
+}
+
+/// Half the sum of two values; where the sum is infinite, half of one plus half of the other.
+fn midpoint(low: f64, high: f64) -> f64 {
+    let sum = low + high;
+    if sum.is_infinite() {
+        low / 2.0 + high / 2.0
+    } else {
+        sum / 2.0
     }
 }
 
@@ -289,6 +299,15 @@ mod tests {
         assert_eq!(median(&[1.0, 2.0, 3.0, 10.0]), 2.5);
         assert_eq!(median(&[10.0, 2.0, 1.0, 3.0]), 2.5);
         assert_eq!(median(&[3.0]), 3.0);
+    }
+
+    #[test]
+    fn median_near_the_top() {
+        assert_eq!(median(&[f64::MAX, f64::MAX]), f64::MAX);
+        assert_eq!(median(&[-f64::MAX, -1e308]), -f64::MAX / 2.0 - 5e307);
+        assert_eq!(median(&[f64::INFINITY, 1.0]), f64::INFINITY);
+        // Halves of the least doubles would be lost.
+        assert_eq!(median(&[5e-324, 5e-324]), 5e-324);
     }
 
     #[test]

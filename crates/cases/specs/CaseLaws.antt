@@ -15,7 +15,7 @@ use Rattle.value.specs.Maximum.{maximumF}
 use Rattle.value.specs.Numbers.{zeroF, twoF}
 use Rattle.basis.specs.declared.OptionDegree.the-variants.{Some}
 use Rattle.statistics.specs.Degrees.{root, rootUpTo, maxDegree}
-use Rattle.statistics.specs.Medians.{insert, sort, midpoint, anyNan, medianOf}
+use Rattle.statistics.specs.Medians.{insert, sort, infinite, midpoint, anyNan, medianOf}
 use Rattle.statistics.specs.Table.{tableEntry, thousandths, zThousandths}
 use Rattle.statistics.specs.Scores.{milli, zAt, zScore, entryAt, tableScore, tScore}
 use Rattle.monomial.specs.Rows.{Row, rowsOf}
@@ -67,7 +67,7 @@ solved-is rows k t v e = ap (λ (s : Scored). s .solved) e
 -- ---- the theorem
 
 pub cases : Cases
-unfolding maxDegree root rootUpTo tScore tableScore entryAt tableEntry milli zScore zAt thousandths zThousandths medianOf anyNan fold isNan sort insert midpoint choiceOf tried table ofInt ofBits round size span climb odd units sum add div lt le eq trailingZeros countOf
+unfolding maxDegree root rootUpTo tScore tableScore entryAt tableEntry milli zScore zAt thousandths zThousandths medianOf anyNan fold isNan sort insert infinite midpoint choiceOf tried table ofInt ofBits round size span climb odd units sum add div lt le eq trailingZeros countOf
 cases =
     record {
       t1 = refl;

@@ -16,7 +16,7 @@ use Rattle.value.specs.Numbers.{num, zeroF}
 use Rattle.value.specs.Power.{powerTurns, powerFrom, powerF}
 use Rattle.value.specs.Total.{totalF}
 use Rattle.statistics.specs.Scores.{milli}
-use Rattle.statistics.specs.Medians.{insert, sort, midpoint, anyNan, medianOf, deviations, medianAbsoluteDeviation}
+use Rattle.statistics.specs.Medians.{insert, sort, infinite, midpoint, anyNan, medianOf, deviations, medianAbsoluteDeviation}
 use Rattle.statistics.specs.Losses.{huberConst, huberLoss, losses}
 use Rattle.monomial.specs.Rows.{Row, rowOf, rowsOf, fitted}
 use Rattle.monomial.specs.Sums.{productOf, addRow, sumsOf}
@@ -62,21 +62,21 @@ unfolding scoredBy isSolved scoreOn scoredFrom
 scored-from rows k s e = rw e
 
 line-from-0 : scoredFrom (rowsOf line) 1 (record { held = 1; c = num 3 ∷ replicate 15 zeroF }) ≡ record { solved = true; score = aicOf 3 1 zeroF }
-unfolding scoredFrom scoreOf scoreBy residuals residual fitted fold table rowOf powerTurns powerFrom powerF losses huberLoss huberConst milli medianAbsoluteDeviation medianOf anyNan isNan deviations sort insert midpoint absF finite ofInt ofBits round size span climb odd units sum add sub mul div neg lt le eq trailingZeros
+unfolding scoredFrom scoreOf scoreBy residuals residual fitted fold table rowOf powerTurns powerFrom powerF losses huberLoss huberConst milli medianAbsoluteDeviation medianOf anyNan isNan deviations sort insert infinite midpoint absF finite ofInt ofBits round size span climb odd units sum add sub mul div neg lt le eq trailingZeros
 line-from-0 = refl
 
 pub line-score-0 : scoredBy Aic (sumsOf (rowsOf line)) (rowsOf line) (rowsOf line) 1 ≡ record { solved = true; score = aicOf 3 1 zeroF }
 line-score-0 = scored-from (rowsOf line) 1 _ line-degree-0 ∙ line-from-0
 
 line-from-1 : scoredFrom (rowsOf line) 2 (record { held = 2; c = num 1 ∷ num 2 ∷ replicate 14 zeroF }) ≡ record { solved = true; score = aicOf 3 2 zeroF }
-unfolding scoredFrom scoreOf scoreBy residuals residual fitted fold table rowOf powerTurns powerFrom powerF losses huberLoss huberConst milli medianAbsoluteDeviation medianOf anyNan isNan deviations sort insert midpoint absF finite ofInt ofBits round size span climb odd units sum add sub mul div neg lt le eq trailingZeros
+unfolding scoredFrom scoreOf scoreBy residuals residual fitted fold table rowOf powerTurns powerFrom powerF losses huberLoss huberConst milli medianAbsoluteDeviation medianOf anyNan isNan deviations sort insert infinite midpoint absF finite ofInt ofBits round size span climb odd units sum add sub mul div neg lt le eq trailingZeros
 line-from-1 = refl
 
 pub line-score-1 : scoredBy Aic (sumsOf (rowsOf line)) (rowsOf line) (rowsOf line) 2 ≡ record { solved = true; score = aicOf 3 2 zeroF }
 line-score-1 = scored-from (rowsOf line) 2 _ line-degree-1 ∙ line-from-1
 
 twice-from-0 : scoredFrom (rowsOf twice) 1 (record { held = 1; c = num 3 ∷ replicate 15 zeroF }) ≡ record { solved = true; score = aicOf 2 1 zeroF }
-unfolding scoredFrom scoreOf scoreBy residuals residual fitted fold table rowOf powerTurns powerFrom powerF losses huberLoss huberConst milli medianAbsoluteDeviation medianOf anyNan isNan deviations sort insert midpoint absF finite ofInt ofBits round size span climb odd units sum add sub mul div neg lt le eq trailingZeros
+unfolding scoredFrom scoreOf scoreBy residuals residual fitted fold table rowOf powerTurns powerFrom powerF losses huberLoss huberConst milli medianAbsoluteDeviation medianOf anyNan isNan deviations sort insert infinite midpoint absF finite ofInt ofBits round size span climb odd units sum add sub mul div neg lt le eq trailingZeros
 twice-from-0 = refl
 
 pub twice-score-0 : scoredBy Aic (sumsOf (rowsOf twice)) (rowsOf twice) (rowsOf twice) 1 ≡ record { solved = true; score = aicOf 2 1 zeroF }

@@ -1,7 +1,7 @@
 -- What the code counts to find the numbers in the middle without a sort. Not needed to read a public promise. Definitions only.
 -- The bits of doubles with no sign are in the order of the doubles, so a place of the list in order is told by two counts of bits.
 use mathlib.Core.Bool.{Bool, true, false, cond, not, _&&_}
-use mathlib.Core.Path.{_≡_, ap}
+use mathlib.Core.Path.{_≡_}
 use mathlib.Core.List.{List, [], _∷_, map}
 use mathlib.Core.Logic.{_⊎_}
 use Prim.Native.Nat.{ℕ, _+_, _≤_, _<_}

@@ -1,11 +1,11 @@
 -- polyfit's `median` and `median_absolute_deviation`: sort, then the middle. Definitions only.
 use mathlib.Core.Path.{ap}
-use mathlib.Core.Bool.{Bool, false, cond, _||_}
+use mathlib.Core.Bool.{Bool, true, false, cond, _||_}
 use mathlib.Core.List.{List, [], _∷_, map}
 use Prim.Native.Nat.{_-_, _/_, _%_}
 use lib.Dec.{eqb}
 use lib.ListN.{length, getD}
-use lib.Ieee.{Float, nan, binary64, add, sub, div, le, isNan}
+use lib.Ieee.{Float, nan, inf, fin, binary64, add, sub, div, le, isNan}
 use Rattle.loops.specs.Fold.{fold}
 use Rattle.value.specs.Numbers.{zeroF, twoF}
 use Rattle.value.specs.Absolute.{absF}
@@ -19,16 +19,23 @@ unfoldable pub sort : List Float → List Float
 sort [] = []
 sort (x ∷ xs) = insert x (sort xs)
 
--- the middle of an even number, from the two in the middle
+unfoldable pub infinite : Float → Bool
+infinite nan = false
+infinite (inf s) = true
+infinite (fin s m e) = false
+
+-- the middle of an even number, from the two in the middle: half their sum; where the sum is infinite, half of one plus half of the other
 unfoldable pub midpoint : Float → Float → Float
-midpoint low high = div binary64 (add binary64 low high) twoF
+midpoint low high =
+    let sum = add binary64 low high in
+    cond (infinite sum) (add binary64 (div binary64 low twoF) (div binary64 high twoF)) (div binary64 sum twoF)
 
 -- whether one is a NaN
 unfoldable pub anyNan : List Float → Bool
 anyNan l = fold (λ b x. b || isNan x) false l
 
--- `median`: +0 of an empty list; the middle of an odd number in order; of an even number, (lower middle + upper middle) / 2. A NaN has no place in the
--- order, and the Rust leaves open where its sort puts one: the median of a list with a NaN is NaN. No call makes such a list.
+-- `median`: +0 of an empty list; the middle of an odd number in order; of an even number, the midpoint of the two in the middle. A NaN has no place
+-- in the order, and the Rust leaves open where its sort puts one: the median of a list with a NaN is NaN. No call makes such a list.
 unfoldable pub medianOf : List Float → Float
 medianOf l =
     let n = length l in

@@ -182,11 +182,15 @@ fn select(a: &[f64], n: usize, d: f64, m: usize) -> f64
     f64::from_bits(c.bits)
 }
 
-// The midpoint of the two middle values.
+// The midpoint of the two middle values. Halves are added only where the sum is infinite, since those of the least doubles are lost.
 fn midpoint(low: f64, high: f64) -> f64
     ensures { λ r. ⌜ r ≡ midpointF low high ⌝ }
 {
-    (low + high) / 2.0
+    let sum = low + high;
+    if value::abs(sum) == f64::from_bits(0x7FF0_0000_0000_0000) {
+        return low / 2.0 + high / 2.0;
+    }
+    sum / 2.0
 }
 
 // The midpoint of the greatest number whose bits are under b and the least one whose bits are not, at places m and m + 1.

@@ -409,9 +409,16 @@ fn choice(list: &mut List) {
     list.report(up_to(2));
 
     list.head("choice: 11 with a solved degree, whose score is +infinity");
-    list.book(&[(0.0, 1.5e308), (1.0, -1.5e308)]);
+    list.book(&at_whole_x(&[3e200, -1e200, -2e200]));
     list.fit(0);
     list.report(up_to(0));
+
+    list.head("choice: two middle sizes whose sum is infinite, and degree 0 is chosen");
+    list.book(&[(0.0, f64::MAX), (0.0, -f64::MAX)]);
+    list.whole_report(up_to(0), 2);
+    list.book(&at_whole_x(&[1.5e308, -1.5e308, 1.5e308, -1.5e308]));
+    list.report(up_to(0));
+    list.validate(2, 0);
 
     list.head("choice: 11 with no solved degree");
     list.book(&[(0.0, f64::MAX); 2]);
