@@ -2,27 +2,21 @@
 use mathlib.Core.Path.{_≡_, refl, sym, ap, _∙_}
 use mathlib.Core.Bool.{Bool, true, false, cond}
 use Prim.Native.Nat.{ℕ, _+_, _-_, _*_, _/_, _%_, _^_, _≤_, _<_}
-use native.Mathlib.Nat.{mul-assoc, mul-div-cancel}
+use native.Mathlib.Nat.{mul-assoc}
 use native.Mathlib.Omega.{arith}
 use lib.Pow.{pow-add}
-use lib.Ieee.{Float, nan, inf, fin, binary64, down, odd, ofBits}
-use lib.Ieee.Exact.{HasValue, odd-sign}
-use lib.Ieee.Fits.{down-pos}
+use lib.Ieee.{binary64, odd, ofBits}
+use lib.Ieee.Exact.{odd-sign}
 use Rattle.value.specs.Logarithm.{isLow, mBits, kBiased}
 use Rattle.value.specs.Nearest.{ulps}
-use Rattle.value.proofs.SquareRoot.Reading.{normal-bits}
-
-value-ulps : (v : Float) (a : ℕ) → HasValue v false a (2 ^ 1074) → ulps v ≡ a
-value-ulps nan a h = absurd h
-value-ulps (inf s) a h = absurd h
-value-ulps (fin s m e) a h = ap (λ (x : ℕ). x / down e) (h .1) ∙ mul-div-cancel a (down-pos e)
+use Rattle.value.proofs.SquareRoot.Reading.{normal-bits, ulps-of-value}
 
 -- a double with the exponent's field y and the digits t, counted in the smallest double
 grains-bits : (b y t : ℕ) → 2 ^ 52 ≤ b → b < 0x7FF0_0000_0000_0000 → b / 2 ^ 52 - 1 ≡ y → b % 2 ^ 52 ≡ t → ulps (ofBits binary64 b) ≡ (2 ^ 52 + t) * 2 ^ y
 grains-bits b y t l h p q =
     let c = 2 ^ 52 + b % 2 ^ 52 in
     let d = b / 2 ^ 52 - 1 in
-    ap ulps (normal-bits b l h) ∙ value-ulps (odd 53 false c d 1074) (c * 2 ^ d) (odd-sign 53 false c d 1074) ∙ rw (p, q)
+    ap ulps (normal-bits b l h) ∙ ulps-of-value (odd 53 false c d 1074) (c * 2 ^ d) (odd-sign 53 false c d 1074) ∙ rw (p, q)
 
 shifts : (c x y z w : ℕ) → x + y ≡ z + w → c * 2 ^ x * 2 ^ y ≡ c * 2 ^ z * 2 ^ w
 shifts c x y z w h = mul-assoc c (2 ^ x) (2 ^ y) ∙ ap (λ (n : ℕ). c * n) (sym (pow-add 2 x y) ∙ ap (λ (n : ℕ). 2 ^ n) h ∙ pow-add 2 z w) ∙ sym (mul-assoc c (2 ^ z) (2 ^ w))

@@ -1,41 +1,29 @@
 -- Where a float step changes nothing: a double is the nearest to its own value, so 1 × b is b.
 use mathlib.Core.Path.{_≡_, refl, sym, ap, subst, _∙_}
 use mathlib.Core.Bool.{Bool, true, false, _&&_}
-use Prim.Native.Nat.{ℕ, zero, suc, _+_, _-_, _*_, _%_, _^_, _≤_, _<_}
-use native.Mathlib.Nat.{mul-one, one-mul, mul-assoc, mul-left-comm, mul-pos, pow-suc, pow-succ', zero-mul, zero-lt-suc, lt-irrefl, eq-of-mul-eq-mul-right, lt-of-not-le, lt-of-lt-of-le, not-le-of-lt, le-of-suc-le-suc, mul-lt-mul-of-pos-right}
+use Prim.Native.Nat.{ℕ, zero, suc, _*_, _%_, _^_, _<_}
+use native.Mathlib.Nat.{le-of-eq, lt-irrefl, lt-of-le-of-lt, lt-of-lt-of-le, lt-of-mul-lt-mul-right, mul-one, one-mul, mul-assoc, mul-left-comm, mul-right-comm, mul-pos, mul-lt-mul-of-pos-right, eq-of-mul-eq-mul-right, pow-suc, pow-succ', zero-mul, zero-lt-suc}
 use native.Mathlib.Omega.{arith}
-use lib.Dec.{T, ltb, leb, eqb, eqb→eq, ltb→lt, leb→le}
+use lib.Dec.{T, ltb, leb, eqb, eqb→eq}
 use lib.IntN.{ℤ, pos, negsuc}
-use lib.Pow.{pow-add, pow-pos, pow-lt, pow-mono, shl-lt}
+use lib.Pow.{pow-pos}
 use lib.Ieee.{Float, nan, inf, fin, binary64, round, mul, fits, up, down, ofBits}
 use lib.Ieee.Exact.{HasValue, round-exact}
-use lib.Ieee.Fits.{and-l, and-r, down-pos, up-pos, round-fits}
+use lib.Ieee.Fits.{and-l, down-pos, up-pos, round-fits}
 use Rattle.value.specs.AbsoluteLaws.{flat}
 use Rattle.value.specs.Numbers.{oneF}
+use Rattle.value.specs.GridLaws.{place, says}
 
--- ---- what `fits` says of a double that is not zero
+-- ---- two doubles of one value are one
 
-record Parts (m : ℕ) (e : ℤ) : Type 0 where
-  pub odd : m % 2 ≡ 1
-  pub digits : m < 2 ^ 53
-  pub small : down e ≤ 2 ^ 1074
-  pub large : m * up e < 2 ^ 1024 * down e
-
-parts : (s : Bool) (m : ℕ) (e : ℤ) → T (fits binary64 (fin s (suc m) e)) → Parts (suc m) e
+-- a double that is not zero is written with an odd number
+is-odd : (s : Bool) (m : ℕ) (e : ℤ) → T (fits binary64 (fin s (suc m) e)) → suc m % 2 ≡ 1
 unfolding fits
-parts s m e t =
+is-odd s m e t =
     let o = eqb (suc m % 2) 1 in
     let d = ltb (suc m) (2 ^ 53) in
     let l = leb (down e) (2 ^ 1074) in
-    let h = ltb (suc m * up e) (2 ^ 1024 * down e) in
-    record {
-      odd = eqb→eq _ _ (and-l o d (and-l (o && d) l (and-l (o && d && l) h t)));
-      digits = ltb→lt _ _ (and-r o d (and-l (o && d) l (and-l (o && d && l) h t)));
-      small = leb→le _ _ (and-r (o && d) l (and-l (o && d && l) h t));
-      large = ltb→lt _ _ (and-r (o && d && l) h t);
-    }
-
--- ---- two doubles of one value are one
+    eqb→eq _ _ (and-l o d (and-l (o && d) l (and-l (o && d && l) (ltb (suc m * up e) (2 ^ 1024 * down e)) t)))
 
 twice : (m t : ℕ) → m % 2 ≡ 1 → m ≡ 2 * t → ⊥
 twice m t o h = omega arith
@@ -68,41 +56,36 @@ odd-value m n (negsuc a) (negsuc b) o p h =
     same : suc b ≡ suc a → negsuc a ≡ negsuc b
     same q = let z : a ≡ b = omega arith in ap negsuc z
 
+-- a zero has no value above 0
+pub zero-value : (e : ℤ) (a c : ℕ) → 0 * up e * c ≡ a * down e → 0 < a → ⊥
+zero-value e a c h p = lt-irrefl 0 (subst (λ (x : ℕ). 0 < x) (sym h ∙ ap (λ (x : ℕ). x * c) (zero-mul (up e)) ∙ zero-mul c) (mul-pos p (down-pos e)))
+
 -- a double with the value of the double ±(m + 1) × 2ᵉ is it
 same-value : (x : Float) (s : Bool) (m : ℕ) (e : ℤ) → T (fits binary64 x) → T (fits binary64 (fin s (suc m) e)) → HasValue x s (suc m * up e) (down e) → x ≡ fin s (suc m) e
 same-value nan s m e f g v = absurd v
 same-value (inf t) s m e f g v = absurd v
-same-value (fin t zero d) s m e f g v =
-    absurd (lt-irrefl 0 (subst (λ (x : ℕ). 0 < x) (sym (v .1) ∙ ap (λ (x : ℕ). x * down e) (zero-mul (up d)) ∙ zero-mul (down e)) (mul-pos (mul-pos (zero-lt-suc m) (up-pos e)) (down-pos d))))
+same-value (fin t zero d) s m e f g v = absurd (zero-value d (suc m * up e) (down e) (v .1) (mul-pos (zero-lt-suc m) (up-pos e)))
 same-value (fin t (suc n) d) s m e f g v =
-    let r = odd-value (suc n) (suc m) d e (parts t n d f .odd) (parts s m e g .odd) (v .1) in
+    let r = odd-value (suc n) (suc m) d e (is-odd t n d f) (is-odd s m e g) (v .1) in
     λ i. fin (v .0 i) (r .0 i) (r .1 i)
 
 -- ---- a double is the nearest to its own value
 
-pow-le-back : (i p : ℕ) → 2 ^ i ≤ 2 ^ p → i ≤ p
-pow-le-back i p h = le-of-suc-le-suc (lt-of-not-le (λ (g : suc p ≤ i). not-le-of-lt (pow-lt g) h))
+-- a double is below the end of its format
+pub below-end : (m : ℕ) (e : ℤ) (i : ℕ) → m * up e < 2 ^ 1024 * down e → m * up e * 2 ^ 1074 ≡ m * 2 ^ i * down e → m * 2 ^ i < 2 ^ 2098
+below-end m e i h q =
+    lt-of-mul-lt-mul-right (down e)
+    (lt-of-le-of-lt (le-of-eq (sym q)) (lt-of-lt-of-le (mul-lt-mul-of-pos-right h (pow-pos 1074)) (le-of-eq (mul-right-comm (2 ^ 1024) (down e) (2 ^ 1074)))))
 
--- a whole multiple of the smallest double, 53 digits shifted by j
-shifted : (s : Bool) (m : ℕ) (e : ℤ) → Parts m e → HasValue (round binary64 s (m * up e) (down e)) s (m * up e) (down e)
-shifted s m (pos a) p =
-    let w : m * 2 ^ a * 2 ^ 1074 ≡ m * 2 ^ (a + 1074) = mul-assoc m (2 ^ a) (2 ^ 1074) ∙ ap (λ (x : ℕ). m * x) (sym (pow-add 2 a 1074)) in
-    round-exact binary64 s (m * 2 ^ a) 1 m (a + 1074) (zero-lt-suc 0) (p .digits)
-    (subst (λ (x : ℕ). x < 2 ^ 2098) w (mul-lt-mul-of-pos-right (subst (λ (x : ℕ). m * 2 ^ a < x) (mul-one (2 ^ 1024)) (p .large)) (pow-pos 1074)))
-    (w ∙ sym (mul-one (m * 2 ^ (a + 1074))))
-shifted s m (negsuc a) p =
-    let le = pow-le-back (suc a) 1074 (p .small) in
-    let z : 1074 - suc a + suc a ≡ 1074 = omega arith in
-    let w : m * 1 * 2 ^ 1074 ≡ m * 2 ^ (1074 - suc a) * 2 ^ suc a =
-    ap (λ (x : ℕ). x * 2 ^ 1074) (mul-one m) ∙ ap (λ (x : ℕ). m * 2 ^ x) (sym z) ∙ ap (λ (x : ℕ). m * x) (pow-add 2 (1074 - suc a) (suc a)) ∙ sym (mul-assoc m (2 ^ (1074 - suc a)) (2 ^ suc a)) in
-    round-exact binary64 s (m * 1) (2 ^ suc a) m (1074 - suc a) (pow-pos (suc a)) (p .digits) (fine le) w
-  where
-    -- m has 53 digits at the most
-    fine : suc a ≤ 1074 → m * 2 ^ (1074 - suc a) < 2 ^ 2098
-    fine le = lt-of-lt-of-le (shl-lt 53 (1074 - suc a) (p .digits)) (pow-mono {j = 2098} (omega arith))
+keeps-value : (s : Bool) (m : ℕ) (e : ℤ) → T (fits binary64 (fin s (suc m) e)) → HasValue (round binary64 s (suc m * up e) (down e)) s (suc m * up e) (down e)
+keeps-value s m e t =
+    let h = says m s e t in
+    let p = place e (h .1) in
+    let q = p .1 (suc m) in
+    round-exact binary64 s (suc m * up e) (down e) (suc m) (p .0) (down-pos e) (h .0) (below-end (suc m) e (p .0) (h .2) q) q
 
 pub round-itself : (s : Bool) (m : ℕ) (e : ℤ) → T (fits binary64 (fin s (suc m) e)) → round binary64 s (suc m * up e) (down e) ≡ fin s (suc m) e
-round-itself s m e h = same-value (round binary64 s (suc m * up e) (down e)) s m e (round-fits binary64 s (suc m * up e) (down e)) h (shifted s (suc m) e (parts s m e h))
+round-itself s m e h = same-value (round binary64 s (suc m * up e) (down e)) s m e (round-fits binary64 s (suc m * up e) (down e)) h (keeps-value s m e h)
 
 -- 1 × b is b
 pub one-times : (b : Float) → T (fits binary64 b) → mul binary64 oneF b ≡ b

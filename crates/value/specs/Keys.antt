@@ -1,7 +1,7 @@
 -- The bits of doubles with no sign are in the order of the doubles: `le x y` is `toBits x ≤ toBits y`.
 use mathlib.Core.Path.{_≡_, refl, sym, ap, subst, subst₂, _∙_}
 use mathlib.Core.Bool.{Bool, true, false, not, _&&_, _||_}
-use Prim.Native.Nat.{ℕ, zero, suc, _+_, _-_, _*_, _/_, _%_, _^_, _≤_, _<_}
+use Prim.Native.Nat.{ℕ, zero, suc, _+_, _-_, _*_, _/_, _^_, _≤_, _<_}
 use native.Mathlib.Nat.{le-refl, le-trans, le-of-eq, le-antisymm, le-of-lt, lt-of-le-of-lt, lt-of-lt-of-le, zero-add, zero-mul, mul-right-comm, mul-le-mul-right, le-div-iff-mul-le, div-lt-iff-lt-mul, mul-lt-mul-of-pos-right, mul-pos}
 use native.Mathlib.Omega.{arith}
 use lib.Dec.{T, leb, ltb, eqb, leb→le, le→leb, ltb→lt, lt→ltb, eqb→eq, eqb-refl, lit<, T-not}
@@ -9,11 +9,12 @@ use lib.Pow.{pow-add, pow-pos}
 use lib.IntN.{ℤ}
 use lib.Ieee.{Float, nan, inf, fin, binary64, le, fits, up, down, size, toBits, ofBits}
 use lib.Ieee.Digits.{size-lt, size-reaches, size-le}
-use lib.Ieee.Fits.{kept-lt, down-pos, and-l, and-r}
+use lib.Ieee.Fits.{kept-lt, down-pos, and-l}
 use lib.Ieee.Nearest.{div-mono}
 use lib.Ieee.Bits.{ofBits-toBits}
 use Rattle.loops.specs.Cases.{either}
 use Rattle.value.specs.Numbers.{plain}
+use Rattle.value.specs.GridLaws.{says}
 
 -- the bits of a magnitude of n of the smallest values
 abbrev dropped : ℕ → ℕ
@@ -106,10 +107,7 @@ units-lt zero e t =
 units-lt (suc m) e t =
     div-lt-iff-lt-mul (down-pos e) .1
     (lt-of-lt-of-le
-    (mul-lt-mul-of-pos-right
-    (ltb→lt (suc m * up e) (2 ^ 1024 * down e)
-    (and-r (eqb (suc m % 2) 1 && ltb (suc m) (2 ^ 53) && leb (down e) (2 ^ 1074)) (ltb (suc m * up e) (2 ^ 1024 * down e)) t))
-    (pow-pos 1074))
+    (mul-lt-mul-of-pos-right (says m false e t .2) (pow-pos 1074))
     (le-of-eq (mul-right-comm (2 ^ 1024) (down e) (2 ^ 1074))))
 
 code-lt : (n : ℕ) → n < 2 ^ 2098 → code n ≤ 2047 * 4503599627370496

@@ -5,7 +5,6 @@ pub mod Finite
 pub mod FiniteLaws
 pub mod Absolute
 pub mod AbsoluteLaws
-pub mod Exact
 pub mod Maximum
 pub mod Power
 pub mod PowerLaws
@@ -13,6 +12,7 @@ pub mod Root
 pub mod Nearest
 pub mod Grid
 pub mod GridLaws
+pub mod Exact
 pub mod Logarithm
 pub mod Moved
 pub mod LogarithmLaws

@@ -3,7 +3,7 @@ use mathlib.Core.Path.{_≡_, refl, sym, ap, _∙_, subst}
 use mathlib.Core.Logic.{inl, inr}
 use mathlib.Core.Bool.{Bool, true, false, not, cond, true≢false}
 use Prim.Native.Nat.{ℕ, zero, suc, _+_, _-_, _*_, _/_, _%_, _^_, _≤_, _<_, zero-le}
-use native.Mathlib.Nat.{le-refl, le-trans, le-of-eq, le-of-lt, lt-irrefl, lt-of-lt-of-le, lt-of-le-of-lt, lt-of-not-le, not-le-of-lt, zero-lt-suc, mul-le-mul, mul-le-mul-right, mul-lt-mul-of-pos-right, lt-of-mul-lt-mul-right, mul-assoc, mul-comm, mul-left-comm, mul-right-comm, mul-pos, mul-div-cancel, add-mul, add-comm, zero-mul}
+use native.Mathlib.Nat.{le-refl, le-trans, le-of-eq, le-of-lt, lt-of-lt-of-le, lt-of-le-of-lt, lt-of-not-le, not-le-of-lt, zero-lt-suc, mul-le-mul, mul-le-mul-right, mul-lt-mul-of-pos-right, mul-assoc, mul-comm, mul-left-comm, mul-pos, mul-div-cancel, add-mul, add-comm}
 use native.Mathlib.Omega.{arith}
 use lib.Dec.{T, ltb, ltb→lt, nltb→le, lt→ltb}
 use lib.Pow.{pow-add, pow-mono, pow-pos}
@@ -18,9 +18,10 @@ use Rattle.value.specs.Root.{isqrt, closestRoot, rootOf, rootF}
 use Rattle.value.specs.Nearest.{ulps, wholeSquare, Nearest}
 use Rattle.value.specs.Grid.{Double}
 use Rattle.value.specs.GridLaws.{place, says, ulps-double, gap}
+use Rattle.value.specs.Exact.{zero-value, below-end}
 use Rattle.value.proofs.SquareRoot.Numbers.{IsRoot, root-le, odd-square, even-square, isqrt-is, half, closestRoot-at}
 use Rattle.value.proofs.SquareRoot.Packing.{written, units-fit, below-all, bits-of-value, closest-low, closest-high, rootOf-is, even-shift, odd-shift}
-use Rattle.value.proofs.SquareRoot.Reading.{positive-value}
+use Rattle.value.proofs.SquareRoot.Reading.{ulps-of-value, positive-value}
 
 pow-lt-back : (i p : ℕ) → 2 ^ i < 2 ^ p → i < p
 pow-lt-back i p h = lt-of-not-le (λ (g : p ≤ i). not-le-of-lt h (pow-mono g))
@@ -179,16 +180,11 @@ scaled c j a b h =
     left s j h = omega arith
 
 -- ---- values and their sizes
-ulps-of-value : (v : Float) (n : ℕ) → HasValue v false n (2 ^ 1074) → ulps v ≡ n
-ulps-of-value nan n h = absurd h
-ulps-of-value (inf s) n h = absurd h
-ulps-of-value (fin s m e) n h = ap (λ (x : ℕ). x / down e) (h .1) ∙ mul-div-cancel n (down-pos e)
-
 positive-of-value : (v : Float) (n : ℕ) → HasValue v false n (2 ^ 1074) → 0 < n → T (positive v)
 positive-of-value nan n h p = absurd h
 positive-of-value (inf s) n h p = absurd h
 positive-of-value (fin true m e) n h p = absurd (true≢false (h .0))
-positive-of-value (fin false zero e) n h p = absurd (lt-irrefl 0 (subst (λ (x : ℕ). 0 < x) (sym (h .1) ∙ ap (λ (x : ℕ). x * 2 ^ 1074) (zero-mul (up e)) ∙ zero-mul (2 ^ 1074)) (mul-pos p (down-pos e))))
+positive-of-value (fin false zero e) n h p = absurd (zero-value e n (2 ^ 1074) (h .1) p)
 positive-of-value (fin false (suc m) e) n h p = lt→ltb 0 (suc m) (zero-lt-suc m)
 
 -- what a double above zero is
@@ -216,8 +212,7 @@ grains-is (fin false (suc m) e) f t =
       pos' = zero-lt-suc m;
       short = h .0;
       is = g;
-      bound = lt-of-mul-lt-mul-right (down e)
-          (lt-of-le-of-lt (le-of-eq (sym (p .1 (suc m)))) (lt-of-lt-of-le (mul-lt-mul-of-pos-right (h .2) (pow-pos 1074)) (le-of-eq (mul-right-comm (2 ^ 1024) (down e) (2 ^ 1074)))));
+      bound = below-end (suc m) e (p .0) (h .2) (p .1 (suc m));
       value = (refl, p .1 (suc m) ∙ ap (λ (x : ℕ). x * down e) (sym g));
     }
 

@@ -10,12 +10,13 @@ use lib.Dec.{T, ltb, lit<, lit≤}
 use lib.Pow.{pow-add, pow-mono, pow-pos, pow-lt, shl-lt}
 use lib.Ieee.{Float, nan, inf, fin, binary64, up, down, size, odd, units, fits, toBits, ofBits}
 use lib.Ieee.Digits.{size-lt, size-le}
-use lib.Ieee.Fits.{down-pos, odd-fits}
+use lib.Ieee.Fits.{odd-fits}
 use lib.Ieee.Exact.{HasValue, units-val}
 use lib.Ieee.Bits.{ofBits-toBits}
 use borrow.Author.Tests.{lt-ltb}
 use Rattle.value.specs.Root.{isqrt, closestRoot, rootOf}
 use Rattle.value.proofs.SquareRoot.Numbers.{IsRoot, isqrt-is, root-le, half, closestRoot-at}
+use Rattle.value.proofs.SquareRoot.Reading.{ulps-of-value}
 
 -- ---- how many digits
 pub size-at : (n j : ℕ) → 2 ^ j ≤ n → n < 2 ^ suc j → size n ≡ suc j
@@ -34,7 +35,7 @@ bits-of-value nan n h = absurd h
 bits-of-value (inf s) n h = absurd h
 bits-of-value (fin true m e) n h = absurd (true≢false (h .0))
 bits-of-value (fin false m e) n h =
-    toBits-is m e n (ap (λ (x : ℕ). x / down e) (h .1) ∙ mul-div-cancel n (down-pos e))
+    toBits-is m e n (ulps-of-value (fin false m e) n h)
     ∙ ap (λ (x : ℕ). x + n / 2 ^ (size n - 53)) (zero-add ((size n - 53) * 2 ^ 52))
 
 -- ---- q * 2 ^ k smallest values

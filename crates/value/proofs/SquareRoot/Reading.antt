@@ -2,7 +2,7 @@
 use mathlib.Core.Path.{_≡_, refl, sym, ap, _∙_, subst}
 use mathlib.Core.Bool.{Bool, true, false, not, cond, true≢false, false≢true}
 use Prim.Native.Nat.{ℕ, zero, suc, _+_, _-_, _*_, _/_, _%_, _^_, _≤_, _<_}
-use native.Mathlib.Nat.{lt-irrefl, zero-mul, mul-assoc, mul-right-comm, mul-one, mul-pos, mul-div-cancel, add-comm}
+use native.Mathlib.Nat.{lt-irrefl, mul-assoc, mul-right-comm, mul-one, mul-pos, mul-div-cancel, add-comm}
 use native.Mathlib.Omega.{arith}
 use lib.Dec.{T, leb, eqb}
 use lib.Pow.{pow-add, pow-pos}
@@ -13,6 +13,8 @@ use lib.Ieee.Bits.{ofBits-toBits, toBits-lt, nanBits-is, nanBits-above}
 use borrow.Author.Tests.{le-leb, lt-leb, ne-eqb, ltb-false}
 use Rattle.value.specs.Nan.{nan-itself}
 use Rattle.value.specs.Root.{rootF, rootOf}
+use Rattle.value.specs.Nearest.{ulps}
+use Rattle.value.specs.Exact.{zero-value}
 
 -- ---- a NaN
 pub nan-root : (x : Float) → ne x x ≡ true → x ≡ rootF x
@@ -35,12 +37,17 @@ pub infinity-stands : (x : Float) → T (fits binary64 x) → toBits binary64 x 
 infinity-stands x h e = stands x 0x7FF0_0000_0000_0000 h e (unfold rootF ofBits in refl)
 
 -- ---- by a value's sign and size
+pub ulps-of-value : (v : Float) (n : ℕ) → HasValue v false n (2 ^ 1074) → ulps v ≡ n
+ulps-of-value nan n h = absurd h
+ulps-of-value (inf s) n h = absurd h
+ulps-of-value (fin s m e) n h = ap (λ (x : ℕ). x / down e) (h .1) ∙ mul-div-cancel n (down-pos e)
+
 negative-value : (v : Float) (a c : ℕ) → HasValue v true a c → 0 < a → rootF v ≡ nan
 unfolding rootF
 negative-value nan a c h p = refl
 negative-value (inf s) a c h p = absurd h
 negative-value (fin false m e) a c h p = absurd (false≢true (h .0))
-negative-value (fin true zero e) a c h p = absurd (lt-irrefl 0 (subst (λ (x : ℕ). 0 < x) (sym (h .1) ∙ ap (λ (x : ℕ). x * c) (zero-mul (up e)) ∙ zero-mul c) (mul-pos p (down-pos e))))
+negative-value (fin true zero e) a c h p = absurd (zero-value e a c (h .1) p)
 negative-value (fin true (suc m) e) a c h p = refl
 
 pub positive-value : (v : Float) (a : ℕ) → HasValue v false a (2 ^ 1074) → 0 < a → rootF v ≡ rootOf (a * 2 ^ 1074)
@@ -48,7 +55,7 @@ unfolding rootF
 positive-value nan a h p = absurd h
 positive-value (inf s) a h p = absurd h
 positive-value (fin true m e) a h p = absurd (true≢false (h .0))
-positive-value (fin false zero e) a h p = absurd (lt-irrefl 0 (subst (λ (x : ℕ). 0 < x) (sym (h .1) ∙ ap (λ (x : ℕ). x * 2 ^ 1074) (zero-mul (up e)) ∙ zero-mul (2 ^ 1074)) (mul-pos p (down-pos e))))
+positive-value (fin false zero e) a h p = absurd (zero-value e a (2 ^ 1074) (h .1) p)
 positive-value (fin false (suc m) e) a h p =
     ap rootOf (ap (λ (x : ℕ). x / down e) (sym (mul-assoc (suc m * up e) (2 ^ 1074) (2 ^ 1074)) ∙ ap (λ (x : ℕ). x * 2 ^ 1074) (h .1) ∙ mul-right-comm a (down e) (2 ^ 1074)) ∙ mul-div-cancel (a * 2 ^ 1074) (down-pos e))
 
