@@ -168,11 +168,24 @@ fn plain_fold(samples: &[Sample]) -> [f64; 272] {
     sums
 }
 
+extern "C" {
+    fn plain_fold_c(xs: *const f64, ys: *const f64, n: usize, sums: *mut f64);
+}
+
+/// The same in C (`compare/c/fold.c`).
+fn fold_in_c(xs: &[f64], ys: &[f64]) -> [f64; 272] {
+    let mut sums = [0.0; 272];
+    assert_eq!(xs.len(), ys.len());
+    // SAFETY: both columns have as many places as are read, and the sums have the 272 that are written.
+    unsafe { plain_fold_c(xs.as_ptr(), ys.as_ptr(), xs.len(), sums.as_mut_ptr()) };
+    sums
+}
+
 /// What is said below the table.
 #[derive(Default)]
 struct Further {
-    /// A withdrawal by a plain fold, for each count.
-    withdrawals: Vec<f64>,
+    /// A withdrawal by a plain fold in Rust and by one in C, for each count.
+    withdrawals: Vec<[f64; 2]>,
     /// The port's reports with the highest bound, for each count that allows it.
     reports: Vec<(usize, f64)>,
 }
@@ -189,7 +202,12 @@ fn print_rows(count: usize, port: &dyn Side, further: &mut Further) {
     let fold = best(|| {
         black_box(plain_fold(black_box(&samples)));
     });
-    further.withdrawals.push(withdrawal / fold);
+    let xs: Vec<f64> = samples.iter().map(|sample| sample.x).collect();
+    let ys: Vec<f64> = samples.iter().map(|sample| sample.y).collect();
+    let in_c = best(|| {
+        black_box(fold_in_c(black_box(&xs), black_box(&ys)));
+    });
+    further.withdrawals.push([withdrawal / fold, withdrawal / in_c]);
     for degree in BOUNDS.into_iter().filter(|degree| *degree < count) {
         let bound = DegreeBound::Custom(degree);
         let (criterion, confidence) = (Criterion::Aic, Confidence::P95);
@@ -260,8 +278,8 @@ pub fn run(port: &dyn Side) {
         print_rows(count, port, &mut further);
     }
     println!();
-    for (count, ratio) in COUNTS.iter().zip(further.withdrawals) {
-        println!("A withdrawal of {count} by a plain fold with powers once: {ratio:.2}");
+    for (count, [rust, c]) in COUNTS.iter().zip(further.withdrawals) {
+        println!("A withdrawal of {count} by a plain fold with powers once: {rust:.2} in Rust, {c:.2} in C");
     }
     for pair in further.reports.windows(2) {
         let ((few, before), (many, after)) = (pair[0], pair[1]);
@@ -290,11 +308,15 @@ mod tests {
         }
     }
 
-    /// The plain fold has the bits of document 01's, so that what is timed is the same sums.
+    /// The plain folds have the bits of document 01's, so that what is timed is the same sums.
     #[test]
     fn plain_fold_is_a_fold() {
         let samples = samples(100);
         let bits = |sums: &[f64]| sums.iter().map(|sum| sum.to_bits()).collect::<Vec<_>>();
-        assert_eq!(bits(&plain_fold(&samples)), bits(&judge::sums::folded_afresh(&samples)));
+        let folded = bits(&judge::sums::folded_afresh(&samples));
+        assert_eq!(bits(&plain_fold(&samples)), folded);
+        let xs: Vec<f64> = samples.iter().map(|sample| sample.x).collect();
+        let ys: Vec<f64> = samples.iter().map(|sample| sample.y).collect();
+        assert_eq!(bits(&fold_in_c(&xs, &ys)), folded);
     }
 }
