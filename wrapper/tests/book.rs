@@ -89,7 +89,7 @@ fn refusals_by_name() {
     assert_eq!(band, Err(Refusal::OutOfRange));
     let mut twice = book_of(&[(2.0, 1.0), (2.0, 5.0)]);
     assert_eq!(twice.fit(1), Err(Refusal::Unsolved));
-    let mut huge = book_of(&[(0.0, 1e308), (1.0, -1e308)]);
+    let mut huge = book_of(&[(0.0, 3e200), (1.0, -1e200), (2.0, -2e200)]);
     assert_eq!(huge.report(SETTINGS).map(|report| report.degree), Err(Refusal::NoDegree));
     assert_eq!((Refusal::Memory.number(), Refusal::NoCovariance.number()), (1, 12));
 }

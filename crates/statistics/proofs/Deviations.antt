@@ -1,7 +1,7 @@
 -- Deviations ||x| − d| of sizes: their bits, that those which are no NaN have no sign, that those from +0 are the sizes themselves; and the median by the
 -- number's evenness.
 use mathlib.Core.Path.{_≡_, refl, sym, ap, ap₂, subst, _∙_}
-use mathlib.Core.Bool.{Bool, true, false, not, _||_}
+use mathlib.Core.Bool.{Bool, true, false, not, _&&_, _||_, Bool·beq}
 use mathlib.Core.List.{List, [], _∷_, map}
 use Prim.Native.Nat.{ℕ, zero, suc, _+_, _-_, _*_, _/_, _%_, _^_, _≤_, _<_, zero-le}
 use native.Mathlib.Nat.{zero-add, add-assoc, mul-one, zero-mul, sub-zero}
@@ -11,20 +11,21 @@ use lib.Dec.{T, leb, ltb, eqb→eq}
 use lib.IntN.{ℤ}
 use lib.ListN.{length, getD, take, length-map}
 use lib.Seq.{length-take-le, getD-take}
-use lib.Ieee.{Float, nan, inf, fin, binary64, round, sum, add, sub, neg, le, ne, toBits, ofBits, fits, isNan, nanBits, up, down, size}
+use lib.Ieee.{Float, nan, inf, fin, binary64, round, units, odd, sum, add, sub, neg, le, ne, toBits, ofBits, fits, isNan, nanBits, low, prec, emax, up, down, size}
 use lib.Ieee.Bits.{cond-no, nanBits-is, ofBits-fits, ofBits-toBits, toBits-ofBits}
-use lib.Ieee.Fits.{sub-fits}
+use lib.Ieee.Fits.{round-is, sub-fits}
 use Rattle.loops.specs.All.{All}
 use Rattle.loops.specs.AllLaws.{all-at}
-use Rattle.loops.specs.Cases.{by-test, or-false}
+use Rattle.loops.specs.Cases.{by-test, choose, never, or-false}
 use Rattle.loops.specs.Fold.{fold}
 use Rattle.loops.specs.FoldLaws.{fold-map-again}
 use Rattle.loops.specs.PlaceLaws.{map-at}
 use Rattle.value.specs.Absolute.{absF}
 use Rattle.value.specs.AbsoluteLaws.{flat}
 use Rattle.value.specs.Exact.{round-itself}
+use Rattle.value.specs.Finite.{finite}
 use Rattle.value.specs.Keys.{bits-le, le-key, plain-fits}
-use Rattle.value.specs.Nan.{bits-some as pattern-some, nan-itself, not-nan, some}
+use Rattle.value.specs.Nan.{bits-some as pattern-some, is-nan, not-nan, some}
 use Rattle.value.specs.Numbers.{zeroF}
 use Rattle.statistics.specs.Medians.{anyNan, sort, midpoint, medianOf, deviations}
 use Rattle.statistics.specs.Counting.{Plain, distances}
@@ -136,17 +137,18 @@ distances-are d (x ∷ xs) = ap (λ (r : List Float). absF (sub binary64 (absF x
 
 -- ---- NaNs
 
-nan-size : (v : Float) → isNan (absF v) ≡ ne v v
-nan-size v =
-    by-test (ne v v) (λ t. ap (λ (x : Float). isNan (absF x)) (nan-itself v t) ∙ the-nan ∙ sym t) (λ t. same v ∙ not-nan v t ∙ sym t)
-  where
-    the-nan : isNan (absF nan) ≡ true
-    the-nan = unfold isNan in unfold absF in refl
+-- only a NaN differs from itself
+pub nan-differs : (v : Float) → ne v v ≡ isNan v
+nan-differs v = by-test (ne v v) (λ t. t ∙ sym (is-nan v t)) (λ t. t ∙ sym (not-nan v t))
 
-    same : (x : Float) → isNan (absF x) ≡ isNan x
-    same nan = unfold isNan in unfold absF in refl
-    same (inf s) = unfold isNan in unfold absF in refl
-    same (fin s m e) = unfold isNan in unfold absF in refl
+same-nan : (x : Float) → isNan (absF x) ≡ isNan x
+unfolding isNan absF
+same-nan nan = refl
+same-nan (inf s) = refl
+same-nan (fin s m e) = refl
+
+nan-size : (v : Float) → isNan (absF v) ≡ ne v v
+nan-size v = same-nan v ∙ sym (nan-differs v)
 
 -- one turn of the loop that looks for one: v is the number at i less d
 pub nan-turn : (d : Float) (a : List Float) (i : ℕ) → i < length a → (found : Bool) (v : Float) → found ≡ anyNan (distances d (take i a))
@@ -171,6 +173,54 @@ distances-plain d l h = each l (no-nan (map (λ x. absF (sub binary64 (absF x) d
     each : (m : List Float) → All (λ x. isNan x ≡ false) (map (λ x. absF (sub binary64 (absF x) d)) m) → All Plain (map (λ x. absF (sub binary64 (absF x) d)) m)
     each [] a = tt
     each (x ∷ xs) a = (one (sub binary64 (absF x) d) (sub-fits binary64 (absF x) d) (a .0), each xs (a .1))
+
+-- ---- a finite d makes none
+
+odd-some : (d : ℕ) (s : Bool) (q k l : ℕ) → isNan (odd d s q k l) ≡ false
+unfolding odd isNan
+odd-some d s zero k l = refl
+odd-some d s (suc q) k l = refl
+
+inf-some : (s : Bool) → isNan (inf s) ≡ false
+unfolding isNan
+inf-some s = refl
+
+units-some : (s : Bool) (q k : ℕ) → isNan (units binary64 s q k) ≡ false
+unfolding units
+units-some s q k =
+    choose (λ x. isNan x ≡ false) (ltb (q * 2 ^ k) (2 ^ (low binary64 + suc (emax binary64)))) (odd (suc (prec binary64)) s q k (low binary64)) (inf s)
+    (λ _. odd-some (suc (prec binary64)) s q k (low binary64)) (λ _. inf-some s)
+
+round-some : (s : Bool) (a b : ℕ) → isNan (round binary64 s a b) ≡ false
+round-some s a b = ap isNan (round-is binary64 s a b) ∙ units-some s _ _
+
+sum-some : (s : Bool) (a : ℕ) (t : Bool) (b c : ℕ) → isNan (sum binary64 s a t b c) ≡ false
+unfolding sum
+sum-some s a t b c =
+    choose (λ x. isNan x ≡ false) (Bool·beq s t) _ _ (λ _. round-some s (a + b) c)
+    (λ _. choose (λ x. isNan x ≡ false) (ltb a b) _ _ (λ _. round-some t (b - a) c) (λ _. round-some (s && ltb b a) (a - b) c))
+
+less-finite : (x d : Float) → finite d ≡ true → isNan (sub binary64 (absF x) d) ≡ isNan x
+unfolding sub add neg absF isNan finite
+less-finite nan d p = refl
+less-finite (inf s) nan p = never p
+less-finite (inf s) (inf t) p = never p
+less-finite (inf s) (fin t n d) p = refl
+less-finite (fin s m e) nan p = never p
+less-finite (fin s m e) (inf t) p = never p
+less-finite (fin s m e) (fin t n d) p = sum-some false (m * up e * down d) (not t) (n * up d * down e) (down e * down d)
+
+nan-each : (d : Float) → finite d ≡ true → (b : Bool) (l : List Float)
+    → fold (λ c x. c || isNan x) b (map (λ x. absF (sub binary64 (absF x) d)) l) ≡ fold (λ c x. c || isNan x) b l
+unfolding fold
+nan-each d p b [] = refl
+nan-each d p b (x ∷ xs) =
+    ap (λ (t : Bool). fold (λ c x. c || isNan x) (b || t) (map (λ x. absF (sub binary64 (absF x) d)) xs)) (same-nan (sub binary64 (absF x) d) ∙ less-finite x d p)
+    ∙ nan-each d p (b || isNan x) xs
+
+pub nan-finite : (d : Float) → finite d ≡ true → (l : List Float) → anyNan (distances d l) ≡ anyNan l
+unfolding anyNan distances
+nan-finite d p l = nan-each d p false l
 
 -- ---- a number less +0 is itself
 

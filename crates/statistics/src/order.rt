@@ -222,8 +222,21 @@ fn select_midpoint(a: &[f64], n: usize, d: f64, m: usize) -> f64
     midpoint(both, both)
 }
 
-// Whether one of the numbers is a NaN.
-fn any_nan(a: &[f64], n: usize, d: f64) -> bool
+// Whether one of the first n of a is a NaN.
+fn holds_nan(a: &[f64], n: usize) -> bool
+    requires { ⌜ n ≤ length (now a) ⌝ }
+    ensures { λ r. ⌜ r ≡ anyNan (take n (now (a .entry))) ⌝ }
+{
+    let mut found = false;
+    for i in 0..n {
+        let x = a[i];
+        found = found | (x != x);
+    }
+    found
+}
+
+// Whether one of the numbers is a NaN, which an infinite d makes of an infinite size.
+fn makes_nan(a: &[f64], n: usize, d: f64) -> bool
     requires { ⌜ n ≤ length (now a) ⌝ }
     ensures { λ r. ⌜ r ≡ anyNan (distances d (take n (now (a .entry)))) ⌝ }
 {
@@ -233,6 +246,17 @@ fn any_nan(a: &[f64], n: usize, d: f64) -> bool
         found = found | (v != v);
     }
     found
+}
+
+// The same; a finite d makes none, and a pass over a itself is quicker.
+fn any_nan(a: &[f64], n: usize, d: f64) -> bool
+    requires { ⌜ n ≤ length (now a) ⌝ }
+    ensures { λ r. ⌜ r ≡ anyNan (distances d (take n (now (a .entry)))) ⌝ }
+{
+    if value::is_finite(d) {
+        return holds_nan(a, n);
+    }
+    makes_nan(a, n, d)
 }
 
 // The median of the numbers.

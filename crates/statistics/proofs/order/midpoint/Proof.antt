@@ -1,5 +1,5 @@
 -- `statistics::order::midpoint` meets its contract. By the test on the sum.
-use mathlib.Core.Path.{_≡_, sym, ap, _∙_}
+use mathlib.Core.Path.{sym, ap, _∙_}
 use borrow.Author.Needs.{needs}
 use lib.Ieee.{Float, binary64, add, eq, nanBits}
 use Rattle.value.specs.Numbers.{infinityF}
