@@ -88,14 +88,6 @@ each-fill v zero s h = refl
 each-fill v (suc n) [] h = absurd (omega arith)
 each-fill v (suc n) (u ∷ us) h = ap (λ l. v ∷ l) (each-fill v n us (omega arith))
 
--- n places are copied from another list
-pub each-copy : {A : Type 0} (d : A) (n : ℕ) (t s : List A) → n ≤ length t → n ≤ length s → each (λ k _. getD t k d) n s ≡ take n t ++ drop n s
-unfolding each
-each-copy d zero t s h g = refl
-each-copy d (suc n) [] s h g = absurd (omega arith)
-each-copy d (suc n) (u ∷ us) [] h g = absurd (omega arith)
-each-copy d (suc n) (u ∷ us) (v ∷ vs) h g = ap (λ l. u ∷ l) (each-copy d n us vs (omega arith) (omega arith))
-
 -- a tail that was lent, `&mut s[a..]`, is back with its first w places written
 pub tail-back : {A : Type 0} (a w : ℕ) (xs r : List A) → take a xs ++ ((r ++ drop w (take (length xs - a) (drop a xs))) ++ drop (length xs - a) (drop a xs)) ≡ take a xs ++ (r ++ drop (a + w) xs)
 tail-back a w xs r =
@@ -120,6 +112,10 @@ unfolding table
 table-take d zero s h = refl
 table-take d (suc n) [] h = absurd (omega arith)
 table-take d (suc n) (v ∷ vs) h = ap (λ l. v ∷ l) (table-take d n vs (omega arith))
+
+-- n places are copied from another list
+pub each-copy : {A : Type 0} (d : A) (n : ℕ) (t s : List A) → n ≤ length t → n ≤ length s → each (λ k _. getD t k d) n s ≡ take n t ++ drop n s
+each-copy d n t s h g = each-write (λ k. getD t k d) n s g ∙ ap (λ l. l ++ drop n s) (table-take d n t h)
 
 -- two functions that agree below n
 pub each-same : {A : Type 0} (f g : ℕ → A → A) (n : ℕ) (s : List A) → ((k : ℕ) (v : A) → k < n → f k v ≡ g k v) → each f n s ≡ each g n s
