@@ -1,13 +1,18 @@
 -- Laws of Columns.antt.
-use mathlib.Core.Path.{_≡_, sym, fun-ext, _∙_}
-use mathlib.Core.List.{List, [], _∷_, _++_, map}
+use mathlib.Core.Path.{_≡_, refl, sym, fun-ext, _∙_}
+use mathlib.Core.List.{List, [], _∷_, _++_, map, List·Memᴰ, List·Memᴰ·head, List·Memᴰ·tail}
 use Prim.Native.Nat.{ℕ, _+_, _≤_}
 use lib.ListN.{length, take}
 use lib.Ieee.{Float, nan}
 use Rattle.loops.specs.Places.{table}
 use Rattle.loops.specs.PlaceLaws.{table-again, length-table, map-table, table-take}
 use Rattle.samples.specs.Samples.{Sample}
-use Rattle.samples.specs.Columns.{Column, ofX, ofY, value, Columns, columnsOf, sampleAt, samplesOf}
+use Rattle.samples.specs.Columns.{Column, ofX, ofY, every, value, Columns, columnsOf, sampleAt, samplesOf}
+
+-- no column is left out of the list
+pub every-column : (k : Column) → List·Memᴰ k every
+every-column ofX = List·Memᴰ·head refl
+every-column ofY = List·Memᴰ·tail (List·Memᴰ·head refl)
 
 -- columns are what each of them is
 pub columns-are : {c : Columns} {xs ys : List Float} → xs ≡ c ofX → ys ≡ c ofY → columnsOf xs ys ≡ c
