@@ -26,6 +26,7 @@ use Rattle.refusal.specs.Rooms.{Room}
 use Rattle.refusal.specs.RoomLaws.{room-of, room, long-enough}
 use Rattle.refusal.specs.Tests.{capacity, sampleFinite}
 use Rattle.samples.specs.Columns.{lengths, Column, ofX, ofY, value, samplesOf, withY}
+use Rattle.samples.specs.ColumnLaws.{of-every, lengths-same}
 use Rattle.book.specs.Calls.{Out, State, stateAfter, bookOf, bookAnswered, refused, addOut, correctOut, withdrawOut, withoutAt, addNext, addMany, addFrameOut, addLinesOut}
 use Rattle.book.specs.Many.{added, RoomFor}
 use Rattle.book.specs.ManyLaws.{room-one, room-rest, one-added, many-added, added-is}
@@ -69,7 +70,7 @@ out-is s (windows p) = refl
 -- ---- any column
 
 same-lent : (s t : State) → ((k : Column) → length (t .columns k) ≡ length (s .columns k)) → length (t .sums) ≡ length (s .sums) → lentBy t ≡ lentBy s
-same-lent s t e q = λ i. record { columns = e ofX i ∷ e ofY i ∷ []; sums = q i }
+same-lent s t e q = λ i. record { columns = lengths-same (t .columns) (s .columns) e i; sums = q i }
 
 pub held-by : (l : List Sample) (s : State) → s .count ≡ length l → ((k : Column) → take (s .count) (s .columns k) ≡ map (value k) l) → samplesOf (s .count) (s .columns) ≡ l
 held-by l s q e = samples-are l (s .count) (s .columns) q e
@@ -79,8 +80,7 @@ roomy : (s : State) (n : ℕ) → n ≤ capacity (lentBy s .columns) → 272 ≤
 roomy s n h t = room-of n (lengths (s .columns)) (sumsLent (length (s .sums))) h (t, tt)
 
 within : (s : State) (n : ℕ) → n ≤ capacity (lentBy s .columns) → (k : Column) → n ≤ length (s .columns k)
-within s n h ofX = room-of n (lengths (s .columns)) [] h tt .within .0
-within s n h ofY = room-of n (lengths (s .columns)) [] h tt .within .1 .0
+within s n h = of-every (λ l. n ≤ l) (s .columns) (room-of n (lengths (s .columns)) [] h tt .within)
 
 -- ---- the relation, where m are the lengths of the lent memory and rest is what the sums hold past the 272
 

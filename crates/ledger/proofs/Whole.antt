@@ -14,7 +14,7 @@ use Rattle.book.specs.declared.Answer.the-variants as answers
 use Rattle.book.specs.Refusals.{openRefusal}
 use Rattle.book.specs.RefusalLaws.{open-room}
 use Rattle.book.specs.Calls.{State, stateOf, bookOf, openOut}
-use Rattle.samples.specs.Columns.{Column, ofX, ofY, value, Columns, lengths}
+use Rattle.samples.specs.Columns.{Column, value, Columns, lengths}
 use Rattle.ledger.specs.Ledger.{Call, changes, reads, said, told, Reading, Lent, lentOf, next, reply, program, final, programReplies, opened, ledgerNext, ledgerReply, ledger, ledgerEnd, ledgerReplies, seen, held, Agrees, WholeList}
 use Rattle.ledger.proofs.Lists.{seen-is, seen-kept, sums-first, sums-rest}
 use Rattle.ledger.proofs.Steps.{Holds, Leaves, leaves-all, held-by, step}
@@ -84,8 +84,7 @@ opened-holds columns sums h =
     }
   where
     none : (k : Column) → take 0 (columns k) ≡ map (value k) []
-    none ofX = refl
-    none ofY = refl
+    none k = refl
 
 pub whole-list : {R W : Type 0} (readOn : Reading R W) → WholeList readOn
 whole-list readOn columns sums h cs =

@@ -4,15 +4,25 @@ use mathlib.Core.List.{List, [], _∷_, _++_, map, List·Memᴰ, List·Memᴰ·h
 use Prim.Native.Nat.{ℕ, _+_, _≤_}
 use lib.ListN.{length, take}
 use lib.Ieee.{Float, nan}
+use Rattle.loops.specs.All.{All}
 use Rattle.loops.specs.Places.{table}
 use Rattle.loops.specs.PlaceLaws.{table-again, length-table, map-table, table-take}
 use Rattle.samples.specs.Samples.{Sample}
-use Rattle.samples.specs.Columns.{Column, ofX, ofY, every, value, Columns, columnsOf, sampleAt, samplesOf}
+use Rattle.samples.specs.Columns.{Column, ofX, ofY, every, value, Columns, columnsOf, lengths, sampleAt, samplesOf}
 
 -- no column is left out of the list
 pub every-column : (k : Column) → List·Memᴰ k every
 every-column ofX = List·Memᴰ·head refl
 every-column ofY = List·Memᴰ·tail (List·Memᴰ·head refl)
+
+-- what holds of all lengths holds of each column's
+pub of-every : (P : ℕ → Type 0) (c : Columns) → All P (lengths c) → (k : Column) → P (length (c k))
+of-every P c a ofX = a .0
+of-every P c a ofY = a .1 .0
+
+-- columns of the same lengths
+pub lengths-same : (c d : Columns) → ((k : Column) → length (c k) ≡ length (d k)) → lengths c ≡ lengths d
+lengths-same c d e = λ i. e ofX i ∷ e ofY i ∷ []
 
 -- columns are what each of them is
 pub columns-are : {c : Columns} {xs ys : List Float} → xs ≡ c ofX → ys ≡ c ofY → columnsOf xs ys ≡ c
