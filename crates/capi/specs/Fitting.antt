@@ -34,6 +34,7 @@ use Rattle.fit.specs.Chosen.{tried, choiceOf, countsOf}
 use Rattle.folds.specs.Folds.{validated, validatedChoice}
 use Rattle.solve.specs.Solve.{solve}
 use Rattle.covariance.specs.declared.Band.{Band}
+use Rattle.covariance.specs.declared.PruningRule.{PruningRule}
 use Rattle.covariance.specs.Marks.{mark, ones}
 use Rattle.covariance.specs.MarkLaws.{ones-again}
 use Rattle.covariance.specs.Pruning.{prunes, prunedAt, prunedBytes}
@@ -237,16 +238,16 @@ module _ (k : ℕ) (c v : List Float) where
       let marks = ones-map (outlierOf k c v t z sd) (λ r. mark-most (outlies (bandAt k c v t z sd (r .terms)) (r .y))) (rowsOf samples) in
       omega (arith, marks, length-map samples rowOf)
 
-  pruned-most : (t : Float) → ones (prunedBytes k c v t) ≤ 16
+  pruned-most : (rule : PruningRule) (t : Float) → ones (prunedBytes rule k c v t) ≤ 16
   unfolding prunedAt
-  pruned-most t = ones-table (prunedAt k c v t) (λ i. mark-most (ltb i k && prunes t (getD c i nan) (getD v i nan))) 16
+  pruned-most rule t = ones-table (prunedAt rule k c v t) (λ i. mark-most (ltb i k && prunes rule t (getD c i nan) (getD v i nan))) 16
 
 module _ (n : ℕ) (settings : Settings) (samples : List Sample) (sums : List Float)
     (few : length samples ≤ 4096) (most : maxDegree (settings .bound) n ≤ 15) where
   written-fits : (degree solved : ℕ) (c v : List Float) → degree ≤ 15 → solved ≤ 16 → ReportFits (writtenBy n settings samples degree solved c v .answer)
   unfolding ReportFits writtenBy
   written-fits degree solved c v h k =
-      (h, k, outliers-most (countOf Curve degree) c v (settings .tolerance) _ _ samples few, pruned-most (countOf Curve degree) c _ _)
+      (h, k, outliers-most (countOf Curve degree) c v (settings .tolerance) _ _ samples few, pruned-most (countOf Curve degree) c _ (settings .pruning) _)
 
   choice-solved : reportChoice n settings samples sums .solved ≤ 16
   unfolding reportChoice choiceOf

@@ -4,3 +4,4 @@ pub mod Fitting
 pub mod ReplayFitting
 pub mod Reading
 pub mod ReadingLaws
+pub mod ReportByLaws

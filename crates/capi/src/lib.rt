@@ -22,7 +22,7 @@ ghost use Rattle.query.specs.Fits.{fitOut, validateOut};
 ghost use Rattle.query.specs.Bands.{bandOut};
 ghost use Rattle.report.specs.Outputs.{outputs};
 ghost use Rattle.replay.specs.Replay.{memory};
-ghost use Rattle.settings.specs.Numbers.{boundOf, criterionOf, confidenceOf, toleranceOf, settingsOf};
+ghost use Rattle.settings.specs.Numbers.{boundOf, criterionOf, confidenceOf, toleranceOf, settingsOf, settingsIn};
 ghost use Rattle.capi.specs.Packed.{packedCounts, packedReport, ReportFits, packedBand, bandNumbers, BookPacked, FitPacked, BandPacked, bandInto, ReportPackedIs, packedOpened, packedRead, readNumbers, ReadPacked, ReplayPacked};
 
 // The four numbers of a report, each in its field.
@@ -253,7 +253,7 @@ pub extern "C" fn stakebook_band(
     packed_band(answer, numbers)
 }
 
-// A report of the book.
+// A report of the book, with polyfit's rule of pruning.
 #[no_mangle]
 pub extern "C" fn stakebook_report(
     count: usize,
@@ -275,9 +275,54 @@ pub extern "C" fn stakebook_report(
     upper: &mut [f64],
     outliers: &mut [u8],
 ) -> u64
-    ensures { λ r. ⌜ ReportPackedIs count (settingsOf bound most criterion confidence score tolerance value) (columnsOf (before xs) (before ys)) (before sums) r (outputs scratch coefficients errors pruned lower upper outliers) ⌝ }
+    ensures { λ r. ⌜ ReportPackedIs count (settingsOf bound most criterion confidence score tolerance value 0) (columnsOf (before xs) (before ys)) (before sums) r (outputs scratch coefficients errors pruned lower upper outliers) ⌝ }
 {
-    let settings = settings::numbered(bound, most, criterion, confidence, score, tolerance, value);
+    let settings = settings::numbered(
+        bound,
+        most,
+        criterion,
+        confidence,
+        score,
+        tolerance,
+        value,
+        0,
+    );
+    packed_report(report::report(
+        Book { count },
+        settings,
+        xs,
+        ys,
+        sums,
+        scratch,
+        coefficients,
+        errors,
+        pruned,
+        lower,
+        upper,
+        outliers,
+    ))
+}
+
+// A report of the book by lists of settings, which grow with them: what is not lent counts as 0, and what is past the last setting is not read.
+#[no_mangle]
+pub extern "C" fn stakebook_report_by(
+    count: usize,
+    words: &[u32],
+    values: &[f64],
+    xs: &[f64],
+    ys: &[f64],
+    sums: &[f64],
+    scratch: &mut [f64],
+    coefficients: &mut [f64],
+    errors: &mut [f64],
+    pruned: &mut [u8],
+    lower: &mut [f64],
+    upper: &mut [f64],
+    outliers: &mut [u8],
+) -> u64
+    ensures { λ r. ⌜ ReportPackedIs count (settingsIn (before words) (before values)) (columnsOf (before xs) (before ys)) (before sums) r (outputs scratch coefficients errors pruned lower upper outliers) ⌝ }
+{
+    let settings = settings::listed(words, values);
     packed_report(report::report(
         Book { count },
         settings,

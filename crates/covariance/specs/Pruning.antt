@@ -1,4 +1,4 @@
--- `prune_insignificant`, the one rule of pruning. Definitions only.
+-- `prune_insignificant` by either rule of pruning. Definitions only.
 use mathlib.Core.Bool.{Bool, _&&_}
 use mathlib.Core.List.{List}
 use Prim.Native.Nat.{ℕ}
@@ -10,15 +10,22 @@ use Rattle.loops.specs.Places.{table}
 use Rattle.value.specs.Absolute.{absF}
 use Rattle.value.specs.Numbers.{epsilon}
 use Rattle.covariance.specs.Marks.{mark}
+use Rattle.covariance.specs.declared.PruningRule.{PruningRule}
+use Rattle.covariance.specs.declared.PruningRule.the-variants as rules
 
--- a coefficient c with its error is pruned where c > 2⁻⁵² and |c| / error is below the t score. Negative terms stay, as polyfit has it.
-unfoldable pub prunes : Float → Float → Float → Bool
-prunes t c error = lt epsilon c && lt (div binary64 (absF c) error) t
+-- what a rule holds against 2⁻⁵²: the coefficient c itself, so that negative terms stay, as polyfit has it; or its size
+unfoldable pub tested : PruningRule → Float → Float
+tested rules.Positive c = c
+tested rules.Size c = absF c
+
+-- a coefficient c with its error is pruned where that is above 2⁻⁵² and |c| / error is below the t score
+unfoldable pub prunes : PruningRule → Float → Float → Float → Bool
+prunes rule t c error = lt epsilon (tested rule c) && lt (div binary64 (absF c) error) t
 
 -- the byte of coefficient i: 1 if it is one of the k and pruned, else 0
-unfoldable pub prunedAt : ℕ → List Float → List Float → Float → ℕ → ℕ
-prunedAt k c errors t i = mark (ltb i k && prunes t (getD c i nan) (getD errors i nan))
+unfoldable pub prunedAt : PruningRule → ℕ → List Float → List Float → Float → ℕ → ℕ
+prunedAt rule k c errors t i = mark (ltb i k && prunes rule t (getD c i nan) (getD errors i nan))
 
 -- 16 pruning bytes: 1 pruned, else 0
-abbrev pub prunedBytes : ℕ → List Float → List Float → Float → List ℕ
-prunedBytes k c errors t = table (prunedAt k c errors t) maxTerms
+abbrev pub prunedBytes : PruningRule → ℕ → List Float → List Float → Float → List ℕ
+prunedBytes rule k c errors t = table (prunedAt rule k c errors t) maxTerms

@@ -10,12 +10,13 @@ ghost use mathlib.Core.List.{_++_};
 ghost use Prim.Native.Nat.{_≤_, _<_};
 ghost use lib.ListN.{length, drop};
 ghost use Rattle.basis.specs.Sizes.{maxTerms};
+ghost use Rattle.value.specs.Absolute.{absF};
 ghost use Rattle.monomial.specs.Terms.{termsAt};
 ghost use Rattle.monomial.specs.Rows.{rowsAt};
 ghost use Rattle.covariance.specs.Covariance.{covarianceOf, errorsOf, columnOf, predictionVariance};
 ghost use Rattle.covariance.specs.Marks.{mark as markF, ones};
 ghost use Rattle.covariance.specs.Bands.{widened, widthOf, bandOf, bandAt, outlies as outliesF, lowersOf, uppersOf, outliersOf};
-ghost use Rattle.covariance.specs.Pruning.{prunes as prunesF, prunedBytes};
+ghost use Rattle.covariance.specs.Pruning.{tested as testedF, prunes as prunesF, prunedBytes};
 
 // 2 to the power −52.
 const EPSILON: f64 = f64::from_bits(0x3CB0_0000_0000_0000);
@@ -141,12 +142,29 @@ pub fn outlies(band: Band, y: f64) -> bool
     (y < band.lower) | (y > band.upper)
 }
 
-// Whether a coefficient c is pruned, t the t score: only c > 2⁻⁵², so that negative terms stay.
-pub fn prunes(t: f64, c: f64, error: f64) -> bool
-    ensures { λ r. ⌜ r ≡ prunesF t c error ⌝ }
+// Which terms may be pruned: those above 2⁻⁵², as polyfit has it, so that negative terms stay; or those whose size is, as Student's test has it.
+pub enum PruningRule {
+    Positive,
+    Size,
+}
+
+// What a rule holds against 2⁻⁵²: the coefficient c itself, or its size.
+fn tested(rule: PruningRule, c: f64, size: f64) -> f64
+    requires { ⌜ size ≡ absF c ⌝ }
+    ensures { λ r. ⌜ r ≡ testedF rule c ⌝ }
 {
-    let a = value::abs(c);
-    (c > EPSILON) & (a / error < t)
+    match rule {
+        PruningRule::Positive => c,
+        PruningRule::Size => size,
+    }
+}
+
+// Whether a coefficient c is pruned, t the t score.
+pub fn prunes(rule: PruningRule, t: f64, c: f64, error: f64) -> bool
+    ensures { λ r. ⌜ r ≡ prunesF rule t c error ⌝ }
+{
+    let size = value::abs(c);
+    (tested(rule, c, size) > EPSILON) & (size / error < t)
 }
 
 // 1 where a test passes, else 0.
@@ -158,6 +176,7 @@ fn mark(b: bool) -> u8
 
 // The first 16 places become the pruning bytes of k coefficients. Answers how many are pruned.
 pub fn put_pruned(
+    rule: PruningRule,
     k: CoefficientCount,
     c: &[f64; TERMS],
     errors: &[f64; TERMS],
@@ -165,13 +184,13 @@ pub fn put_pruned(
     out: &mut [u8],
 ) -> usize
     requires { ⌜ maxTerms ≤ length (now out) ⌝ }
-    ensures counted { λ r. ⌜ r ≡ ones (prunedBytes (k .0) (now (c .entry)) (now (errors .entry)) t) ⌝ }
-    ensures written { λ _. ⌜ now (out .exit) ≡ prunedBytes (k .0) (now (c .entry)) (now (errors .entry)) t ++ drop maxTerms (now (out .entry)) ⌝ }
+    ensures counted { λ r. ⌜ r ≡ ones (prunedBytes rule (k .0) (now (c .entry)) (now (errors .entry)) t) ⌝ }
+    ensures written { λ _. ⌜ now (out .exit) ≡ prunedBytes rule (k .0) (now (c .entry)) (now (errors .entry)) t ++ drop maxTerms (now (out .entry)) ⌝ }
 {
     let n = k.0;
     let mut count: usize = 0;
     for i in 0..TERMS {
-        let b = mark((i < n) & prunes(t, c[i], errors[i]));
+        let b = mark((i < n) & prunes(rule, t, c[i], errors[i]));
         out[i] = b;
         count = count + b as usize;
     }

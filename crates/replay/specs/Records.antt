@@ -1,6 +1,6 @@
 -- How a list of calls stands in lent buffers: the k-th call has 5 kinds from place 5 k on, 9 words from 9 k on, and 4 numbers from 4 k on.
 -- Definitions only.
-use mathlib.Core.Bool.{Bool, _&&_, _||_}
+use mathlib.Core.Bool.{Bool, cond, _&&_, _||_}
 use mathlib.Core.List.{List}
 use Prim.Native.Nat.{ℕ, zero, suc, _+_, _*_, _/_}
 use lib.Dec.{leb, eqb}
@@ -16,13 +16,17 @@ use Rattle.replay.specs.declared.Buffers.{Buffers}
 use Rattle.ledger.specs.Ledger.{Call, changes, reads, adds, corrects, withdraws}
 use Rattle.ledger.specs.ReadCalls.{ReadCall, reports}
 
+-- the rule of pruning by the kind of the call: 4 is a report by size, every other has polyfit's rule
+unfoldable pub pruningBy : ℕ → ℕ
+pruningBy kind = cond (eqb kind 4) 1 0
+
 -- the kinds: of the call, of the bound, the criterion, the confidence and the tolerance;
 -- the words: the index, the bound's degree, and the lengths of scratch, coefficients, errors, pruning bytes, lower, upper and outlier bytes;
 -- the numbers: x, y, the Custom score, and the tolerance's number
 unfoldable pub settingsAt : List ℕ → List ℕ → List Float → ℕ → Settings
 settingsAt kinds words numbers k =
     settingsOf (getD kinds (5 * k + 1) 0) (getD words (9 * k + 1) 0) (getD kinds (5 * k + 2) 0) (getD kinds (5 * k + 3) 0) (getD numbers (4 * k + 2) nan)
-    (getD kinds (5 * k + 4) 0) (getD numbers (4 * k + 3) nan)
+    (getD kinds (5 * k + 4) 0) (getD numbers (4 * k + 3) nan) (pruningBy (getD kinds (5 * k) 0))
 
 unfoldable pub placesAt : List ℕ → ℕ → Places
 placesAt words k =
@@ -36,7 +40,7 @@ placesAt words k =
       outliers = getD words (9 * k + 8) 0;
     }
 
--- a call by its kind: 0 add, 1 correct, 2 withdraw, else report
+-- a call by its kind: 0 add, 1 correct, 2 withdraw, else report (4 by size, every other with polyfit's rule of pruning)
 unfoldable pub callOf : ℕ → ℕ → Float → Float → Settings → Places → Call ReadCall
 callOf zero i x y settings places = changes (adds (record { x = x; y = y }))
 callOf (suc zero) i x y settings places = changes (corrects i y)

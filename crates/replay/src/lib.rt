@@ -14,7 +14,7 @@ ghost use Rattle.report.specs.Reports.{reportOut};
 ghost use Rattle.lent.specs.Slices.{before, after};
 ghost use Rattle.lent.specs.Written.{over};
 ghost use Rattle.report.specs.Outputs.{outputs, outputsNow};
-ghost use Rattle.replay.specs.Records.{settingsAt, placesAt, callOf, callAt, callsOf, holds, holdsAll, fitsIn, allFit, hasRoom, wellFormed};
+ghost use Rattle.replay.specs.Records.{pruningBy, settingsAt, placesAt, callOf, callAt, callsOf, holds, holdsAll, fitsIn, allFit, hasRoom, wellFormed};
 ghost use Rattle.replay.specs.Replay.{ReplayIs, memory, buffersOf};
 ghost use Rattle.replay.specs.Steps.{resultsIn, changeRecord, reportRecord, Changed, Reported, TurnIs, RunIs, Stands, Windows};
 ghost use Rattle.samples.specs.Columns.{columnsOf};
@@ -43,6 +43,16 @@ pub struct Done {
     pub pruned: usize,
 }
 
+// The rule of pruning by the number of a call's kind: 4 is a report that prunes by size.
+fn pruning_by(kind: u32) -> u32
+    ensures { λ r. ⌜ r ≡ pruningBy kind ⌝ }
+{
+    if kind == 4 {
+        return 1;
+    }
+    0
+}
+
 // The settings of the k-th record.
 fn settings_at(kinds: &[u32], words: &[usize], numbers: &[f64], k: usize) -> Settings
     requires { ⌜ Stands (now kinds) (now words) (now numbers) k ⌝ }
@@ -58,7 +68,17 @@ fn settings_at(kinds: &[u32], words: &[usize], numbers: &[f64], k: usize) -> Set
     let score = numbers[number + 2];
     let tolerance = kinds[kind + 4];
     let value = numbers[number + 3];
-    settings::numbered(bound, most, criterion, confidence, score, tolerance, value)
+    let pruning = pruning_by(kinds[kind]);
+    settings::numbered(
+        bound,
+        most,
+        criterion,
+        confidence,
+        score,
+        tolerance,
+        value,
+        pruning,
+    )
 }
 
 // The lengths of the k-th record.

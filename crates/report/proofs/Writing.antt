@@ -37,9 +37,9 @@ module _ (n : ℕ) (settings : Settings) (samples : List Sample) (degree solved 
   rows-over f l l′ h = over-by n (map f rows) l l′ (length-map rows f ∙ counted) h
 
   pub writes-is : (marks terms : ℕ) (w w′ : Outputs)
-      → marks ≡ ones (outliersOf k c v (settings .tolerance) z (spread .stddev) rows) → terms ≡ ones (prunedBytes k c e t)
+      → marks ≡ ones (outliersOf k c v (settings .tolerance) z (spread .stddev) rows) → terms ≡ ones (prunedBytes (settings .pruning) k c e t)
       → w′ .scratch ≡ zeros n ++ drop n (w .scratch)
-      → w′ .coefficients ≡ c ++ drop 16 (w .coefficients) → w′ .errors ≡ e ++ drop 16 (w .errors) → w′ .pruned ≡ prunedBytes k c e t ++ drop 16 (w .pruned)
+      → w′ .coefficients ≡ c ++ drop 16 (w .coefficients) → w′ .errors ≡ e ++ drop 16 (w .errors) → w′ .pruned ≡ prunedBytes (settings .pruning) k c e t ++ drop 16 (w .pruned)
       → w′ .lower ≡ lowersOf k c v (settings .tolerance) z (spread .stddev) rows ++ drop n (w .lower)
       → w′ .upper ≡ uppersOf k c v (settings .tolerance) z (spread .stddev) rows ++ drop n (w .upper)
       → w′ .outliers ≡ outliersOf k c v (settings .tolerance) z (spread .stddev) rows ++ drop n (w .outliers)
@@ -53,7 +53,7 @@ module _ (n : ℕ) (settings : Settings) (samples : List Sample) (degree solved 
           scratch = over-by n (zeros n) (w .scratch) (w′ .scratch) (length-replicate n zeroF) hs i;
           coefficients = over-by 16 c (w .coefficients) (w′ .coefficients) sized hc i;
           errors = over-by 16 e (w .errors) (w′ .errors) (ap length ee ∙ length-errors k v) he i;
-          pruned = over-by 16 (prunedBytes k c e t) (w .pruned) (w′ .pruned) (length-table (prunedAt k c e t) 16) hp i;
+          pruned = over-by 16 (prunedBytes (settings .pruning) k c e t) (w .pruned) (w′ .pruned) (length-table (prunedAt (settings .pruning) k c e t) 16) hp i;
           lower = rows-over (lowerOf k c v (settings .tolerance) z (spread .stddev)) (w .lower) (w′ .lower) hl i;
           upper = rows-over (upperOf k c v (settings .tolerance) z (spread .stddev)) (w .upper) (w′ .upper) hu i;
           outliers = rows-over (outlierOf k c v (settings .tolerance) z (spread .stddev)) (w .outliers) (w′ .outliers) hb i;

@@ -43,14 +43,14 @@ reportNumber (answers.Refused k) = k
 
 -- Report returns degree, number of solved degrees, outliers and pruned terms. It writes unpruned coefficients and errors (16 places each, +0 from k on),
 -- 16 pruning bytes (1 pruned, else 0), and per sample lower, upper and an outlier byte; scratch ends as +0 in its first n places. Bands use unpruned
--- coefficients and the z score; pruning uses the t score at n − k degrees of freedom. c are the coefficients, v their covariance.
+-- coefficients and the z score; pruning uses the settings' rule and the t score at n − k degrees of freedom. c are the coefficients, v their covariance.
 unfoldable pub writtenBy : ℕ → Settings → List Sample → ℕ → ℕ → List Float → List Float → ReportOut
 writtenBy n settings samples degree solved c v =
     let k = countOf Curve degree in
     let e = errorsOf k v in
     let z = zScore (settings .confidence) in
     let sd = stddevAndMean (ysOf samples) .stddev in
-    let pruned = prunedBytes k c e (tScore (settings .confidence) (degreesOfFreedom n k)) in
+    let pruned = prunedBytes (settings .pruning) k c e (tScore (settings .confidence) (degreesOfFreedom n k)) in
     let outliers = outliersOf k c v (settings .tolerance) z sd (rowsOf samples) in
     record {
       answer = answers.Report (record { 0 = degree }) solved (ones outliers) (ones pruned);

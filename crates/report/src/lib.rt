@@ -129,6 +129,7 @@ fn write(
     let df = n - k.0;
     let confidence = settings.confidence;
     let tolerance = settings.tolerance;
+    let rule = settings.pruning;
     let t = statistics::t_score(confidence, df);
     let z = statistics::z_score(confidence);
     let spread = statistics::stddev_and_mean(ys, n);
@@ -136,7 +137,7 @@ fn write(
     lent::clear(scratch, n);
     lent::put_terms(c, coefficients);
     lent::put_terms(e, errors);
-    let terms = covariance::put_pruned(k, &c, &e, t, pruned);
+    let terms = covariance::put_pruned(rule, k, &c, &e, t, pruned);
     let marks = covariance::put_bands(
         Basis::Curve,
         k,

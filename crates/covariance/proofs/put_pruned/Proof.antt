@@ -14,12 +14,12 @@ use Rattle.covariance.proofs.put_pruned.Statement.{statement}
 use Rattle.covariance.proofs.put_pruned.Tie as tie
 
 abbrev Inv-loop : tie.InvT-loop
-Inv-loop c errors t out₀ n count₀ i₀ out count i =
-    (i ≤ 16) × (length out ≡ length out₀) × (out ≡ each (λ j _. prunedAt n c errors t j) i out₀)
-    × (count ≤ i) × (count ≡ ones (table (prunedAt n c errors t) i))
+Inv-loop rule c errors t out₀ n count₀ i₀ out count i =
+    (i ≤ 16) × (length out ≡ length out₀) × (out ≡ each (λ j _. prunedAt rule n c errors t j) i out₀)
+    × (count ≤ i) × (count ≡ ones (table (prunedAt rule n c errors t) i))
 
 abbrev μ-loop : tie.MeasureT-loop
-μ-loop c errors t out₀ n count₀ i₀ out count i = 16 - i
+μ-loop rule c errors t out₀ n count₀ i₀ out count i = 16 - i
 
 loop-holds : tie.Need-loop-holds Inv-loop μ-loop
 unfolding each ones fold table
@@ -39,12 +39,12 @@ loop-again c =
     let at-args = c .before .before .before .before .before .before .before .args in
     let at-loop = c .before .before .before .before .before .loop in
     let a = at-args in
-    let b : c .mark .result ≡ prunedAt (a .k .0) (a .c .now) (a .errors .now) (a .t) (at-loop .i) = c .mark .ensures .0 ∙ (rw (c .before .prunes .ensures)) in (
+    let b : c .mark .result ≡ prunedAt (a .rule) (a .k .0) (a .c .now) (a .errors .now) (a .t) (at-loop .i) = c .mark .ensures .0 ∙ (rw (c .before .prunes .ensures)) in (
       search needs,
       simp length-set (at-loop .inv .1),
-      rw (b, at-loop .inv .2) (each-again (λ j _. prunedAt (a .k .0) (a .c .now) (a .errors .now) (a .t) j) (at-loop .i) _ 0 (search needs)),
+      rw (b, at-loop .inv .2) (each-again (λ j _. prunedAt (a .rule) (a .k .0) (a .c .now) (a .errors .now) (a .t) j) (at-loop .i) _ 0 (search needs)),
       omega (arith, c .mark .ensures .1, at-loop .inv .3),
-      rw (b, at-loop .inv .4) (sym (ones-again (prunedAt (a .k .0) (a .c .now) (a .errors .now) (a .t)) (at-loop .i))),
+      rw (b, at-loop .inv .4) (sym (ones-again (prunedAt (a .rule) (a .k .0) (a .c .now) (a .errors .now) (a .t)) (at-loop .i))),
     )
 
 returns : tie.Need-returns Inv-loop μ-loop
@@ -52,7 +52,7 @@ returns c =
     let at-args = c .before .before .before .args in
     let z : c .before .loop .i ≡ 16 = omega arith in
     let a = at-args in
-    (rw z at (c .before .loop .inv .4), (rw z at (c .before .loop .inv .2)) ∙ each-write (prunedAt (a .k .0) (a .c .now) (a .errors .now) (a .t)) 16 _ (search needs))
+    (rw z at (c .before .loop .inv .4), (rw z at (c .before .loop .inv .2)) ∙ each-write (prunedAt (a .rule) (a .k .0) (a .c .now) (a .errors .now) (a .t)) 16 _ (search needs))
 
 pub put-pruned-spec : {M : Type 1} → statement M
 put-pruned-spec =

@@ -7,7 +7,7 @@ use Rattle.replay.proofs.settings_at.Tie as tie
 
 returns : tie.Need-returns
 unfolding settingsAt
-returns c = c .numbered .ensures
+returns c = rw (← c .before .pruning-by .ensures) (c .numbered .ensures)
 
 pub settings-at-spec : {M : Type 1} → statement M
 settings-at-spec =
@@ -37,5 +37,8 @@ settings-at-spec =
     (λ c. search needs)
     (λ c. search needs)
     (λ c. search needs)
+    (λ c. search needs)
+    (λ c. search needs)
+    (λ c κs. search needs)
     (λ c κs. search needs)
     returns)

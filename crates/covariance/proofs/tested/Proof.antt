@@ -1,0 +1,16 @@
+-- `covariance::tested` meets its contract.
+use borrow.Author.Needs.{needs}
+use Rattle.covariance.specs.Pruning.{tested}
+use Rattle.covariance.proofs.tested.Statement.{statement}
+use Rattle.covariance.proofs.tested.Tie as tie
+
+returns : tie.Need-returns
+unfolding tested
+returns c = search needs
+
+returns-2 : tie.Need-returns-2
+unfolding tested
+returns-2 c = rw (c .before .before .pre, c .enum-told2 .given .1)
+
+pub tested-spec : {M : Type 1} → statement M
+tested-spec = tie.close (tie.spec (λ c. search needs) (λ c. search needs) returns returns-2)
