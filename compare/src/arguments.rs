@@ -1,7 +1,7 @@
 //! Arguments of calls, most of them fit to be let through, some not.
 
 use journal::Call;
-use judge::fit::{Criterion, Settings};
+use judge::fit::{Criterion, PruningRule, Settings};
 use judge::statistics::{Confidence, DegreeBound, Tolerance};
 use judge::Sample;
 
@@ -55,12 +55,17 @@ pub fn criterion(random: &mut Random) -> Criterion {
     random.pick(&[Criterion::Aic, Criterion::Bic])
 }
 
+pub fn pruning(random: &mut Random) -> PruningRule {
+    random.pick(&[PruningRule::Positive, PruningRule::Size])
+}
+
 pub fn settings(random: &mut Random) -> Settings {
     Settings {
         bound: bound(random),
         criterion: criterion(random),
         confidence: confidence(random),
         tolerance: tolerance(random),
+        pruning: pruning(random),
     }
 }
 

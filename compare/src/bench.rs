@@ -8,7 +8,7 @@ use std::ptr;
 use std::time::{Duration, Instant};
 
 use journal::{Call, Judge, Lent, Memory, Side};
-use judge::fit::{Criterion, Settings};
+use judge::fit::{Criterion, PruningRule, Settings};
 use judge::statistics::{Confidence, DegreeBound, Tolerance};
 use judge::Sample;
 
@@ -211,7 +211,8 @@ fn print_rows(count: usize, port: &dyn Side, further: &mut Further) {
     for degree in BOUNDS.into_iter().filter(|degree| *degree < count) {
         let bound = DegreeBound::Custom(degree);
         let (criterion, confidence) = (Criterion::Aic, Confidence::P95);
-        let settings = Settings { bound, criterion, confidence, tolerance: Tolerance::None };
+        let (tolerance, pruning) = (Tolerance::None, PruningRule::Positive);
+        let settings = Settings { bound, criterion, confidence, tolerance, pruning };
         let fit = Call::Fit { degree };
         print_row(&format!("fit, degree {degree}"), &fit, count, &samples, port);
         let report = Call::Report(settings);

@@ -3,8 +3,8 @@
 use std::collections::{BTreeMap, BTreeSet};
 
 use journal::{Answer, Call, Memory};
-use judge::fit::{self, Criterion, Settings};
-use judge::numbers::bits;
+use judge::fit::{self, Criterion, PruningRule, Settings};
+use judge::numbers::{bits, EPSILON};
 use judge::refusals::{Conditions, Lengths};
 use judge::solve::inverse;
 use judge::statistics::{
@@ -68,6 +68,7 @@ const FREEDOMS: [&str; 3] = ["df 0", "df 1 to 30", "df 31 or more"];
 const TOLERANCES: [&str; 4] = ["none", "absolute", "variance", "measurement"];
 const BOUNDS: [&str; 4] = ["Conservative", "Relaxed", "Aggressive", "Custom"];
 const CRITERIA: [&str; 2] = ["Aic", "Bic"];
+const RULES: [&str; 2] = ["positive", "size"];
 
 /// Memory whose length is judged, and by which calls.
 const LENGTHS: [(&str, &[&str]); 8] = [
@@ -96,7 +97,7 @@ const LENGTHS: [(&str, &[&str]); 8] = [
 ];
 
 /// Everything else that must happen.
-const EVENTS: [&str; 55] = [
+const EVENTS: [&str; 63] = [
     "report: 11 with no degree solved",
     "report: 11 with degrees solved",
     "report: degree 0 unsolved, a higher one chosen",
@@ -110,6 +111,13 @@ const EVENTS: [&str; 55] = [
     "report: pruned terms at df 0",
     "report: a positive term kept",
     "report: a term below zero kept though its t is small",
+    "report: by size, a term below zero pruned",
+    "report: by size, a term below zero with a -0 error pruned",
+    "report: by size, a term below zero with a +0 error kept",
+    "report: by size, a term below zero with a NaN error kept",
+    "report: a term just above 2^-52 pruned",
+    "report: a term just below -2^-52 kept though its t is small",
+    "report: by size, a term just below -2^-52 pruned",
     "report: NaN in a band",
     "report: infinity in a band",
     "report: a NaN error",
@@ -152,6 +160,7 @@ const EVENTS: [&str; 55] = [
     "replay: a change refused",
     "replay: a report answered",
     "replay: a report refused",
+    "replay: a report by size answered",
 ];
 
 /// Six confidences; df 1 to 30 by the table, 31 and more by the z score.
@@ -239,7 +248,11 @@ impl Coverage {
 
     /// A call of a replay.
     pub fn note_replayed(&mut self, call: &Call, answer: &Answer) {
-        let kind = if let Call::Report(_) = call { "report" } else { "change" };
+        let kind = match call {
+            Call::Report(settings) if settings.pruning == PruningRule::Size => "report by size",
+            Call::Report(_) => "report",
+            _ => "change",
+        };
         let outcome = if let Answer::Refused(_) = answer { "refused" } else { "answered" };
         self.note(format!("replay: a {kind} {outcome}"));
     }
@@ -439,6 +452,7 @@ impl Coverage {
         self.note(format!("report: criterion {}", criterion_name(settings.criterion)));
         self.note(format!("report: tolerance {}", tolerance_name(settings.tolerance)));
         self.note(format!("report: bound {}", bound_name(settings.bound)));
+        self.note(format!("report: pruning {}", rule_name(settings.pruning)));
     }
 
     fn note_terms(&mut self, seen: &Seen, settings: Settings, degree: usize) {
@@ -457,13 +471,33 @@ impl Coverage {
             self.note_if(pruned && df == 0, "report: pruned terms at df 0");
             self.note_if(!pruned && coefficient > 1e-9, "report: a positive term kept");
             let small = coefficient < -1e-9 && -coefficient / error < critical;
-            self.note_if(small, "report: a term below zero kept though its t is small");
+            self.note_if(!pruned && small, "report: a term below zero kept though its t is small");
+            self.note_by_size(settings, coefficient, error, pruned);
+            let least = EPSILON.next_up();
+            self.note_if(pruned && coefficient == least, "report: a term just above 2^-52 pruned");
+            let small = coefficient == -least && -coefficient / error < critical;
+            let kept = "report: a term just below -2^-52 kept though its t is small";
+            self.note_if(!pruned && small, kept);
             self.note_if(error.is_nan(), "report: a NaN error");
             self.note_if(error.is_infinite(), "report: an infinite error");
             self.note_if(bits(error) == 1 << 63, "report: a -0 error");
             self.note_if(bits(error) == 0, "report: a +0 error");
             self.note_if(bits(coefficient) == 1 << 63, "report: a -0 coefficient");
         }
+    }
+
+    /// A term below zero that faces the test.
+    fn note_by_size(&mut self, settings: Settings, coefficient: f64, error: f64, pruned: bool) {
+        if settings.pruning != PruningRule::Size || coefficient >= -EPSILON {
+            return;
+        }
+        let mut note =
+            |holds, what| self.note_if(holds, &format!("report: by size, a term {what}"));
+        note(pruned, "below zero pruned");
+        note(pruned && bits(error) == 1 << 63, "below zero with a -0 error pruned");
+        note(!pruned && bits(error) == 0, "below zero with a +0 error kept");
+        note(!pruned && error.is_nan(), "below zero with a NaN error kept");
+        note(pruned && coefficient == -EPSILON.next_up(), "just below -2^-52 pruned");
     }
 
     fn note_bands(&mut self, seen: &Seen) {
@@ -529,6 +563,7 @@ fn required_settings() -> Vec<String> {
         keys.extend(CRITERIA.map(|criterion| format!("{call}: criterion {criterion}")));
         keys.extend(BOUNDS.map(|bound| format!("{call}: bound {bound}")));
     }
+    keys.extend(RULES.map(|rule| format!("report: pruning {rule}")));
     for call in ["report", "band"] {
         keys.extend(TOLERANCES.map(|tolerance| format!("{call}: tolerance {tolerance}")));
     }
@@ -546,6 +581,13 @@ fn length_of(lengths: &Lengths, memory: &str, count: usize) -> (usize, usize) {
         "lower" => (lengths.lower, count),
         "upper" => (lengths.upper, count),
         _ => (lengths.outlier, count),
+    }
+}
+
+fn rule_name(rule: PruningRule) -> &'static str {
+    match rule {
+        PruningRule::Positive => RULES[0],
+        PruningRule::Size => RULES[1],
     }
 }
 

@@ -1,7 +1,7 @@
 //! Makes lists of calls. Each kind of list aims at something that plain random lists never make.
 
 use journal::Call;
-use judge::fit::Settings;
+use judge::fit::{PruningRule, Settings};
 use judge::frame;
 use judge::ledger::Ledger;
 use judge::refusals::Lengths;
@@ -45,6 +45,7 @@ pub fn list(seed: u64, number: u64) -> List {
         34 => long_columns(random),
         35 => beside_t_scores(random, 1 + (number / 64 % 31) as usize),
         36..=38 => written(random),
+        39 => terms_of_either_sign(random),
         _ => mixed(random),
     };
     List { contents, steps }
@@ -299,8 +300,37 @@ fn beside_t_scores(random: &mut Random, df: usize) -> Vec<Step> {
             maker.add_all(&with_t(df, part * t_score(confidence, df)));
             let (bound, tolerance) = (DegreeBound::Custom(0), Tolerance::None);
             let criterion = arguments::criterion(maker.random);
-            let settings = Settings { bound, criterion, confidence, tolerance };
+            let pruning = arguments::pruning(maker.random);
+            let settings = Settings { bound, criterion, confidence, tolerance, pruning };
             maker.call(Call::Report(settings));
+        }
+    }
+    maker.steps
+}
+
+/// By either rule of pruning, and of either sign: nine samples whose own sums give an error of −0, two
+/// whose mean is the least number above 2⁻⁵², and three with sums that give an error that is a NaN.
+fn terms_of_either_sign(random: &mut Random) -> Vec<Step> {
+    let xs = [1.25, 1.59375, 1.21875, 1.265625, 1.953125, 1.375, 1.734375, 1.203125, 1.890625];
+    let nine = [4.0, 6.0, 2.0, 1.0, 2.0, 5.0, 8.0, 5.0, 6.0];
+    let (at, above) = (f64::EPSILON, f64::EPSILON * f64::EPSILON);
+    let mut maker = Maker::new(random, 9);
+    for sign in [1.0, -1.0] {
+        let lists = [
+            (&xs[..], &nine[..], 8, Vec::new()),
+            (&[1.0, 1.0], &[4.0 * at, 2.0 * above - 2.0 * at], 0, Vec::new()),
+            (&[0.0, 1.0, 2.0], &[1.5, 3.0, 5.0], 1, sums_pokes(&negative_inverse(sign))),
+        ];
+        for (xs, ys, degree, pokes) in lists {
+            maker.call(Call::Open);
+            let of = |(&x, &y): (&f64, &f64)| Sample { x, y: sign * y };
+            maker.add_all(&xs.iter().zip(ys).map(of).collect::<Vec<_>>());
+            let (bound, confidence) = (DegreeBound::Custom(degree), Confidence::P95);
+            for pruning in [PruningRule::Positive, PruningRule::Size] {
+                let settings = arguments::settings(maker.random);
+                let settings = Settings { bound, confidence, pruning, ..settings };
+                maker.step(pokes.clone(), Call::Report(settings));
+            }
         }
     }
     maker.steps
@@ -416,8 +446,7 @@ fn inverse_fails(random: &mut Random) -> Vec<Step> {
     maker.steps
 }
 
-/// A matrix that is not symmetric, with −1 in the first place of its inverse; the right-hand side is
-/// that of 1 + 2x. With two samples the variance is +0 and the error −0, with more it is a NaN.
+/// `negative_inverse`: with two samples the variance is +0 and the error −0, with more it is a NaN.
 fn negative_zero_error(random: &mut Random) -> Vec<Step> {
     let n = random.between(2, 4);
     let mut maker = Maker::new(random, n);
@@ -425,11 +454,16 @@ fn negative_zero_error(random: &mut Random) -> Vec<Step> {
     if n > 2 {
         maker.call(Call::Correct { index: 0, y: 1.5 });
     }
-    let places = [(0, 1.0), (1, 1.0), (16, -2.0), (17, -1.0), (256, 3.0), (257, -4.0)];
     let settings = Settings { bound: DegreeBound::Custom(1), ..arguments::settings(maker.random) };
-    maker.step(sums_pokes(&places), Call::Report(settings));
+    maker.step(sums_pokes(&negative_inverse(1.0)), Call::Report(settings));
     maker.read();
     maker.steps
+}
+
+/// Sums that are not symmetric, with −1 in the first place of their inverse; the right-hand side is
+/// that of 1 + 2x, times the sign.
+fn negative_inverse(sign: f64) -> [(usize, f64); 6] {
+    [(0, 1.0), (1, 1.0), (16, -2.0), (17, -1.0), (256, sign * 3.0), (257, sign * -4.0)]
 }
 
 /// Calls with several things wrong at once, to see in which order they are judged.

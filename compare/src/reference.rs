@@ -6,7 +6,7 @@ use polyfit::score::{Aic, Bic, ModelScoreProvider};
 use polyfit::statistics as theirs;
 use polyfit::{basis::MonomialBasis, CurveFitCovariance, MonomialFit};
 
-use judge::fit::{Band, Criterion, Report, Settings};
+use judge::fit::{Band, Criterion, PruningRule, Report, Settings};
 use judge::statistics::{Confidence, DegreeBound, Tolerance};
 use judge::Sample;
 
@@ -89,8 +89,9 @@ pub fn scores(samples: &[Sample], bound: DegreeBound, criterion: Criterion) -> V
     (0..=bound).map(score_of).collect()
 }
 
-/// `CurveFit::new_auto`, `covariance`, `solution_confidence`, `outliers`, `prune_insignificant`. The
-/// number of solved degrees is not in polyfit; it is counted by `scores`.
+/// `CurveFit::new_auto`, `covariance`, `solution_confidence`, `outliers`, `prune_insignificant`, by
+/// size the one of the patch. The number of solved degrees is not in polyfit; it is counted by
+/// `scores`.
 pub fn report(samples: &[Sample], settings: Settings) -> Result<Report, u8> {
     match settings.criterion {
         Criterion::Aic => report_by(&Aic, samples, settings),
@@ -111,7 +112,11 @@ fn report_by(
     let covariance = covariance_of(&fit)?;
     let bands = covariance.solution_confidence(confidence, tolerance).map_err(|_| 0)?;
     let outliers = covariance.outliers(confidence, tolerance).map_err(|_| 0)?;
-    let pruned = fit.clone().prune_insignificant(confidence).map_err(|_| 0)?;
+    let pruned = match settings.pruning {
+        PruningRule::Positive => fit.clone().prune_insignificant(confidence),
+        PruningRule::Size => fit.clone().prune_insignificant_by(confidence, true),
+    };
+    let pruned = pruned.map_err(|_| 0)?;
     Ok(Report {
         degree: fit.degree(),
         solved: scores(samples, settings.bound, settings.criterion).iter().flatten().count(),

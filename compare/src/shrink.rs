@@ -1,7 +1,7 @@
 //! Makes a failing list smaller while it still fails.
 
 use journal::Call;
-use judge::fit::Criterion;
+use judge::fit::{Criterion, PruningRule};
 use judge::frame;
 use judge::statistics::{Confidence, Tolerance};
 use judge::Sample;
@@ -104,6 +104,7 @@ fn simpler_calls(call: &Call) -> Vec<Call> {
             push(judge::fit::Settings { tolerance: Tolerance::None, ..*settings });
             push(judge::fit::Settings { confidence: Confidence::P95, ..*settings });
             push(judge::fit::Settings { criterion: Criterion::Aic, ..*settings });
+            push(judge::fit::Settings { pruning: PruningRule::Positive, ..*settings });
             calls
         }
         _ => Vec::new(),

@@ -254,5 +254,5 @@ fn texts_are_judged() {
 
 #[test]
 fn fixed_list_is_as_made() {
-    assert!(text::write(39, 3000).as_bytes() == file("fixed.calls"));
+    assert!(text::write(34, 3000).as_bytes() == file("fixed.calls"));
 }

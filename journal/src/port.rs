@@ -1,6 +1,6 @@
 //! The port, through the C interface of the static library.
 
-use judge::fit::{Criterion, Settings};
+use judge::fit::{Criterion, PruningRule, Settings};
 use judge::statistics::{Confidence, DegreeBound, Tolerance};
 use judge::Sample;
 use stakebook::sys;
@@ -54,6 +54,15 @@ pub(crate) fn tolerance_numbers(tolerance: Tolerance) -> (u32, f64) {
         Tolerance::Variance(value) => (2, value),
         Tolerance::Measurement(value) if value < 0.5 => (u32::MAX, value),
         Tolerance::Measurement(value) => (3, value),
+    }
+}
+
+/// Every number but 0 prunes by size.
+fn pruning_number(rule: PruningRule, other: bool) -> u32 {
+    match rule {
+        PruningRule::Positive => 0,
+        PruningRule::Size if other => u32::MAX,
+        PruningRule::Size => 1,
     }
 }
 
@@ -213,15 +222,36 @@ impl Calls for Port {
         degree(book_read!(sys::stakebook_fit, lent, (count, asked), (coefficients)))
     }
 
+    /// polyfit's rule by either function, in turn with the count; by size by the one that takes lists.
     fn report(&self, count: usize, lent: Lent, settings: Settings) -> Answer {
         let (bound, most) = bound_numbers(settings.bound);
         let criterion = criterion_number(settings.criterion);
         let (confidence, score) = confidence_numbers(settings.confidence);
         let (tolerance, value) = tolerance_numbers(settings.tolerance);
+        if settings.pruning == PruningRule::Positive && count % 2 == 0 {
+            return report(book_read!(
+                sys::stakebook_report,
+                lent,
+                (count, bound, most, criterion, confidence, score, tolerance, value),
+                (coefficients, errors, pruned, lower, upper, outlier)
+            ));
+        }
+        // The bound is at most the count less 1, so that a greater degree is as good as the greatest.
+        let most = u32::try_from(most).unwrap_or(u32::MAX);
+        let pruning = pruning_number(settings.pruning, count % 3 == 0);
+        let words = [bound, most, criterion, confidence, tolerance, pruning, u32::MAX];
+        let values = [score, value, f64::NAN];
+        // What is past the last setting is not read; the last word may be left out where it is 0.
+        let (lent_words, lent_values) = match count % 4 {
+            0 | 1 if pruning == 0 => (5, 2),
+            0 | 1 => (6, 2),
+            _ => (7, 3),
+        };
+        let (words, values) = (&words[..lent_words], &values[..lent_values]);
         report(book_read!(
-            sys::stakebook_report,
+            sys::stakebook_report_by,
             lent,
-            (count, bound, most, criterion, confidence, score, tolerance, value),
+            (count, words.as_ptr(), words.len(), values.as_ptr(), values.len()),
             (coefficients, errors, pruned, lower, upper, outlier)
         ))
     }

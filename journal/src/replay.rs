@@ -1,6 +1,6 @@
 //! A list of calls in buffers, run by the proved library in one call.
 
-use judge::fit::Settings;
+use judge::fit::{PruningRule, Settings};
 use judge::refusals::Lengths;
 use judge::sums::PLACES;
 use stakebook::sys;
@@ -47,8 +47,10 @@ impl Buffers {
             Call::Add(sample) => (0, usize::MAX, sample.x, sample.y),
             Call::Correct { index, y } => (1, index, f64::NAN, y),
             Call::Withdraw { index } => (2, index, 5.0, f64::INFINITY),
-            // Any number above 2 is a report's.
-            Call::Report(_) if self.calls() % 2 == 0 => (u32::MAX, 1, 2.0, 3.0),
+            // 4 is a report that prunes by size; any other number above 2 one with polyfit's rule.
+            Call::Report(settings) if settings.pruning == PruningRule::Size => (4, 1, 2.0, 3.0),
+            Call::Report(_) if self.calls() % 3 == 0 => (5, 1, 2.0, 3.0),
+            Call::Report(_) if self.calls() % 3 == 1 => (u32::MAX, 1, 2.0, 3.0),
             Call::Report(_) => (3, 1, 2.0, 3.0),
             _ => return false,
         };

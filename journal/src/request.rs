@@ -4,7 +4,7 @@
 
 use std::fmt;
 
-use judge::fit::{Criterion, Settings};
+use judge::fit::{Criterion, PruningRule, Settings};
 use judge::numbers::{bits, one_value};
 use judge::statistics::{Confidence, DegreeBound, Tolerance};
 use judge::Sample;
@@ -107,6 +107,7 @@ fn call(word: &[u8], fields: &mut Fields) -> Read<Call> {
             criterion: fields.criterion()?,
             confidence: fields.confidence()?,
             tolerance: fields.tolerance()?,
+            pruning: fields.pruning()?,
         }),
         b"validate" => Call::Validate {
             folds: fields.number()?,
@@ -268,6 +269,18 @@ impl<'a> Fields<'a> {
         };
         Ok(of(self.float()?))
     }
+
+    /// No field at all is polyfit's rule.
+    fn pruning(&mut self) -> Read<PruningRule> {
+        if self.rest.is_none() {
+            return Ok(PruningRule::Positive);
+        }
+        match self.next()? {
+            b"positive" => Ok(PruningRule::Positive),
+            b"size" => Ok(PruningRule::Size),
+            _ => self.malformed(Message::NotAName),
+        }
+    }
 }
 
 /// The values of the hexadecimal digits in a word.
@@ -325,6 +338,14 @@ fn tolerance_fields(tolerance: Tolerance) -> String {
     format!("{word} {}", float_field(value))
 }
 
+/// The space and the field of a rule; polyfit's has none.
+fn pruning_field(rule: PruningRule) -> &'static str {
+    match rule {
+        PruningRule::Positive => "",
+        PruningRule::Size => " size",
+    }
+}
+
 /// The space and the field of bytes; no bytes have none.
 fn bytes_field(bytes: &[u8]) -> String {
     let digits = bytes.iter().map(|byte| format!("{byte:02X}"));
@@ -363,11 +384,12 @@ impl fmt::Display for Call {
             Call::Fit { degree } => write!(f, "fit {degree}"),
             Call::Report(settings) => write!(
                 f,
-                "report {} {} {} {}",
+                "report {} {} {} {}{}",
                 bound_fields(settings.bound),
                 criterion_field(settings.criterion),
                 confidence_fields(settings.confidence),
-                tolerance_fields(settings.tolerance)
+                tolerance_fields(settings.tolerance),
+                pruning_field(settings.pruning)
             ),
             Call::Validate { folds, bound, criterion } => {
                 let criterion = criterion_field(*criterion);
@@ -465,6 +487,14 @@ mod tests {
             ("report relaxed 0 mse", "field 4: not a name"),
             ("report relaxed 0 aic p96", "field 5: not a name"),
             ("report relaxed 0 aic p95 none", "field 6: not a float"),
+            (&format!("report relaxed 0 aic p95 {ONE} none {ONE}"), "fits"),
+            (&format!("report relaxed 0 aic p95 {ONE} none {ONE} positive"), "fits"),
+            (&format!("report relaxed 0 aic p95 {ONE} none {ONE} "), "field 9: not a name"),
+            (&format!("report relaxed 0 aic p95 {ONE} none {ONE} sign"), "field 9: not a name"),
+            (
+                &format!("report relaxed 0 aic p95 {ONE} none {ONE} size 1"),
+                "field 10: one too many",
+            ),
             ("validate 3 custom 2 bic", "fits"),
             ("validate 3 custom 2 bic 0", "field 6: one too many"),
         ];
@@ -519,6 +549,7 @@ mod tests {
             "lines 3120320A".to_string(),
             "fit 15".to_string(),
             format!("report custom 7 bic p999 0000000000000000 measurement {ONE}"),
+            format!("report custom 7 bic p999 0000000000000000 measurement {ONE} size"),
             "validate 10 aggressive 0 aic".to_string(),
             format!("band {ONE} 2 custom {ONE} none 0000000000000000"),
         ];

@@ -340,6 +340,48 @@ fn pruning() {
     }
 }
 
+/// The reports of an edge: the terms pruned by polyfit's rule and by size, in turn.
+fn pruned_by_both(edge: &Edge) -> Vec<&str> {
+    edge.of("report").iter().map(|answer| answer.rsplit(' ').next().unwrap()).collect()
+}
+
+#[test]
+fn pruning_by_size() {
+    assert_eq!(pruned_by_both(&edge("by size: a small term below zero")), ["0", "1"]);
+    assert_eq!(pruned_by_both(&edge("by size: a small term above zero")), ["1", "1"]);
+    assert_eq!(pruned_by_both(&edge("by size: just below the score")), ["0", "1", "0", "0"]);
+
+    // Of the nine samples' terms, those with an error of −0 are pruned, by size the negative ones too.
+    for comment in ["by size: errors of -0", "by size: the same below zero"] {
+        let nine = edge(comment);
+        assert!(nine.of("report").iter().all(|answer| answer.starts_with("report 8 ")));
+        let (errors, terms) = (&nine.shown("errors")[0], &nine.shown("coefficients")[0]);
+        let (positive, size) = (&nine.shown("pruned")[0], &nine.shown("pruned")[1]);
+        let mut signs = [false; 2];
+        for j in 0..9 {
+            let (pruned, above) = (errors[j] == NEGATIVE_ZERO, terms[j] < NEGATIVE_ZERO);
+            assert_eq!((positive[j], size[j]), (u64::from(pruned && above), u64::from(pruned)));
+            signs[usize::from(above)] |= pruned;
+        }
+        assert!(signs.contains(&true), "{comment}: no error is -0");
+    }
+
+    let zero = edge("by size: errors of +0");
+    assert_eq!(zero.shown("errors")[1][..4], [0; 4]);
+    assert_eq!(pruned_by_both(&zero), ["0", "0"]);
+    let nan = edge("by size: an error that is a NaN");
+    assert_eq!(nan.shown("errors")[1][0], NAN_BITS);
+    assert!(nan.shown("coefficients")[1][0] > NEGATIVE_ZERO && nan.shown("pruned")[1][0] == 0);
+
+    // 2⁻⁵² of either sign, then the least above it of either sign.
+    let least = edge("by size: terms of 2^-52");
+    let terms: Vec<u64> = least.shown("coefficients").iter().map(|terms| terms[0]).collect();
+    let (at, above) = (f64::EPSILON, f64::from_bits(f64::EPSILON.to_bits() + 1));
+    let expected = [at, at, -at, -at, above, above, -above, -above];
+    assert_eq!(terms, bits_of(&expected));
+    assert_eq!(pruned_by_both(&least), ["0", "0", "0", "0", "1", "1", "0", "1"]);
+}
+
 #[test]
 fn outliers_at_the_edge() {
     let none = edge("outliers: none");

@@ -20,6 +20,14 @@ pub enum Criterion {
     Bic,
 }
 
+/// Which terms face the test of pruning: positive ones, as the Rust has it, or all by their size
+/// (document 02, E3).
+#[derive(Debug, Clone, Copy, PartialEq)]
+pub enum PruningRule {
+    Positive,
+    Size,
+}
+
 /// A report's settings.
 #[derive(Debug, Clone, Copy, PartialEq)]
 pub struct Settings {
@@ -27,6 +35,7 @@ pub struct Settings {
     pub criterion: Criterion,
     pub confidence: Confidence,
     pub tolerance: Tolerance,
+    pub pruning: PruningRule,
 }
 
 /// Value, lower and upper.
@@ -190,11 +199,25 @@ pub fn errors(covariance: &Matrix) -> Vec<f64> {
     (0..covariance.len()).map(|j| square_root(covariance[j][j])).collect()
 }
 
-/// `prune_insignificant`: |c| / error below the t score at n − k, and c, not its size, above 2⁻⁵².
-pub fn pruned(coefficients: &[f64], errors: &[f64], n: usize, confidence: Confidence) -> Vec<bool> {
+/// `prune_insignificant`: |c| / error below the t score at n − k, and c above 2⁻⁵². Document 02, E3:
+/// by size, "the size of c is above 2⁻⁵² and t, the size of c over its error, is below the critical
+/// score".
+pub fn pruned(
+    rule: PruningRule,
+    coefficients: &[f64],
+    errors: &[f64],
+    n: usize,
+    confidence: Confidence,
+) -> Vec<bool> {
     let df = n.saturating_sub(coefficients.len());
     let critical = t_score(confidence, df);
-    let is_pruned = |(&c, &error): (&f64, &f64)| abs(c) / error < critical && c > EPSILON;
+    let is_pruned = |(&c, &error): (&f64, &f64)| {
+        let t = abs(c) / error;
+        match rule {
+            PruningRule::Positive => t < critical && c > EPSILON,
+            PruningRule::Size => abs(c) > EPSILON && t < critical,
+        }
+    };
     coefficients.iter().zip(errors).map(is_pruned).collect()
 }
 
@@ -216,8 +239,8 @@ pub fn report(samples: &[Sample], sums: &[f64], settings: Settings) -> Result<Re
     let coefficients = solved(samples, sums, degree).ok_or(11)?;
     let covariance = covariance(samples, sums, &coefficients).ok_or(12)?;
     let errors = errors(&covariance);
-    let pruned = pruned(&coefficients, &errors, samples.len(), settings.confidence);
     let (confidence, tolerance) = (settings.confidence, settings.tolerance);
+    let pruned = pruned(settings.pruning, &coefficients, &errors, samples.len(), confidence);
     let deviation = deviation_of_y(samples);
     let band_of = |sample: &Sample| {
         confidence_band(&coefficients, &covariance, deviation, sample.x, confidence, tolerance)
@@ -337,6 +360,7 @@ mod tests {
         criterion: Criterion::Aic,
         confidence: Confidence::P95,
         tolerance: Tolerance::None,
+        pruning: PruningRule::Positive,
     };
 
     #[test]
@@ -391,8 +415,29 @@ mod tests {
 
     #[test]
     fn negative_terms_stay() {
-        assert_eq!(pruned(&[1.0, -1.0], &[10.0, 10.0], 3, Confidence::P95), vec![true, false]);
+        let pruned = |c: &[f64], errors: &[f64], n| {
+            pruned(PruningRule::Positive, c, errors, n, Confidence::P95)
+        };
+        assert_eq!(pruned(&[1.0, -1.0], &[10.0, 10.0], 3), vec![true, false]);
         // At df 0 a −0 error makes t −infinity, and a +0 error makes it +infinity.
-        assert_eq!(pruned(&[1.0, 1.0], &[-0.0, 0.0], 2, Confidence::P95), vec![true, false]);
+        assert_eq!(pruned(&[1.0, 1.0], &[-0.0, 0.0], 2), vec![true, false]);
+    }
+
+    #[test]
+    fn negative_terms_by_size() {
+        let by_size =
+            |c: &[f64], errors: &[f64], n| pruned(PruningRule::Size, c, errors, n, Confidence::P95);
+        assert_eq!(by_size(&[1.0, -1.0], &[10.0, 10.0], 3), vec![true, true]);
+        assert_eq!(
+            by_size(&[-1.0, -1.0, -1.0], &[-0.0, 0.0, f64::NAN], 3),
+            vec![true, false, false]
+        );
+        // t is at the critical score of 10 degrees of freedom, 2.228, and just below it.
+        let below = f64::from_bits(2.228_f64.to_bits() - 1);
+        assert_eq!(by_size(&[-2.228, -below], &[1.0, 1.0], 12), vec![false, true]);
+        // 2⁻⁵² itself, of either sign, and what is just above.
+        let above = f64::from_bits(EPSILON.to_bits() + 1);
+        let terms = [EPSILON, -EPSILON, above, -above];
+        assert_eq!(by_size(&terms, &[1.0; 4], 5), vec![false, false, true, true]);
     }
 }

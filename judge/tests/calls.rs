@@ -2,7 +2,7 @@
 //! refused where several would do. The expected values are worked out by hand from the documents.
 
 use judge::book::{self, Memory, ReportAnswer, ReportMemory};
-use judge::fit::{Band, Criterion, Settings};
+use judge::fit::{Band, Criterion, PruningRule, Settings};
 use judge::frame::encode;
 use judge::numbers::bits;
 use judge::statistics::{Confidence, DegreeBound, Tolerance};
@@ -20,6 +20,7 @@ const AIC_1: Settings = Settings {
     criterion: Criterion::Aic,
     confidence: Confidence::P95,
     tolerance: Tolerance::None,
+    pruning: PruningRule::Positive,
 };
 
 /// A book with memory of its own.
@@ -418,6 +419,26 @@ fn report_with_a_negative_zero_error() {
     assert_eq!((answer.degree, answer.pruned), (1, 1));
     assert_eq!(book.errors[..2].iter().map(|v| bits(*v)).collect::<Vec<_>>(), [1 << 63, 0]);
     assert_eq!(book.pruned[..2], [1, 0]);
+}
+
+/// Document 02, E3: nine samples whose own sums make an error −0 at df 0; the negative term with it
+/// is pruned by size alone.
+#[test]
+fn report_by_size_with_a_negative_zero_error() {
+    let xs = [1.25, 1.59375, 1.21875, 1.265625, 1.953125, 1.375, 1.734375, 1.203125, 1.890625];
+    let ys = [4.0, 6.0, 2.0, 1.0, 2.0, 5.0, 8.0, 5.0, 6.0];
+    let samples: Vec<(f64, f64)> = xs.into_iter().zip(ys).collect();
+    let mut book = Book::new(9, &samples);
+    let up_to_8 = Settings { bound: DegreeBound::Custom(8), ..AIC_1 };
+    let by_size = Settings { pruning: PruningRule::Size, ..up_to_8 };
+    let (positive, size) = (book.report(up_to_8).unwrap(), book.report(by_size).unwrap());
+    assert_eq!((positive.degree, size.degree), (8, 8));
+    let at = |marks: &[u8]| marks[..9].iter().filter(|mark| **mark == 1).count();
+    assert_eq!(at(&book.pruned), size.pruned);
+    let minus_zero = |j: &usize| bits(book.errors[*j]) == 1 << 63 && book.coefficients[*j] < 0.0;
+    let places: Vec<usize> = (0..9).filter(minus_zero).collect();
+    assert!(!places.is_empty() && places.iter().all(|j| book.pruned[*j] == 1));
+    assert_eq!(size.pruned, positive.pruned + places.len());
 }
 
 #[test]

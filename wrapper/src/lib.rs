@@ -9,7 +9,9 @@
 //! in `include/stakebook.h`.
 //!
 //! ```
-//! use stakebook::{Book, Confidence, Criterion, DegreeBound, Refusal, Settings, Tolerance};
+//! use stakebook::{
+//!     Book, Confidence, Criterion, DegreeBound, PruningRule, Refusal, Settings, Tolerance,
+//! };
 //!
 //! let mut book = Book::with_capacity(100);
 //! for i in 0..5 {
@@ -24,6 +26,7 @@
 //!     criterion: Criterion::Aic,
 //!     confidence: Confidence::P95,
 //!     tolerance: Tolerance::None,
+//!     pruning: PruningRule::default(),
 //! };
 //! let report = book.report(settings)?;
 //! assert_eq!((report.degree, report.solved, report.outliers()), (1, 3, 0));
@@ -37,7 +40,7 @@ mod settings;
 pub mod sys;
 
 pub use refusal::Refusal;
-pub use settings::{Confidence, Criterion, DegreeBound, Settings, Tolerance};
+pub use settings::{Confidence, Criterion, DegreeBound, PruningRule, Settings, Tolerance};
 
 /// The most samples that a book can hold.
 pub const MOST: usize = 4096;
@@ -119,7 +122,8 @@ impl Report<'_> {
 macro_rules! lend {
     ($function:ident($($number:expr),*; $($slice:expr),*)) => {
         // SAFETY: the slices are this book's own or local, so they are apart, and each has the
-        // length given. A frame or a text, which stands among the numbers, is only read.
+        // length given. A frame, a text or a list of
+        // settings, which stands among the numbers, is only read.
         unsafe { sys::$function($($number),*, $($slice.as_mut_ptr(), $slice.len()),*) }
     };
 }
@@ -310,13 +314,20 @@ impl Book {
     /// marked at 10 samples and 79 % at 100, as `examples/c/measure.c` measures. A [`Tolerance`]
     /// that covers the scatter of single readings mends it: twice their standard deviation,
     /// `Absolute`, left 0.1 % and 2.2 %.
+    ///
+    /// By polyfit's rule of pruning, the default, a negative term is never marked, however small;
+    /// [`PruningRule::Size`] lets it face the test too.
     pub fn report(&mut self, settings: Settings) -> Result<Report<'_>, Refusal> {
         let (bound, most) = settings.bound.numbers();
         let (confidence, score) = settings.confidence.numbers();
         let (tolerance, value) = settings.tolerance.numbers();
-        let answer = lend!(stakebook_report(
-            self.count, bound, most, settings.criterion.number(), confidence, score, tolerance,
-            value;
+        // No bound is above the count less 1, so that the greatest degree stands for all above it.
+        let most = u32::try_from(most).unwrap_or(u32::MAX);
+        let criterion = settings.criterion.number();
+        let words = [bound, most, criterion, confidence, tolerance, settings.pruning.number()];
+        let values = [score, value];
+        let answer = lend!(stakebook_report_by(
+            self.count, words.as_ptr(), words.len(), values.as_ptr(), values.len();
             self.xs, self.ys, self.sums, self.scratch, self.coefficients, self.errors,
             self.pruned, self.lower, self.upper, self.outliers
         ));

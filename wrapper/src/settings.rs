@@ -1,4 +1,4 @@
-//! How a degree is bounded and scored, and how wide a band is.
+//! How a degree is bounded and scored, how wide a band is, and which terms are pruned.
 
 /// The highest degree that is tried. The bounds by name need many samples: below 30
 /// (`Conservative`) or 16 (`Relaxed`, `Aggressive`) they try degree 0 alone.
@@ -53,6 +53,19 @@ pub enum Tolerance {
     Measurement(f64),
 }
 
+/// Which terms a report marks as insignificant: those whose size over its error is below Student's
+/// t, if they are above 2⁻⁵².
+#[derive(Debug, Clone, Copy, PartialEq, Eq, Default)]
+pub enum PruningRule {
+    /// As polyfit has it: the term itself is held against 2⁻⁵², so that a negative term is never
+    /// marked, however small. Take this one where answers are to be polyfit's.
+    #[default]
+    Positive,
+    /// As Student's test has it: by its size, so that negative terms face the test too. Take this
+    /// one to ask which terms a curve can do without.
+    Size,
+}
+
 /// A report's settings.
 #[derive(Debug, Clone, Copy, PartialEq)]
 pub struct Settings {
@@ -60,6 +73,7 @@ pub struct Settings {
     pub criterion: Criterion,
     pub confidence: Confidence,
     pub tolerance: Tolerance,
+    pub pruning: PruningRule,
 }
 
 impl DegreeBound {
@@ -107,6 +121,16 @@ impl Tolerance {
             Tolerance::Absolute(value) => (1, value),
             Tolerance::Variance(value) => (2, value),
             Tolerance::Measurement(value) => (3, value),
+        }
+    }
+}
+
+impl PruningRule {
+    /// The number that the C interface takes.
+    pub fn number(self) -> u32 {
+        match self {
+            PruningRule::Positive => 0,
+            PruningRule::Size => 1,
         }
     }
 }

@@ -143,6 +143,33 @@ extern "C" {
         outliers: *mut u8,
         outliers_len: usize,
     ) -> u64;
+    pub fn stakebook_report_by(
+        count: usize,
+        words: *const u32,
+        words_len: usize,
+        values: *const f64,
+        values_len: usize,
+        xs: *const f64,
+        xs_len: usize,
+        ys: *const f64,
+        ys_len: usize,
+        sums: *const f64,
+        sums_len: usize,
+        scratch: *mut f64,
+        scratch_len: usize,
+        coefficients: *mut f64,
+        coefficients_len: usize,
+        errors: *mut f64,
+        errors_len: usize,
+        pruned: *mut u8,
+        pruned_len: usize,
+        lower: *mut f64,
+        lower_len: usize,
+        upper: *mut f64,
+        upper_len: usize,
+        outliers: *mut u8,
+        outliers_len: usize,
+    ) -> u64;
     pub fn stakebook_reader(frame: *const u8, frame_len: usize) -> u64;
     pub fn stakebook_next(
         frame: *const u8,

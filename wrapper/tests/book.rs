@@ -1,12 +1,15 @@
 //! The wrapper's own part: what it owns, what it hands out, and which refusals it tells.
 
-use stakebook::{Book, Confidence, Criterion, DegreeBound, Refusal, Settings, Tolerance};
+use stakebook::{
+    Book, Confidence, Criterion, DegreeBound, PruningRule, Refusal, Settings, Tolerance,
+};
 
 const SETTINGS: Settings = Settings {
     bound: DegreeBound::Custom(1),
     criterion: Criterion::Aic,
     confidence: Confidence::P95,
     tolerance: Tolerance::None,
+    pruning: PruningRule::Positive,
 };
 
 fn book_of(samples: &[(f64, f64)]) -> Book {
@@ -42,6 +45,22 @@ fn a_fit_and_a_report() {
     let band =
         book.band(1.0, 1, Confidence::Custom(2.0), Tolerance::Absolute(0.5)).expect("solved");
     assert_eq!((band.value, band.lower, band.upper), (3.0, 2.5, 3.5));
+}
+
+/// A negative term faces the test by size alone.
+#[test]
+fn pruning_by_either_rule() {
+    let mut book = book_of(&[(0.0, -1.0), (1.0, 1.0), (2.0, -2.0), (3.0, 1.0)]);
+    let constant = Settings { bound: DegreeBound::Custom(0), ..SETTINGS };
+    let report = book.report(constant).expect("a degree is chosen");
+    assert_eq!((report.coefficients, report.pruned_terms()), (&[-0.25][..], 0));
+    let by_size = Settings { pruning: PruningRule::Size, ..constant };
+    let report = book.report(by_size).expect("a degree is chosen");
+    assert_eq!((report.pruned_terms(), report.pruned), (1, &[1][..]));
+    // A degree that no word of 32 bits holds bounds nothing.
+    let bound = DegreeBound::Custom(usize::MAX);
+    let report = book.report(Settings { bound, ..by_size }).expect("a degree is chosen");
+    assert_eq!(report.solved, 4);
 }
 
 #[test]

@@ -7,7 +7,7 @@ use judge::statistics::{self, t_score, Confidence, DegreeBound, Tolerance, LEVEL
 use judge::sums::TERMS;
 use judge::Sample;
 
-use crate::list::{at_whole_x, samples_of, up_to, List, AIC_1, NAN};
+use crate::list::{at_whole_x, by_size, samples_of, up_to, List, AIC_1, NAN};
 
 const LINE: [(f64, f64); 3] = [(0.0, 1.0), (1.0, 3.0), (2.0, 5.0)];
 
@@ -50,6 +50,7 @@ pub fn edges() -> String {
     freedom(&mut list);
     settings(&mut list);
     pruning(&mut list);
+    pruning_by_size(&mut list);
     outliers(&mut list);
     refused_late(&mut list);
     refused_early(&mut list);
@@ -261,9 +262,11 @@ fn with_t(df: usize, t: f64) -> Vec<(f64, f64)> {
     statistics::with_t(df, t).iter().map(|sample| (sample.x, sample.y)).collect()
 }
 
+fn below_zero(pairs: &[(f64, f64)]) -> Vec<(f64, f64)> {
+    pairs.iter().map(|&(x, y)| (x, -y)).collect()
+}
+
 fn pruning(list: &mut List) {
-    let below_zero =
-        |pairs: &[(f64, f64)]| -> Vec<(f64, f64)> { pairs.iter().map(|&(x, y)| (x, -y)).collect() };
     let small = with_t(4, 1.0);
     list.head("pruning: a small term is pruned");
     list.book(&small);
@@ -296,6 +299,57 @@ fn pruning(list: &mut List) {
                 list.framed_book(&with_t(df, part * t_score(confidence, df)));
                 list.report(Settings { confidence, ..up_to(0) });
             }
+        }
+    }
+}
+
+/// Document 02, E3, each by polyfit's rule and by size.
+fn pruning_by_size(list: &mut List) {
+    let both = |list: &mut List, settings: Settings, n: usize| {
+        list.whole_report(settings, n);
+        list.whole_report(by_size(settings), n);
+    };
+    list.head("by size: a small term below zero is pruned");
+    list.book(&below_zero(&with_t(4, 1.0)));
+    both(list, up_to(0), 5);
+
+    list.head("by size: a small term above zero is pruned by either rule");
+    list.book(&with_t(4, 1.0));
+    both(list, up_to(0), 5);
+
+    list.head("by size: just below the score, pruned, and just above it, kept, below zero");
+    for part in [1.0 - 2e-6, 1.0 + 2e-6] {
+        list.book(&below_zero(&with_t(8, part * t_score(Confidence::P95, 8))));
+        both(list, up_to(0), 9);
+    }
+
+    list.head("by size: errors of -0 at df 0 from nine samples' own sums: t is -infinity, pruned");
+    let xs = [1.25, 1.59375, 1.21875, 1.265625, 1.953125, 1.375, 1.734375, 1.203125, 1.890625];
+    let ys = [4.0, 6.0, 2.0, 1.0, 2.0, 5.0, 8.0, 5.0, 6.0];
+    let nine: Vec<(f64, f64)> = xs.into_iter().zip(ys).collect();
+    list.book(&nine);
+    both(list, up_to(8), 9);
+    list.head("by size: the same below zero");
+    list.book(&below_zero(&nine));
+    both(list, up_to(8), 9);
+
+    list.head("by size: errors of +0 at df 0: t is +infinity, kept");
+    list.book(&at_whole_x(&[-1.0, -10.0, 7.0, -40.0]));
+    both(list, up_to(3), 4);
+
+    list.head("by size: an error that is a NaN, by lent sums: kept");
+    list.book(&[(0.0, -1.5), (1.0, -3.0), (2.0, -5.0)]);
+    list.put_sums(&NEGATIVE_INVERSE);
+    list.put_sums(&[(256, -3.0), (257, 4.0)]);
+    both(list, AIC_1, 3);
+
+    list.head("by size: terms of 2^-52 and the least above it, of either sign");
+    let least = f64::EPSILON;
+    for part in [0.0, 2.0 * least * least] {
+        let pair = [(1.0, 4.0 * least), (1.0, part - 2.0 * least)];
+        for pair in [pair.to_vec(), below_zero(&pair)] {
+            list.book(&pair);
+            both(list, up_to(0), 2);
         }
     }
 }

@@ -1,7 +1,7 @@
 //! A list of calls in the making, as text.
 
 use journal::{Call, Name, Request};
-use judge::fit::{Criterion, Settings};
+use judge::fit::{Criterion, PruningRule, Settings};
 use judge::frame::encode;
 use judge::statistics::{Confidence, DegreeBound, Tolerance};
 use judge::sums::{PLACES, TERMS};
@@ -15,7 +15,13 @@ pub const AIC_1: Settings = Settings {
     criterion: Criterion::Aic,
     confidence: Confidence::P95,
     tolerance: Tolerance::None,
+    pruning: PruningRule::Positive,
 };
+
+/// The same, pruning by size.
+pub fn by_size(settings: Settings) -> Settings {
+    Settings { pruning: PruningRule::Size, ..settings }
+}
 
 /// AIC_1 with another Custom bound.
 pub fn up_to(degree: usize) -> Settings {

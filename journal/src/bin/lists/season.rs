@@ -159,6 +159,7 @@ fn malformed(list: &mut List) {
         format!("report custom 1 aic p95 {one} none"),
         format!("report custom 1 aic p95 {one} none 0"),
         format!("report custom 1 aic p95 {one} none {one} {one}"),
+        format!("report custom 1 aic p95 {one} none {one} size {one}"),
         format!("band {one} 1 p95 {one}"),
     ];
     for line in lines {
