@@ -363,7 +363,7 @@ fn pruning_by_size() {
             assert_eq!((positive[j], size[j]), (u64::from(pruned && above), u64::from(pruned)));
             signs[usize::from(above)] |= pruned;
         }
-        assert!(signs.contains(&true), "{comment}: no error is -0");
+        assert_eq!(signs, [true; 2], "{comment}: terms of both signs have an error of -0");
     }
 
     let zero = edge("by size: errors of +0");

@@ -122,8 +122,8 @@ impl Report<'_> {
 macro_rules! lend {
     ($function:ident($($number:expr),*; $($slice:expr),*)) => {
         // SAFETY: the slices are this book's own or local, so they are apart, and each has the
-        // length given. A frame, a text or a list of
-        // settings, which stands among the numbers, is only read.
+        // length given. A frame, a text or a list of settings, which stands among the numbers,
+        // is only read.
         unsafe { sys::$function($($number),*, $($slice.as_mut_ptr(), $slice.len()),*) }
     };
 }

@@ -1,4 +1,4 @@
-//! The edges of document 01 that are run and not proved. `tests/lists.rs` checks that each is met.
+//! The edges of documents 01 and 02 that are run and not proved. `tests/lists.rs` checks that each is met.
 
 use journal::{Call, Name, Request};
 use judge::fit::Settings;
