@@ -1,7 +1,7 @@
 /* The fold of a withdrawal in C, for the benchmark: each sample's 16 powers once, in document 01's grouping, then the products. */
 #include <stddef.h>
 
-void plain_fold_c(const double *xs, const double *ys, size_t n, double *sums) {
+void plain_fold_c(const double *restrict xs, const double *restrict ys, size_t n, double *restrict sums) {
     for (size_t k = 0; k < 272; k++) sums[k] = 0.0;
     for (size_t t = 0; t < n; t++) {
         const double x = xs[t], y = ys[t];

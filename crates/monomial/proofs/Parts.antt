@@ -1,11 +1,9 @@
--- One turn of the loops that add a row's products, a row's products added in two parts, A and then g, and the last of them, all or g.
+-- One turn of the loops that add a row's products, and a row's products added in two parts, A and then g.
 use mathlib.Core.Path.{_≡_, sym, ap, _∙_}
-use mathlib.Core.Logic.{_⊎_, inl, inr}
 use mathlib.Core.List.{List, _++_}
 use Prim.Native.Nat.{ℕ, _+_, _-_, _*_, _≤_, _<_}
-use native.Mathlib.Nat.{zero-add}
 use native.Mathlib.Omega.{arith}
-use lib.ListN.{length, getD, set, take, drop, replicate}
+use lib.ListN.{length, getD, set, take, drop}
 use lib.Ieee.{Float, nan, binary64, add, mul}
 use Rattle.loops.specs.Fold.{fold}
 use Rattle.loops.specs.FoldLaws.{fold-snoc}
@@ -15,11 +13,8 @@ use Rattle.value.specs.Numbers.{zeroF}
 use Rattle.samples.specs.Columns.{Columns, sampleAt, samplesOf}
 use Rattle.samples.specs.ColumnLaws.{samples-again}
 use Rattle.monomial.specs.Rows.{Row, rowOf, rowsOf}
-use Rattle.monomial.specs.Adding.{addOne, addAll}
-use Rattle.monomial.specs.AddingLaws.{sums-afresh}
-use Rattle.monomial.specs.Sums.{productOf, addRow, sumsOf}
-use Rattle.monomial.specs.Parts.{productFrom}
-use Rattle.monomial.specs.SumLaws.{product-matrix, product-no-y, rows-again, sums-from}
+use Rattle.monomial.specs.Sums.{productOf, addRow}
+use Rattle.monomial.specs.SumLaws.{product-matrix, product-no-y, rows-again}
 
 -- A with its places below n added
 abbrev pub addedA : List Float → ℕ → List Float → List Float
@@ -49,36 +44,6 @@ add-parts s m r h e =
     ∙ ap (λ l. take 256 l ++ addedG (r .terms) (r .y) 16 (drop 256 s))
     (each-same (λ k v. add binary64 v (productOf (r .terms) (r .y) k)) (λ k v. add binary64 v (productOf (r .terms) zeroF k)) 256 s
     (λ k v q. ap (add binary64 v) (product-no-y (r .terms) (r .y) k q))))))
-
--- ---- the last b of the 272, all of them or g
-
-whole-last : (s : List Float) (r : Row) → addRow s r ≡ addOne (productFrom 0) 272 s r
-unfolding addRow addOne
-whole-last s r =
-    each-same (λ k v. add binary64 v (productOf (r .terms) (r .y) k)) (λ k v. add binary64 v (productOf (r .terms) (r .y) (0 + k))) 272 s
-    (λ k v q. ap (λ j. add binary64 v (productOf (r .terms) (r .y) j)) (sym (zero-add k)))
-
-pub last-all : (b : ℕ) (s t : List Float) (r : Row) → b ≡ 272 → t ≡ addRow s r → t ≡ addOne (productFrom (272 - b)) b s r
-last-all b s t r e h = rw e (h ∙ whole-last s r)
-
-pub last-right : (b : ℕ) (s t : List Float) (r : Row) → b ≡ 16 → t ≡ addedG (r .terms) (r .y) 16 s → t ≡ addOne (productFrom (272 - b)) b s r
-unfolding addOne
-last-right b s t r e h = rw e h
-
--- how many they are
-pub all-or-right : (b : ℕ) → (b ≡ 272) ⊎ (b ≡ 16) → (16 ≤ b) × (b ≤ 272)
-all-or-right b (inl e) = (omega arith, omega arith)
-all-or-right b (inr e) = (omega arith, omega arith)
-
-pub not-all : (b : ℕ) → (b ≡ 272) ⊎ (b ≡ 16) → (b ≡ 272 → ⊥) → b ≡ 16
-not-all b (inl e) n = absurd (n e)
-not-all b (inr e) n = e
-
--- folded afresh
-pub last-afresh : (b : ℕ) (t : List Float) (rs : List Row) → b ≤ 272 → addAll (productFrom (272 - b)) b (replicate b zeroF ++ t) rs ≡ drop (272 - b) (sumsOf rs) ++ t
-last-afresh b t rs h =
-    let z : 272 - (272 - b) ≡ b = omega arith in
-    sums-afresh (productFrom (272 - b)) b t rs ∙ ap (λ l. l ++ t) (sym (rw z at (sums-from (272 - b) rs (omega arith))))
 
 -- one sample more, for any way to add a row
 pub fold-rows-again : (f : List Float → Row → List Float) (s : List Float) (t : ℕ) (c : Columns)

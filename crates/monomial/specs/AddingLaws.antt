@@ -7,7 +7,8 @@ use lib.ListN.{length, getD, take, drop, replicate, length-replicate, getD-repli
 use lib.Seq.{ext-getD, getD-drop, getD-take, length-take-le}
 use lib.Ieee.{Float, nan, binary64, add}
 use Rattle.loops.specs.Fold.{fold}
-use Rattle.loops.specs.PlaceLaws.{each-append, each-at, length-each}
+use Rattle.loops.specs.Places.{each}
+use Rattle.loops.specs.PlaceLaws.{each-append, each-fill, each-at, length-each}
 use Rattle.value.specs.Numbers.{zeroF}
 use Rattle.value.specs.Total.{totalF}
 use Rattle.monomial.specs.Adding.{addOne, addAll, sums}
@@ -36,10 +37,10 @@ module _ {A : Type 0} (f : A → ℕ → Float) (n : ℕ) where
   add-all-append s t [] h = refl
   add-all-append s t (a ∷ l) h = rw (add-one-append s t a h) (add-all-append (addOne f n s a) t l (length-add-one s a ∙ h))
 
-  -- the sums over a list, made in lent memory whose first n places are +0
-  pub sums-afresh : (t : List Float) (l : List A) → addAll f n (replicate n zeroF ++ t) l ≡ sums f n l ++ t
+  -- the sums over a list, made in lent memory whose first n places were set to +0
+  pub sums-afresh : (s : List Float) (l : List A) → n ≤ length s → addAll f n (each (λ _ _. zeroF) n s) l ≡ sums f n l ++ drop n s
   unfolding sums
-  sums-afresh t l = add-all-append (replicate n zeroF) t l (length-replicate n zeroF)
+  sums-afresh s l h = rw (each-fill zeroF n s h) (add-all-append (replicate n zeroF) (drop n s) l (length-replicate n zeroF))
 
   add-one-at : (s : List Float) (a : A) (k : ℕ) → k < n → k < length s → getD (addOne f n s a) k nan ≡ add binary64 (getD s k nan) (f a k)
   unfolding addOne

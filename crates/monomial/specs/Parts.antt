@@ -9,6 +9,6 @@ use Rattle.monomial.specs.Sums.{productOf}
 abbrev pub termsOf : List Row → List (List Float)
 termsOf rs = map (λ (r : Row). r .terms) rs
 
--- what a row adds from place a on; g is the last 16 of the 272
-abbrev pub productFrom : ℕ → Row → ℕ → Float
-productFrom a r k = productOf (r .terms) (r .y) (a + k)
+-- g is the last 16 of the 272: what each row adds from place 256 on
+abbrev pub rightProduct : Row → ℕ → Float
+rightProduct r i = productOf (r .terms) (r .y) (256 + i)

@@ -5,10 +5,10 @@ use Prim.Native.Nat.{ℕ, _+_, _-_, _*_, _/_, _%_, _≤_, _<_}
 use native.Mathlib.Omega.{arith}
 use borrow.Author.Tests.{lt-ltb, le-ltb}
 use lib.Dec.{lit≤}
-use lib.ListN.{length, getD, take, drop, replicate, take-append-drop}
+use lib.ListN.{length, getD, take, drop, replicate, take-append-drop, length-map}
 use lib.Ieee.{Float, nan, binary64, mul}
 use Rattle.loops.specs.FoldLaws.{fold-snoc, fold-append}
-use Rattle.loops.specs.Places.{table}
+use Rattle.loops.specs.Places.{each, table}
 use Rattle.loops.specs.PlaceLaws.{table-at}
 use Rattle.value.specs.Numbers.{zeroF}
 use Rattle.value.specs.Power.{powerF}
@@ -16,9 +16,9 @@ use Rattle.value.specs.Total.{totalF}
 use Rattle.samples.specs.Samples.{Sample, xsOf}
 use Rattle.monomial.specs.Rows.{Row, rowOf, rowsOf}
 use Rattle.monomial.specs.Adding.{addOne, sums}
-use Rattle.monomial.specs.AddingLaws.{length-add-one, add-one-append, sums-length, sums-place, sums-same, sums-take, sums-drop}
+use Rattle.monomial.specs.AddingLaws.{length-add-one, add-one-append, sums-afresh, sums-length, sums-place, sums-same, sums-take, sums-drop}
 use Rattle.monomial.specs.Sums.{productOf, addRow, addRows, sumsOf}
-use Rattle.monomial.specs.Parts.{termsOf, productFrom}
+use Rattle.monomial.specs.Parts.{termsOf, rightProduct}
 
 -- the 272 sums are a case of n sums at once
 abbrev rowProduct : Row → ℕ → Float
@@ -36,6 +36,11 @@ length-add-row s r = length-add-one rowProduct 272 s r
 pub add-row-append : (s t : List Float) (r : Row) → length s ≡ 272 → addRow (s ++ t) r ≡ addRow s r ++ t
 unfolding addRow addOne
 add-row-append s t r h = add-one-append rowProduct 272 s t r h
+
+-- rows added to 272 places that were set to +0
+pub rows-afresh : (s : List Float) (rs : List Row) → 272 ≤ length s → addRows (each (λ _ _. zeroF) 272 s) rs ≡ sumsOf rs ++ drop 272 s
+unfolding sumsOf addRow sums addOne
+rows-afresh s rs h = sums-afresh rowProduct 272 s rs h
 
 -- one row more at the end is an add
 pub sums-again : (rs : List Row) (r : Row) → sumsOf (rs ++ (r ∷ [])) ≡ addRow (sumsOf rs) r
@@ -90,10 +95,9 @@ matrix-same rs qs e = matrix-is rs ∙ ap (λ l. sums matrixProduct 256 l) e ∙
 pub corrected : (rs qs : List Row) → termsOf rs ≡ termsOf qs → take 256 (sumsOf rs) ++ drop 256 (sumsOf qs) ≡ sumsOf qs
 corrected rs qs e = rw (matrix-same rs qs e) (take-append-drop 256 (sumsOf qs))
 
--- the sums from place a on are those of what each row adds there
-pub sums-from : (a : ℕ) (rs : List Row) → a ≤ 272 → drop a (sumsOf rs) ≡ sums (productFrom a) (272 - a) rs
+pub right-is : (rs : List Row) → drop 256 (sumsOf rs) ≡ sums rightProduct 16 rs
 unfolding sumsOf addRow sums addOne
-sums-from a rs h = sums-drop rowProduct 272 a rs h
+right-is rs = sums-drop rowProduct 272 256 rs (lit≤ tt)
 
 -- ---- the curve
 

@@ -4,9 +4,8 @@ use basis::CoefficientCount;
 use basis::SUMS;
 use basis::TERMS;
 ghost use mathlib.Core.Path.{_≡_};
-ghost use mathlib.Core.Logic.{_⊎_};
 ghost use mathlib.Core.List.{_++_};
-ghost use Prim.Native.Nat.{_+_, _-_, _≤_};
+ghost use Prim.Native.Nat.{_+_, _≤_};
 ghost use lib.Ieee.{binary64, add};
 ghost use lib.ListN.{length, take, drop};
 ghost use Rattle.basis.specs.Sizes.{matrixPlaces, maxTerms, sumPlaces};
@@ -16,9 +15,7 @@ ghost use Rattle.value.specs.Power.{powerF};
 ghost use Rattle.samples.specs.Columns.{samplesOf, columnsOf};
 ghost use Rattle.monomial.specs.Terms.{surfaceTerms, termsAt};
 ghost use Rattle.monomial.specs.Rows.{rowOf, rowsOf, rowsAt, fitted as fittedF};
-ghost use Rattle.monomial.specs.Adding.{addOne};
 ghost use Rattle.monomial.specs.Sums.{productOf, addRow, addRows, sumsOf};
-ghost use Rattle.monomial.specs.Parts.{productFrom};
 ghost use Rattle.monomial.specs.Corner.{CornerSet};
 
 // Coefficient × term value, ascending, for the k coefficients.
@@ -262,40 +259,33 @@ pub fn add_corner(
     add_rows_corner(basis, xs, zs, ys, start, end, k, sums);
 }
 
-// Adds a row's products at the last places of the 272, all of them or the 16 of g, to a memory of these.
-fn add_last(places: usize, part: &mut [f64], terms: &[f64; TERMS], y: f64)
-    requires { ⌜ (places ≡ sumPlaces) ⊎ (places ≡ maxTerms) ⌝ }
-    requires { ⌜ places ≤ length (now part) ⌝ }
-    ensures { λ _. ⌜ now (part .exit) ≡ addOne (productFrom (sumPlaces - places)) places (now (part .entry)) (record { terms = now (terms .entry); y = y }) ⌝ }
-{
-    if places == SUMS {
-        add_row(part, terms, y);
-        return;
-    }
-    add_right(part, terms, y);
-}
-
-// The last places of the 272, all of them or the 16 of g, over the first n places of the columns, folded afresh.
-fn fold_last(places: usize, xs: &[f64], ys: &[f64], n: usize, part: &mut [f64])
-    requires { ⌜ (places ≡ sumPlaces) ⊎ (places ≡ maxTerms) ⌝ }
-    requires { ⌜ places ≤ length (now part) ⌝ }
-    requires { ⌜ (n ≤ length (now xs)) × (n ≤ length (now ys)) ⌝ }
-    ensures { λ _. ⌜ now (part .exit) ≡ drop (sumPlaces - places) (sumsOf (rowsOf (samplesOf n (columnsOf (now (xs .entry)) (now (ys .entry)))))) ++ drop places (now (part .entry)) ⌝ }
-{
-    lent::clear(&mut *part, places);
-    for t in 0..n {
-        let terms = value::powers(xs[t]);
-        add_last(places, &mut *part, &terms, ys[t]);
-    }
-}
-
 // The 272 places become the sums over the first n places of the columns, folded afresh.
 pub fn fold_sums(xs: &[f64], ys: &[f64], n: usize, sums: &mut [f64])
     requires { ⌜ sumPlaces ≤ length (now sums) ⌝ }
     requires { ⌜ (n ≤ length (now xs)) × (n ≤ length (now ys)) ⌝ }
     ensures { λ _. ⌜ now (sums .exit) ≡ sumsOf (rowsOf (samplesOf n (columnsOf (now (xs .entry)) (now (ys .entry))))) ++ drop sumPlaces (now (sums .entry)) ⌝ }
 {
-    fold_last(SUMS, xs, ys, n, sums);
+    for k in 0..SUMS {
+        sums[k] = 0.0;
+    }
+    for t in 0..n {
+        add_sample(&mut *sums, xs[t], ys[t]);
+    }
+}
+
+// The first 16 places become g over the first n places of the columns, folded afresh.
+fn fold_right(xs: &[f64], ys: &[f64], n: usize, g: &mut [f64])
+    requires { ⌜ maxTerms ≤ length (now g) ⌝ }
+    requires { ⌜ (n ≤ length (now xs)) × (n ≤ length (now ys)) ⌝ }
+    ensures { λ _. ⌜ now (g .exit) ≡ drop matrixPlaces (sumsOf (rowsOf (samplesOf n (columnsOf (now (xs .entry)) (now (ys .entry)))))) ++ drop maxTerms (now (g .entry)) ⌝ }
+{
+    for k in 0..TERMS {
+        g[k] = 0.0;
+    }
+    for t in 0..n {
+        let terms = value::powers(xs[t]);
+        add_right(&mut *g, &terms, ys[t]);
+    }
 }
 
 // The 16 places of g are folded afresh over the first n places of the columns. A and all other places are untouched.
@@ -304,5 +294,5 @@ pub fn refold_right(xs: &[f64], ys: &[f64], n: usize, sums: &mut [f64])
     requires { ⌜ (n ≤ length (now xs)) × (n ≤ length (now ys)) ⌝ }
     ensures { λ _. ⌜ now (sums .exit) ≡ take matrixPlaces (now (sums .entry)) ++ (drop matrixPlaces (sumsOf (rowsOf (samplesOf n (columnsOf (now (xs .entry)) (now (ys .entry)))))) ++ drop sumPlaces (now (sums .entry))) ⌝ }
 {
-    fold_last(TERMS, xs, ys, n, &mut sums[256..]);
+    fold_right(xs, ys, n, &mut sums[256..]);
 }

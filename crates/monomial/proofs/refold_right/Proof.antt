@@ -1,6 +1,4 @@
 -- `monomial::refold_right` meets its contract: g is folded in the tail that is lent.
-use mathlib.Core.Path.{refl}
-use mathlib.Core.Logic.{inr}
 use borrow.Author.Needs.{needs}
 use lib.ListN.{drop}
 use Rattle.loops.specs.PlaceLaws.{tail-back}
@@ -10,13 +8,10 @@ use Rattle.monomial.specs.Sums.{sumsOf}
 use Rattle.monomial.proofs.refold_right.Statement.{statement}
 use Rattle.monomial.proofs.refold_right.Tie as tie
 
-fold-last-requires : tie.Need-fold-last-requires
-fold-last-requires c κs = (inr refl, search needs)
-
 returns : tie.Need-returns
 returns c =
     let at-args = c .before .before .before .before .before .before .before .args in
-    rw (c .before .before .fold-last .ensures) (tail-back 256 16 (at-args .sums .now) (drop 256 (sumsOf (rowsOf (samplesOf (at-args .n) (columnsOf (at-args .xs .now) (at-args .ys .now)))))))
+    rw (c .before .before .fold-right .ensures) (tail-back 256 16 (at-args .sums .now) (drop 256 (sumsOf (rowsOf (samplesOf (at-args .n) (columnsOf (at-args .xs .now) (at-args .ys .now)))))))
 
 pub refold-right-spec : {M : Type 1} → statement M
 refold-right-spec =
@@ -25,6 +20,6 @@ refold-right-spec =
     (λ c. search needs)
     (λ c. search needs)
     (λ c. search needs)
-    fold-last-requires
+    (λ c κs. search needs)
     (λ c. search needs)
     returns)
