@@ -164,6 +164,12 @@ unfolding table
 table-same f g zero h = refl
 table-same f g (suc n) h = rw (h 0 (omega arith)) (ap (λ l. g 0 ∷ l) (table-same (λ k. f (suc k)) (λ k. g (suc k)) n (λ k q. h (suc k) (omega arith))))
 
+-- a place within a list holds the same whatever stands for a missing one
+pub getD-within : {A : Type 0} (l : List A) (i : ℕ) (d e : A) → i < length l → getD l i d ≡ getD l i e
+getD-within [] i d e h = absurd (omega arith)
+getD-within (a ∷ l) zero d e h = refl
+getD-within (a ∷ l) (suc i) d e h = getD-within l i d e (omega arith)
+
 -- a part of the first n places, and a part of a mapped list
 pub part-take : {A : Type 0} (a m n : ℕ) (l : List A) → a + m ≤ n → take m (drop a (take n l)) ≡ take m (drop a l)
 part-take a zero n l h = refl

@@ -13,9 +13,9 @@ use Rattle.loops.specs.Fold.{fold}
 use Rattle.loops.specs.FoldLaws.{fold-snoc}
 use Rattle.basis.specs.declared.Basis.{Basis}
 use Rattle.monomial.specs.Terms.{termsAt}
-use Rattle.monomial.specs.Rows.{Row, rowAt, rowsAt}
-use Rattle.monomial.specs.RowLaws.{length-rows-at, rows-at-again}
-use Rattle.monomial.specs.Sums.{productOf, addRow, addRows}
+use Rattle.monomial.specs.Rows.{Row, rowAt, WeightedRow, weightedRow, weightAt, weightedAt, weightedRowsAt}
+use Rattle.monomial.specs.RowLaws.{length-weighted-at, weighted-at-again}
+use Rattle.monomial.specs.Sums.{weightedProduct, addRow, addRows}
 use Rattle.monomial.specs.Corner.{SameCorner, CornerSet}
 use Rattle.monomial.specs.CornerLaws.{corner-itself, corner-then, add-row-at, row-corner, length-add-rows}
 
@@ -89,11 +89,11 @@ module _ (f : ℕ → Float → Float) where
 
 -- ---- a row's products
 
-abbrev pub gains : List Float → Float → ℕ → Float → Float
-gains terms y p v = add binary64 v (productOf terms y p)
+abbrev pub gains : WeightedRow → ℕ → Float → Float
+gains r p v = add binary64 v (weightedProduct r p)
 
 -- every line is passed
-pub lines-done : (k : ℕ) (s t : List Float) (r : Row) → k ≤ 16 → 272 ≤ length s → Lines (gains (r .terms) (r .y)) k k s t → CornerSet k (addRow s r) s t
+pub lines-done : (k : ℕ) (s t : List Float) (r : WeightedRow) → k ≤ 16 → 272 ≤ length s → Lines (gains r) k k s t → CornerSet k (addRow s r) s t
 lines-done k s t r fits l w =
     record {
       long = w .long;
@@ -103,29 +103,29 @@ lines-done k s t r fits l w =
 
 -- ---- rows one after the other
 
-pub rows-none : (k start : ℕ) (basis : Basis) (xs zs ys s : List Float) → CornerSet k (addRows s (drop start (rowsAt basis start xs zs ys))) s s
+pub rows-none : (k start : ℕ) (basis : Basis) (xs zs ys ws s : List Float) → CornerSet k (addRows s (drop start (weightedRowsAt basis start xs zs ys ws))) s s
 unfolding fold
-rows-none k start basis xs zs ys s =
-    rw (drop-of-length-le (rowsAt basis start xs zs ys) {i = start} (omega (arith, length-rows-at basis xs zs ys start)))
+rows-none k start basis xs zs ys ws s =
+    rw (drop-of-length-le (weightedRowsAt basis start xs zs ys ws) {i = start} (omega (arith, length-weighted-at basis xs zs ys ws start)))
     (record { long = refl; corner = corner-itself k s; rest = λ p e. refl })
 
-pub rows-more : (k t start : ℕ) (basis : Basis) (xs zs ys s u v terms : List Float) → k ≤ 16 → start ≤ t → 272 ≤ length s
-    → CornerSet k (addRows s (drop start (rowsAt basis t xs zs ys))) s u → terms ≡ termsAt basis (getD xs t nan) (getD zs t nan)
-    → CornerSet k (addRow u (record { terms = terms; y = getD ys t nan })) u v → CornerSet k (addRows s (drop start (rowsAt basis (t + 1) xs zs ys))) s v
-unfolding rowAt
-rows-more k t start basis xs zs ys s u v terms fits h l w e m =
-    rw (rows-at-again basis xs zs ys t, drop-append-le start before (row ∷ []) (omega (arith, length-rows-at basis xs zs ys t)), fold-snoc addRow s (drop start before) row)
+pub rows-more : (k t start : ℕ) (basis : Basis) (xs zs ys ws s u v terms : List Float) (w : Float) → k ≤ 16 → start ≤ t → 272 ≤ length s
+    → CornerSet k (addRows s (drop start (weightedRowsAt basis t xs zs ys ws))) s u → terms ≡ termsAt basis (getD xs t nan) (getD zs t nan) → w ≡ weightAt ws t
+    → CornerSet k (addRow u (weightedRow terms (getD ys t nan) w)) u v → CornerSet k (addRows s (drop start (weightedRowsAt basis (t + 1) xs zs ys ws))) s v
+unfolding rowAt weightedAt
+rows-more k t start basis xs zs ys ws s u v terms a fits h l w e b m =
+    rw (weighted-at-again basis xs zs ys ws t, drop-append-le start before (row ∷ []) (omega (arith, length-weighted-at basis xs zs ys ws t)), fold-snoc addRow s (drop start before) row)
     (record {
       long = m .long ∙ w .long;
       corner = corner-then (same m) (row-corner k fits u (addRows s (drop start before)) row (omega (arith, w .long)) (omega (arith, length-add-rows s (drop start before))) (w .corner));
       rest = λ p q. m .rest p q ∙ w .rest p q;
     })
   where
-    before : List Row
-    before = rowsAt basis t xs zs ys
+    before : List WeightedRow
+    before = weightedRowsAt basis t xs zs ys ws
 
-    row : Row
-    row = rowAt basis xs zs ys t
+    row : WeightedRow
+    row = weightedAt basis xs zs ys ws t
 
-    same : CornerSet k (addRow u (record { terms = terms; y = getD ys t nan })) u v → SameCorner k v (addRow u row)
-    same m = rw e at (m .corner)
+    same : CornerSet k (addRow u (weightedRow terms (getD ys t nan) a)) u v → SameCorner k v (addRow u row)
+    same m = rw b at (rw e at (m .corner))

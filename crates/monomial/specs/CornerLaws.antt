@@ -7,8 +7,8 @@ use lib.ListN.{length, getD}
 use lib.Ieee.{Float, nan, binary64, add}
 use Rattle.loops.specs.Fold.{fold}
 use Rattle.loops.specs.PlaceLaws.{each-at}
-use Rattle.monomial.specs.Rows.{Row}
-use Rattle.monomial.specs.Sums.{productOf, addRow, addRows}
+use Rattle.monomial.specs.Rows.{WeightedRow}
+use Rattle.monomial.specs.Sums.{weightedProduct, addRow, addRows}
 use Rattle.monomial.specs.SumLaws.{length-add-row}
 use Rattle.monomial.specs.Corner.{SameCorner}
 
@@ -23,25 +23,25 @@ pub smaller-corner : (j k : ℕ) (s t : List Float) → j ≤ k → SameCorner k
 smaller-corner j k s t h w = record { matrix = λ i c a b. w .matrix i c (omega arith) (omega arith); right = λ i a. w .right i (omega arith) }
 
 -- a place of the sums after a row
-pub add-row-at : (s : List Float) (r : Row) (p : ℕ) → 272 ≤ length s → p < 272 → getD (addRow s r) p nan ≡ add binary64 (getD s p nan) (productOf (r .terms) (r .y) p)
+pub add-row-at : (s : List Float) (r : WeightedRow) (p : ℕ) → 272 ≤ length s → p < 272 → getD (addRow s r) p nan ≡ add binary64 (getD s p nan) (weightedProduct r p)
 unfolding addRow
-add-row-at s r p h g = each-at (λ k v. add binary64 v (productOf (r .terms) (r .y) k)) 272 s p nan g (omega arith)
+add-row-at s r p h g = each-at (λ k v. add binary64 v (weightedProduct r k)) 272 s p nan g (omega arith)
 
-pub length-add-rows : (s : List Float) (rs : List Row) → length (addRows s rs) ≡ length s
+pub length-add-rows : (s : List Float) (rs : List WeightedRow) → length (addRows s rs) ≡ length s
 unfolding fold
 length-add-rows s [] = refl
 length-add-rows s (r ∷ rs) = length-add-rows (addRow s r) rs ∙ length-add-row s r
 
 module _ (k : ℕ) (fits : k ≤ 16) where
   -- one row more
-  pub row-corner : (s t : List Float) (r : Row) → 272 ≤ length s → 272 ≤ length t → SameCorner k s t → SameCorner k (addRow s r) (addRow t r)
+  pub row-corner : (s t : List Float) (r : WeightedRow) → 272 ≤ length s → 272 ≤ length t → SameCorner k s t → SameCorner k (addRow s r) (addRow t r)
   row-corner s t r h g w = record { matrix = λ i j a b. place (16 * i + j) (omega arith) (w .matrix i j a b); right = λ i a. place (256 + i) (omega arith) (w .right i a) }
     where
       place : (p : ℕ) → p < 272 → getD s p nan ≡ getD t p nan → getD (addRow s r) p nan ≡ getD (addRow t r) p nan
-      place p l e = add-row-at s r p h l ∙ ap (λ v. add binary64 v (productOf (r .terms) (r .y) p)) e ∙ sym (add-row-at t r p g l)
+      place p l e = add-row-at s r p h l ∙ ap (λ v. add binary64 v (weightedProduct r p)) e ∙ sym (add-row-at t r p g l)
 
   -- any number of rows more
-  pub rows-corner : (s t : List Float) (rs : List Row) → 272 ≤ length s → 272 ≤ length t → SameCorner k s t → SameCorner k (addRows s rs) (addRows t rs)
+  pub rows-corner : (s t : List Float) (rs : List WeightedRow) → 272 ≤ length s → 272 ≤ length t → SameCorner k s t → SameCorner k (addRows s rs) (addRows t rs)
   unfolding fold
   rows-corner s t [] h g w = w
   rows-corner s t (r ∷ rs) h g w =

@@ -6,7 +6,9 @@ pub mod RowLaws
 pub mod Adding
 pub mod AddingLaws
 pub mod Sums
+pub mod Plain
 pub mod Parts
 pub mod SumLaws
+pub mod PlainLaws
 pub mod Corner
 pub mod CornerLaws

@@ -2,13 +2,22 @@
 use mathlib.Core.List.{List, map}
 use Prim.Native.Nat.{ℕ, _+_}
 use lib.Ieee.{Float}
-use Rattle.monomial.specs.Rows.{Row}
-use Rattle.monomial.specs.Sums.{productOf}
+use Rattle.value.specs.Numbers.{zeroF}
+use Rattle.samples.specs.Samples.{Sample}
+use Rattle.monomial.specs.Rows.{WeightedRow, weightedRow}
+use Rattle.monomial.specs.Sums.{weightedProduct}
 
--- A is made from the term values alone, so that samples with equal term values have one A
-abbrev pub termsOf : List Row → List (List Float)
-termsOf rs = map (λ (r : Row). r .terms) rs
+-- A is made from the term values and the weights alone, so that rows which differ in y have one A
+abbrev pub withoutY : WeightedRow → WeightedRow
+withoutY r = weightedRow (r .row .terms) zeroF (r .weight)
+
+-- a sample without its y
+abbrev pub yAside : Sample → Sample
+yAside p = record { x = p .x; y = zeroF; w = p .w }
+
+abbrev pub termsOf : List WeightedRow → List WeightedRow
+termsOf rs = map withoutY rs
 
 -- g is the last 16 of the 272: what each row adds from place 256 on
-abbrev pub rightProduct : Row → ℕ → Float
-rightProduct r i = productOf (r .terms) (r .y) (256 + i)
+abbrev pub rightProduct : WeightedRow → ℕ → Float
+rightProduct r i = weightedProduct r (256 + i)

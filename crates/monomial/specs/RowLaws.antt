@@ -1,17 +1,19 @@
 -- Laws of Rows.antt.
-use mathlib.Core.Path.{_≡_, ap, _∙_}
+use mathlib.Core.Path.{_≡_, sym, ap, _∙_}
 use mathlib.Core.List.{List, [], _∷_, _++_, map}
 use Prim.Native.Nat.{ℕ, _+_, _≤_}
+use native.Mathlib.Omega.{arith}
 use lib.ListN.{length, take, drop}
-use lib.Ieee.{Float}
+use lib.Ieee.{Float, nan}
 use Rattle.loops.specs.Places.{each, table}
-use Rattle.loops.specs.PlaceLaws.{table-again, take-table, length-table, map-table, each-write}
+use Rattle.loops.specs.PlaceLaws.{table-again, take-table, length-table, map-table, table-same, each-write, getD-within}
+use Rattle.value.specs.Numbers.{oneF}
 use Rattle.basis.specs.declared.Basis.{Basis}
 use Rattle.basis.specs.declared.Basis.the-variants.{Curve}
-use Rattle.samples.specs.Columns.{samplesOf, columnsOf}
+use Rattle.samples.specs.Columns.{sampleAt, samplesOf, columnsOf}
 use Rattle.samples.specs.ColumnLaws.{map-samples}
 use Rattle.monomial.specs.Terms.{termsAt}
-use Rattle.monomial.specs.Rows.{Row, rowAt, rowsAt, rowOf, rowsOf}
+use Rattle.monomial.specs.Rows.{Row, rowAt, rowsAt, rowOf, rowsOf, WeightedRow, weightedAt, weightedRowsAt, weightedOf, weightedRows, rowsIn}
 
 module _ (basis : Basis) (xs zs ys : List Float) where
   pub length-rows-at : (n : ℕ) → length (rowsAt basis n xs zs ys) ≡ n
@@ -39,6 +41,33 @@ module _ (basis : Basis) (xs zs ys : List Float) where
   each-rows-at g n s h = each-write (λ t. g (rowAt basis xs zs ys t)) n s h ∙ ap (λ l. l ++ drop n s) (map-rows-at g n)
 
 -- a curve's rows are those of the samples, whatever is lent for zs
-pub curve-rows : (n : ℕ) (xs zs ys : List Float) → rowsAt Curve n xs zs ys ≡ rowsOf (samplesOf n (columnsOf xs ys))
+pub curve-rows : (n : ℕ) (xs zs ys ws : List Float) → rowsAt Curve n xs zs ys ≡ rowsOf (samplesOf n (columnsOf xs ys ws))
 unfolding rowsAt rowAt rowOf termsAt
-curve-rows n xs zs ys = map-samples n (columnsOf xs ys) rowOf
+curve-rows n xs zs ys ws = map-samples n (columnsOf xs ys ws) rowOf
+
+-- ---- with weights
+
+module _ (basis : Basis) (xs zs ys ws : List Float) where
+  pub length-weighted-at : (n : ℕ) → length (weightedRowsAt basis n xs zs ys ws) ≡ n
+  unfolding weightedRowsAt
+  length-weighted-at n = length-table (weightedAt basis xs zs ys ws) n
+
+  pub weighted-at-again : (n : ℕ) → weightedRowsAt basis (n + 1) xs zs ys ws ≡ weightedRowsAt basis n xs zs ys ws ++ (weightedAt basis xs zs ys ws n ∷ [])
+  unfolding weightedRowsAt
+  weighted-at-again n = table-again (weightedAt basis xs zs ys ws) n
+
+  pub weighted-at-take : (m n : ℕ) → m ≤ n → take m (weightedRowsAt basis n xs zs ys ws) ≡ weightedRowsAt basis m xs zs ys ws
+  unfolding weightedRowsAt
+  weighted-at-take m n h = take-table (weightedAt basis xs zs ys ws) m n h
+
+  -- without their weights they are the rows
+  pub rows-in-weighted : (n : ℕ) → rowsIn (weightedRowsAt basis n xs zs ys ws) ≡ rowsAt basis n xs zs ys
+  unfolding weightedRowsAt rowsAt weightedAt
+  rows-in-weighted n = sym (map-table (λ (r : WeightedRow). r .row) (weightedAt basis xs zs ys ws) n)
+
+-- a curve's are those of the samples, where each has a weight
+pub curve-weighted : (n : ℕ) (xs zs ys ws : List Float) → n ≤ length ws → weightedRowsAt Curve n xs zs ys ws ≡ weightedRows (samplesOf n (columnsOf xs ys ws))
+unfolding weightedRowsAt weightedAt rowAt rowOf termsAt
+curve-weighted n xs zs ys ws h =
+    table-same (weightedAt Curve xs zs ys ws) (λ t. weightedOf (sampleAt (columnsOf xs ys ws) t)) n (λ t b. λ i. record { row = rowAt Curve xs zs ys t; weight = getD-within ws t oneF nan (omega arith) i })
+    ∙ map-samples n (columnsOf xs ys ws) weightedOf

@@ -9,13 +9,13 @@ ghost use Prim.Native.Nat.{_+_, _≤_};
 ghost use lib.Ieee.{binary64, add};
 ghost use lib.ListN.{length, take, drop};
 ghost use Rattle.basis.specs.Sizes.{matrixPlaces, maxTerms, sumPlaces};
+ghost use Rattle.basis.specs.declared.Basis.the-variants.{Curve};
 ghost use Rattle.loops.specs.Places.{each, table};
 ghost use Rattle.value.specs.Numbers.{zeroF};
 ghost use Rattle.value.specs.Power.{powerF};
-ghost use Rattle.samples.specs.Columns.{samplesOf, columnsOf};
 ghost use Rattle.monomial.specs.Terms.{surfaceTerms, termsAt};
-ghost use Rattle.monomial.specs.Rows.{rowOf, rowsOf, rowsAt, fitted as fittedF};
-ghost use Rattle.monomial.specs.Sums.{productOf, addRow, addRows, sumsOf};
+ghost use Rattle.monomial.specs.Rows.{weightedRow, weightAt, weightedRowsAt, fitted as fittedF};
+ghost use Rattle.monomial.specs.Sums.{weightedProduct, addRow, addRows, sumsOf};
 ghost use Rattle.monomial.specs.Corner.{CornerSet};
 
 // Coefficient × term value, ascending, for the k coefficients.
@@ -128,75 +128,85 @@ pub fn fitted_at(basis: Basis, k: CoefficientCount, c: &[f64; TERMS], x: f64, z:
     }
 }
 
-// Adds the products of two term values to the 256 places of A.
-fn add_matrix(sums: &mut [f64], terms: &[f64; TERMS])
+// The weight of place t; 1 where no weight is lent.
+fn weight_at(ws: &[f64], t: usize) -> f64
+    ensures { λ r. ⌜ r ≡ weightAt (now (ws .entry)) t ⌝ }
+{
+    if t < ws.len() {
+        return ws[t];
+    }
+    1.0
+}
+
+// Adds the weighted products of two term values to the 256 places of A.
+fn add_matrix(sums: &mut [f64], terms: &[f64; TERMS], w: f64)
     requires { ⌜ matrixPlaces ≤ length (now sums) ⌝ }
-    ensures { λ _. ⌜ now (sums .exit) ≡ each (λ k v. add binary64 v (productOf (now (terms .entry)) zeroF k)) matrixPlaces (now (sums .entry)) ⌝ }
+    ensures { λ _. ⌜ now (sums .exit) ≡ each (λ k v. add binary64 v (weightedProduct (weightedRow (now (terms .entry)) zeroF w) k)) matrixPlaces (now (sums .entry)) ⌝ }
 {
     for i in 0..TERMS {
         let t = terms[i];
         for j in 0..TERMS {
             let at = 16 * i + j;
-            sums[at] = sums[at] + t * terms[j];
+            sums[at] = sums[at] + (t * terms[j]) * w;
         }
     }
 }
 
-// Adds the products of a term value and y to the 16 places of g.
-fn add_right(g: &mut [f64], terms: &[f64; TERMS], y: f64)
+// Adds the weighted products of a term value and y to the 16 places of g.
+fn add_right(g: &mut [f64], terms: &[f64; TERMS], y: f64, w: f64)
     requires { ⌜ maxTerms ≤ length (now g) ⌝ }
-    ensures { λ _. ⌜ now (g .exit) ≡ each (λ i v. add binary64 v (productOf (now (terms .entry)) y (matrixPlaces + i))) 16 (now (g .entry)) ⌝ }
+    ensures { λ _. ⌜ now (g .exit) ≡ each (λ i v. add binary64 v (weightedProduct (weightedRow (now (terms .entry)) y w) (matrixPlaces + i))) 16 (now (g .entry)) ⌝ }
 {
     for i in 0..TERMS {
-        g[i] = g[i] + terms[i] * y;
+        g[i] = g[i] + (terms[i] * y) * w;
     }
 }
 
-// Adds the products of a row to what stands at the 272 places.
-pub fn add_row(sums: &mut [f64], terms: &[f64; TERMS], y: f64)
+// Adds the weighted products of a row to what stands at the 272 places.
+pub fn add_row(sums: &mut [f64], terms: &[f64; TERMS], y: f64, w: f64)
     requires { ⌜ sumPlaces ≤ length (now sums) ⌝ }
-    ensures { λ _. ⌜ now (sums .exit) ≡ addRow (now (sums .entry)) (record { terms = now (terms .entry); y = y }) ⌝ }
+    ensures { λ _. ⌜ now (sums .exit) ≡ addRow (now (sums .entry)) (weightedRow (now (terms .entry)) y w) ⌝ }
 {
-    add_matrix(&mut *sums, terms);
-    add_right(&mut sums[256..], terms, y);
+    add_matrix(&mut *sums, terms, w);
+    add_right(&mut sums[256..], terms, y, w);
 }
 
-// Adds a sample's products to what stands at the 272 places.
-pub fn add_sample(sums: &mut [f64], x: f64, y: f64)
+// Adds a sample's weighted products to what stands at the 272 places.
+pub fn add_sample(sums: &mut [f64], x: f64, y: f64, w: f64)
     requires { ⌜ sumPlaces ≤ length (now sums) ⌝ }
-    ensures { λ _. ⌜ now (sums .exit) ≡ addRow (now (sums .entry)) (rowOf (record { x = x; y = y })) ⌝ }
+    ensures { λ _. ⌜ now (sums .exit) ≡ addRow (now (sums .entry)) (weightedRow (table (powerF x) maxTerms) y w) ⌝ }
 {
     let terms = value::powers(x);
-    add_row(&mut *sums, &terms, y);
+    add_row(&mut *sums, &terms, y, w);
 }
 
-// Adds the products of a row in the corner of k rows and columns of A and in the first k places of g, line by line.
-fn add_lines(sums: &mut [f64], k: CoefficientCount, terms: &[f64; TERMS], y: f64)
+// Adds the weighted products of a row in the corner of k rows and columns of A and in the first k places of g, line by line.
+fn add_lines(sums: &mut [f64], k: CoefficientCount, terms: &[f64; TERMS], y: f64, w: f64)
     requires { ⌜ (sumPlaces ≤ length (now sums)) × (k .0 ≤ maxTerms) ⌝ }
-    ensures { λ _. ⌜ CornerSet (k .0) (addRow (now (sums .entry)) (record { terms = now (terms .entry); y = y })) (now (sums .entry)) (now (sums .exit)) ⌝ }
+    ensures { λ _. ⌜ CornerSet (k .0) (addRow (now (sums .entry)) (weightedRow (now (terms .entry)) y w)) (now (sums .entry)) (now (sums .exit)) ⌝ }
 {
     let n = k.0;
     for i in 0..n {
         let t = terms[i];
         for j in 0..n {
             let at = 16 * i + j;
-            sums[at] = sums[at] + t * terms[j];
+            sums[at] = sums[at] + (t * terms[j]) * w;
         }
         let g = 256 + i;
-        sums[g] = sums[g] + t * y;
+        sums[g] = sums[g] + (t * y) * w;
     }
 }
 
 // The same. The 16 of the whole is written out, so that its loops are unrolled.
-fn add_row_corner(sums: &mut [f64], k: CoefficientCount, terms: &[f64; TERMS], y: f64)
+fn add_row_corner(sums: &mut [f64], k: CoefficientCount, terms: &[f64; TERMS], y: f64, w: f64)
     requires { ⌜ (sumPlaces ≤ length (now sums)) × (k .0 ≤ maxTerms) ⌝ }
-    ensures { λ _. ⌜ CornerSet (k .0) (addRow (now (sums .entry)) (record { terms = now (terms .entry); y = y })) (now (sums .entry)) (now (sums .exit)) ⌝ }
+    ensures { λ _. ⌜ CornerSet (k .0) (addRow (now (sums .entry)) (weightedRow (now (terms .entry)) y w)) (now (sums .entry)) (now (sums .exit)) ⌝ }
 {
     if k.0 == 16 {
-        add_lines(sums, CoefficientCount(16), terms, y);
+        add_lines(sums, CoefficientCount(16), terms, y, w);
         return;
     }
-    add_lines(sums, k, terms, y);
+    add_lines(sums, k, terms, y, w);
 }
 
 // Adds the rows of the places from start on and before end in that corner.
@@ -205,17 +215,18 @@ fn add_rows_corner(
     xs: &[f64],
     zs: &[f64],
     ys: &[f64],
+    ws: &[f64],
     start: usize,
     end: usize,
     k: CoefficientCount,
     sums: &mut [f64],
 )
     requires { ⌜ (start ≤ end) × (end ≤ length (now xs)) × (end ≤ length (now zs)) × (end ≤ length (now ys)) × (k .0 ≤ maxTerms) × (sumPlaces ≤ length (now sums)) ⌝ }
-    ensures { λ _. ⌜ CornerSet (k .0) (addRows (now (sums .entry)) (drop start (rowsAt basis end (now (xs .entry)) (now (zs .entry)) (now (ys .entry))))) (now (sums .entry)) (now (sums .exit)) ⌝ }
+    ensures { λ _. ⌜ CornerSet (k .0) (addRows (now (sums .entry)) (drop start (weightedRowsAt basis end (now (xs .entry)) (now (zs .entry)) (now (ys .entry)) (now (ws .entry))))) (now (sums .entry)) (now (sums .exit)) ⌝ }
 {
     for t in start..end {
         let terms = terms_at(basis, xs[t], zs[t]);
-        add_row_corner(&mut *sums, k, &terms, ys[t]);
+        add_row_corner(&mut *sums, k, &terms, ys[t], weight_at(ws, t));
     }
 }
 
@@ -225,16 +236,17 @@ fn add_rows_cubic(
     xs: &[f64],
     zs: &[f64],
     ys: &[f64],
+    ws: &[f64],
     start: usize,
     end: usize,
     sums: &mut [f64],
 )
     requires { ⌜ (start ≤ end) × (end ≤ length (now xs)) × (end ≤ length (now zs)) × (end ≤ length (now ys)) × (sumPlaces ≤ length (now sums)) ⌝ }
-    ensures { λ _. ⌜ CornerSet 4 (addRows (now (sums .entry)) (drop start (rowsAt basis end (now (xs .entry)) (now (zs .entry)) (now (ys .entry))))) (now (sums .entry)) (now (sums .exit)) ⌝ }
+    ensures { λ _. ⌜ CornerSet 4 (addRows (now (sums .entry)) (drop start (weightedRowsAt basis end (now (xs .entry)) (now (zs .entry)) (now (ys .entry)) (now (ws .entry))))) (now (sums .entry)) (now (sums .exit)) ⌝ }
 {
     for t in start..end {
         let terms = terms_at(basis, xs[t], zs[t]);
-        add_lines(&mut *sums, CoefficientCount(4), &terms, ys[t]);
+        add_lines(&mut *sums, CoefficientCount(4), &terms, ys[t], weight_at(ws, t));
     }
 }
 
@@ -244,55 +256,56 @@ pub fn add_corner(
     xs: &[f64],
     zs: &[f64],
     ys: &[f64],
+    ws: &[f64],
     start: usize,
     end: usize,
     k: CoefficientCount,
     sums: &mut [f64],
 )
     requires { ⌜ (start ≤ end) × (end ≤ length (now xs)) × (end ≤ length (now zs)) × (end ≤ length (now ys)) × (k .0 ≤ maxTerms) × (sumPlaces ≤ length (now sums)) ⌝ }
-    ensures { λ _. ⌜ CornerSet (k .0) (addRows (now (sums .entry)) (drop start (rowsAt basis end (now (xs .entry)) (now (zs .entry)) (now (ys .entry))))) (now (sums .entry)) (now (sums .exit)) ⌝ }
+    ensures { λ _. ⌜ CornerSet (k .0) (addRows (now (sums .entry)) (drop start (weightedRowsAt basis end (now (xs .entry)) (now (zs .entry)) (now (ys .entry)) (now (ws .entry))))) (now (sums .entry)) (now (sums .exit)) ⌝ }
 {
     if k.0 == 4 {
-        add_rows_cubic(basis, xs, zs, ys, start, end, sums);
+        add_rows_cubic(basis, xs, zs, ys, ws, start, end, sums);
         return;
     }
-    add_rows_corner(basis, xs, zs, ys, start, end, k, sums);
+    add_rows_corner(basis, xs, zs, ys, ws, start, end, k, sums);
 }
 
 // The 272 places become the sums over the first n places of the columns, folded afresh.
-pub fn fold_sums(xs: &[f64], ys: &[f64], n: usize, sums: &mut [f64])
+pub fn fold_sums(xs: &[f64], ys: &[f64], ws: &[f64], n: usize, sums: &mut [f64])
     requires { ⌜ sumPlaces ≤ length (now sums) ⌝ }
     requires { ⌜ (n ≤ length (now xs)) × (n ≤ length (now ys)) ⌝ }
-    ensures { λ _. ⌜ now (sums .exit) ≡ sumsOf (rowsOf (samplesOf n (columnsOf (now (xs .entry)) (now (ys .entry))))) ++ drop sumPlaces (now (sums .entry)) ⌝ }
+    ensures { λ _. ⌜ now (sums .exit) ≡ sumsOf (weightedRowsAt Curve n (now (xs .entry)) (now (xs .entry)) (now (ys .entry)) (now (ws .entry))) ++ drop sumPlaces (now (sums .entry)) ⌝ }
 {
     for k in 0..SUMS {
         sums[k] = 0.0;
     }
     for t in 0..n {
-        add_sample(&mut *sums, xs[t], ys[t]);
+        add_sample(&mut *sums, xs[t], ys[t], weight_at(ws, t));
     }
 }
 
 // The first 16 places become g over the first n places of the columns, folded afresh.
-fn fold_right(xs: &[f64], ys: &[f64], n: usize, g: &mut [f64])
+fn fold_right(xs: &[f64], ys: &[f64], ws: &[f64], n: usize, g: &mut [f64])
     requires { ⌜ maxTerms ≤ length (now g) ⌝ }
     requires { ⌜ (n ≤ length (now xs)) × (n ≤ length (now ys)) ⌝ }
-    ensures { λ _. ⌜ now (g .exit) ≡ drop matrixPlaces (sumsOf (rowsOf (samplesOf n (columnsOf (now (xs .entry)) (now (ys .entry)))))) ++ drop maxTerms (now (g .entry)) ⌝ }
+    ensures { λ _. ⌜ now (g .exit) ≡ drop matrixPlaces (sumsOf (weightedRowsAt Curve n (now (xs .entry)) (now (xs .entry)) (now (ys .entry)) (now (ws .entry)))) ++ drop maxTerms (now (g .entry)) ⌝ }
 {
     for k in 0..TERMS {
         g[k] = 0.0;
     }
     for t in 0..n {
         let terms = value::powers(xs[t]);
-        add_right(&mut *g, &terms, ys[t]);
+        add_right(&mut *g, &terms, ys[t], weight_at(ws, t));
     }
 }
 
 // The 16 places of g are folded afresh over the first n places of the columns. A and all other places are untouched.
-pub fn refold_right(xs: &[f64], ys: &[f64], n: usize, sums: &mut [f64])
+pub fn refold_right(xs: &[f64], ys: &[f64], ws: &[f64], n: usize, sums: &mut [f64])
     requires { ⌜ sumPlaces ≤ length (now sums) ⌝ }
     requires { ⌜ (n ≤ length (now xs)) × (n ≤ length (now ys)) ⌝ }
-    ensures { λ _. ⌜ now (sums .exit) ≡ take matrixPlaces (now (sums .entry)) ++ (drop matrixPlaces (sumsOf (rowsOf (samplesOf n (columnsOf (now (xs .entry)) (now (ys .entry)))))) ++ drop sumPlaces (now (sums .entry))) ⌝ }
+    ensures { λ _. ⌜ now (sums .exit) ≡ take matrixPlaces (now (sums .entry)) ++ (drop matrixPlaces (sumsOf (weightedRowsAt Curve n (now (xs .entry)) (now (xs .entry)) (now (ys .entry)) (now (ws .entry)))) ++ drop sumPlaces (now (sums .entry))) ⌝ }
 {
-    fold_right(xs, ys, n, &mut sums[256..]);
+    fold_right(xs, ys, ws, n, &mut sums[256..]);
 }

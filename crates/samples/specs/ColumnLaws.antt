@@ -8,25 +8,27 @@ use Rattle.loops.specs.All.{All}
 use Rattle.loops.specs.Places.{table}
 use Rattle.loops.specs.PlaceLaws.{table-again, length-table, map-table, table-take}
 use Rattle.samples.specs.Samples.{Sample}
-use Rattle.samples.specs.Columns.{Column, ofX, ofY, every, value, Columns, columnsOf, lengths, sampleAt, samplesOf}
+use Rattle.samples.specs.Columns.{Column, ofX, ofY, ofW, every, value, Columns, columnsOf, lengths, sampleAt, samplesOf}
 
 -- no column is left out of the list
 pub every-column : (k : Column) → List·Memᴰ k every
 every-column ofX = List·Memᴰ·head refl
 every-column ofY = List·Memᴰ·tail (List·Memᴰ·head refl)
+every-column ofW = List·Memᴰ·tail (List·Memᴰ·tail (List·Memᴰ·head refl))
 
 -- what holds of all lengths holds of each column's
 pub of-every : (P : ℕ → Type 0) (c : Columns) → All P (lengths c) → (k : Column) → P (length (c k))
 of-every P c a ofX = a .0
 of-every P c a ofY = a .1 .0
+of-every P c a ofW = a .1 .1 .0
 
 -- columns of the same lengths
 pub lengths-same : (c d : Columns) → ((k : Column) → length (c k) ≡ length (d k)) → lengths c ≡ lengths d
-lengths-same c d e = λ i. e ofX i ∷ e ofY i ∷ []
+lengths-same c d e = λ i. e ofX i ∷ e ofY i ∷ e ofW i ∷ []
 
 -- columns are what each of them is
-pub columns-are : {c : Columns} {xs ys : List Float} → xs ≡ c ofX → ys ≡ c ofY → columnsOf xs ys ≡ c
-columns-are e f = fun-ext (elim [ ofX ↦ e | ofY ↦ f ])
+pub columns-are : {c : Columns} {xs ys ws : List Float} → xs ≡ c ofX → ys ≡ c ofY → ws ≡ c ofW → columnsOf xs ys ws ≡ c
+columns-are e f g = fun-ext (elim [ ofX ↦ e | ofY ↦ f | ofW ↦ g ])
 
 -- ---- the samples of the first n places
 
@@ -49,3 +51,4 @@ module _ (n : ℕ) (c : Columns) where
   pub column-of-samples : (k : Column) → n ≤ length (c k) → map (value k) (samplesOf n c) ≡ take n (c k)
   column-of-samples ofX h = sym (map-samples (value ofX)) ∙ table-take nan n (c ofX) h
   column-of-samples ofY h = sym (map-samples (value ofY)) ∙ table-take nan n (c ofY) h
+  column-of-samples ofW h = sym (map-samples (value ofW)) ∙ table-take nan n (c ofW) h

@@ -1,4 +1,4 @@
--- Where a float step changes nothing: a double is the nearest to its own value, so 1 × b is b.
+-- Where a float step changes nothing: a double is the nearest to its own value, so 1 × b and b × 1 are b.
 use mathlib.Core.Path.{_≡_, refl, sym, ap, subst, _∙_}
 use mathlib.Core.Bool.{Bool, true, false, _&&_}
 use Prim.Native.Nat.{ℕ, zero, suc, _*_, _%_, _^_, _<_}
@@ -9,7 +9,7 @@ use lib.IntN.{ℤ, pos, negsuc}
 use lib.Pow.{pow-pos}
 use lib.Ieee.{Float, nan, inf, fin, binary64, round, mul, fits, up, down, ofBits}
 use lib.Ieee.Exact.{HasValue, round-exact}
-use lib.Ieee.Fits.{and-l, down-pos, up-pos, round-fits}
+use lib.Ieee.Fits.{and-l, down-pos, up-pos, round-fits, mul-fits}
 use Rattle.value.specs.AbsoluteLaws.{flat}
 use Rattle.value.specs.Numbers.{oneF}
 use Rattle.value.specs.GridLaws.{place, says}
@@ -97,3 +97,18 @@ one-times (fin true zero e) h = rw (flat e (eqb→eq (up e * down e) 1 h))
 one-times (fin false zero e) h = rw (flat e (eqb→eq (up e * down e) 1 h))
 one-times (fin true (suc m) e) h = rw (one-mul (suc m * up e), one-mul (down e)) (round-itself true m e h)
 one-times (fin false (suc m) e) h = rw (one-mul (suc m * up e), one-mul (down e)) (round-itself false m e h)
+
+-- a × 1 is a
+pub times-one : (a : Float) → T (fits binary64 a) → mul binary64 a oneF ≡ a
+unfolding mul ofBits fits round
+times-one nan h = refl
+times-one (inf true) h = refl
+times-one (inf false) h = refl
+times-one (fin true zero e) h = rw (flat e (eqb→eq (up e * down e) 1 h))
+times-one (fin false zero e) h = rw (flat e (eqb→eq (up e * down e) 1 h))
+times-one (fin true (suc m) e) h = rw (mul-one (suc m * up e), mul-one (down e)) (round-itself true m e h)
+times-one (fin false (suc m) e) h = rw (mul-one (suc m * up e), mul-one (down e)) (round-itself false m e h)
+
+-- (a × b) × 1 is a × b, whatever a and b are: a product is a double
+pub product-times-one : (a b : Float) → mul binary64 (mul binary64 a b) oneF ≡ mul binary64 a b
+product-times-one a b = times-one (mul binary64 a b) (mul-fits binary64 a b)

@@ -7,7 +7,7 @@ use Rattle.monomial.proofs.add_corner.Tie as tie
 
 returns : tie.Need-returns
 returns c =
-    let at-args = c .before .before .before .before .before .before .before .before .before .before .args in
+    let at-args = c .before .before .before .before .before .before .before .before .before .before .before .args in
     let z : at-args .k .0 ≡ 4 = omega arith in
     rw z (c .before .before .add-rows-cubic .ensures)
 

@@ -13,17 +13,17 @@ use Rattle.monomial.proofs.add_matrix.Statement.{statement}
 use Rattle.monomial.proofs.add_matrix.Tie as tie
 
 abbrev Inv-loop2 : tie.InvT-loop2
-Inv-loop2 sums₀ terms i t j₀ sums j =
-    (j ≤ 16) × (length sums ≡ length sums₀) × ((s : List Float) → 256 ≤ length s → sums₀ ≡ addedA terms (16 * i) s → sums ≡ addedA terms (16 * i + j) s)
+Inv-loop2 sums₀ terms w i t j₀ sums j =
+    (j ≤ 16) × (length sums ≡ length sums₀) × ((s : List Float) → 256 ≤ length s → sums₀ ≡ addedA terms w (16 * i) s → sums ≡ addedA terms w (16 * i + j) s)
 
 abbrev μ-loop2 : tie.MeasureT-loop2
-μ-loop2 sums₀ terms i t j₀ sums j = 16 - j
+μ-loop2 sums₀ terms w i t j₀ sums j = 16 - j
 
 abbrev Inv-loop : tie.InvT-loop
-Inv-loop sums₀ terms i₀ sums i = (i ≤ 16) × (length sums ≡ length sums₀) × (sums ≡ addedA terms (16 * i) sums₀)
+Inv-loop sums₀ terms w i₀ sums i = (i ≤ 16) × (length sums ≡ length sums₀) × (sums ≡ addedA terms w (16 * i) sums₀)
 
 abbrev μ-loop : tie.MeasureT-loop
-μ-loop sums₀ terms i₀ sums i = 16 - i
+μ-loop sums₀ terms w i₀ sums i = 16 - i
 
 loop-holds : tie.Need-loop-holds Inv-loop2 μ-loop2 Inv-loop μ-loop
 unfolding each
@@ -39,7 +39,7 @@ loop2-again c =
     let at-loop2 = c .before .before .before .loop2 in
     let at-args = c .before .before .before .before .before .before .before .args in
     let at-loop = c .before .before .before .before .before .before .loop in
-    (search needs, simp length-set (at-loop2 .inv .1), λ s h e. rw (at-loop2 .inv .2 s h e) (add-place (at-args .terms .now) (at-loop .i) (at-loop2 .j) s (search needs) (search needs) h))
+    (search needs, simp length-set (at-loop2 .inv .1), λ s h e. rw (at-loop2 .inv .2 s h e) (add-place (at-args .terms .now) (at-args .w) (at-loop .i) (at-loop2 .j) s (search needs) (search needs) h))
 
 loop-again : tie.Need-loop-again Inv-loop2 μ-loop2 Inv-loop μ-loop
 loop-again c =

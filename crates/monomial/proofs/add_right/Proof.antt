@@ -7,16 +7,17 @@ use lib.ListN.{length, length-set}
 use lib.Ieee.{nan}
 use Rattle.loops.specs.Places.{each}
 use Rattle.loops.specs.PlaceLaws.{each-again}
-use Rattle.monomial.specs.SumLaws.{product-right}
+use Rattle.monomial.specs.SumLaws.{weighted-right}
+use Rattle.monomial.specs.Rows.{weightedRow}
 use Rattle.monomial.proofs.Parts.{addedG}
 use Rattle.monomial.proofs.add_right.Statement.{statement}
 use Rattle.monomial.proofs.add_right.Tie as tie
 
 abbrev Inv-loop : tie.InvT-loop
-Inv-loop g₀ terms y i₀ g i = (i ≤ 16) × (length g ≡ length g₀) × (g ≡ addedG terms y i g₀)
+Inv-loop g₀ terms y w i₀ g i = (i ≤ 16) × (length g ≡ length g₀) × (g ≡ addedG (weightedRow terms y w) i g₀)
 
 abbrev μ-loop : tie.MeasureT-loop
-μ-loop g₀ terms y i₀ g i = 16 - i
+μ-loop g₀ terms y w i₀ g i = 16 - i
 
 loop-holds : tie.Need-loop-holds Inv-loop μ-loop
 unfolding each
@@ -26,7 +27,7 @@ loop-again : tie.Need-loop-again Inv-loop μ-loop
 loop-again c =
     let at-loop = c .before .before .before .loop in
     let at-args = c .before .before .before .before .args in
-    (search needs, simp length-set (at-loop .inv .1), rw (at-loop .inv .2, sym (product-right (at-args .terms .now) (at-args .y) (at-loop .i))) (each-again _ _ _ nan (search needs)))
+    (search needs, simp length-set (at-loop .inv .1), rw (at-loop .inv .2, sym (weighted-right (at-args .terms .now) (at-args .y) (at-args .w) (at-loop .i))) (each-again _ _ _ nan (search needs)))
 
 returns : tie.Need-returns Inv-loop μ-loop
 returns c =

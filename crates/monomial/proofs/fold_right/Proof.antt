@@ -9,8 +9,9 @@ use Rattle.value.specs.Numbers.{zeroF}
 use Rattle.loops.specs.Fold.{fold}
 use Rattle.loops.specs.Places.{each, table}
 use Rattle.loops.specs.PlaceLaws.{each-again}
-use Rattle.samples.specs.Columns.{samplesOf, columnsOf}
-use Rattle.monomial.specs.Rows.{rowOf, rowsOf}
+use Rattle.basis.specs.declared.Basis.the-variants.{Curve}
+use Rattle.monomial.specs.Rows.{rowAt, weightedAt, weightedRow, weightedRowsAt}
+use Rattle.monomial.specs.Terms.{termsAt}
 use Rattle.monomial.specs.Adding.{addOne, addAll}
 use Rattle.monomial.specs.AddingLaws.{length-add-one, sums-afresh}
 use Rattle.monomial.specs.Parts.{rightProduct}
@@ -20,16 +21,16 @@ use Rattle.monomial.proofs.fold_right.Statement.{statement}
 use Rattle.monomial.proofs.fold_right.Tie as tie
 
 abbrev Inv-loop : tie.InvT-loop
-Inv-loop xs ys n g₀ k₀ g k = (k ≤ 16) × (length g ≡ length g₀) × (g ≡ each (λ _ _. zeroF) k g₀)
+Inv-loop xs ys ws n g₀ k₀ g k = (k ≤ 16) × (length g ≡ length g₀) × (g ≡ each (λ _ _. zeroF) k g₀)
 
 abbrev μ-loop : tie.MeasureT-loop
-μ-loop xs ys n g₀ k₀ g k = 16 - k
+μ-loop xs ys ws n g₀ k₀ g k = 16 - k
 
 abbrev Inv-loop2 : tie.InvT-loop2
-Inv-loop2 xs ys n g₀ t₀ g t = (t ≤ n) × (length g ≡ length g₀) × (g ≡ addAll rightProduct 16 g₀ (rowsOf (samplesOf t (columnsOf xs ys))))
+Inv-loop2 xs ys ws n g₀ t₀ g t = (t ≤ n) × (length g ≡ length g₀) × (g ≡ addAll rightProduct 16 g₀ (weightedRowsAt Curve t xs xs ys ws))
 
 abbrev μ-loop2 : tie.MeasureT-loop2
-μ-loop2 xs ys n g₀ t₀ g t = n - t
+μ-loop2 xs ys ws n g₀ t₀ g t = n - t
 
 loop-holds : tie.Need-loop-holds Inv-loop μ-loop Inv-loop2 μ-loop2
 unfolding each
@@ -39,21 +40,22 @@ loop-again : tie.Need-loop-again Inv-loop μ-loop Inv-loop2 μ-loop2
 loop-again c = (search needs, simp length-set (c .before .loop .inv .1), rw (c .before .loop .inv .2) (each-again _ _ _ nan (search needs)))
 
 loop2-holds : tie.Need-loop2-holds Inv-loop μ-loop Inv-loop2 μ-loop2
-unfolding fold samplesOf table
+unfolding fold weightedRowsAt table
 loop2-holds c = (search needs, refl, refl)
 
 loop2-again : tie.Need-loop2-again Inv-loop μ-loop Inv-loop2 μ-loop2
-unfolding rowOf addOne
+unfolding weightedAt rowAt termsAt addOne
 loop2-again c =
-    let at-loop2 = c .before .before .before .before .before .before .before .before .before .loop2 in
-    let at-powers = c .before .before .before .before .before .before .powers in
-    let at-args = c .before .before .before .before .before .before .before .before .before .before .before .before .before .before .before .args in
-    (search needs, ap length (c .before .before .add-right .ensures) ∙ length-add-one rightProduct 16 _ (record { terms = _; y = _ }) ∙ at-loop2 .inv .1, c .before .before .add-right .ensures ∙ (rw (at-powers .ensures, at-loop2 .inv .2) (sym (fold-rows-again (addOne rightProduct 16) _ (at-loop2 .t) (columnsOf (at-args .xs .now) (at-args .ys .now))))))
+    let at-weight-at = c .before .before .before .weight-at in
+    let at-loop2 = c .before .before .before .before .before .before .before .before .before .before .loop2 in
+    let at-powers = c .before .before .before .before .before .before .before .powers in
+    let at-args = c .before .before .before .before .before .before .before .before .before .before .before .before .before .before .before .before .before .args in
+    (search needs, ap length (c .before .before .add-right .ensures) ∙ length-add-one rightProduct 16 _ (weightedRow _ _ _) ∙ at-loop2 .inv .1, c .before .before .add-right .ensures ∙ (rw (at-powers .ensures, at-weight-at .ensures, at-loop2 .inv .2) (sym (fold-rows-again (addOne rightProduct 16) _ Curve (at-loop2 .t) (at-args .xs .now) (at-args .xs .now) (at-args .ys .now) (at-args .ws .now)))))
 
 returns : tie.Need-returns Inv-loop μ-loop Inv-loop2 μ-loop2
 returns c =
     let at-loop = c .before .before .before .loop in
-    let at-args = c .before .before .before .before .before .before .before .args in
+    let at-args = c .before .before .before .before .before .before .before .before .args in
     let all : at-loop .k ≡ 16 = omega arith in
     let last : c .before .loop2 .t ≡ at-args .n = omega arith in
     (rw last at (c .before .loop2 .inv .2)) ∙ (rw (rw all at (at-loop .inv .2), right-is) (sums-afresh rightProduct 16 _ _ (search needs)))
@@ -78,6 +80,7 @@ fold-right-spec =
     (λ c κs. search needs)
     (λ c. search needs)
     (λ c. search needs)
+    (λ c κs. search needs)
     (λ c κs. search needs)
     (λ c. search needs)
     (λ c. search needs)

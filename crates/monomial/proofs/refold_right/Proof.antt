@@ -2,16 +2,16 @@
 use borrow.Author.Needs.{needs}
 use lib.ListN.{drop}
 use Rattle.loops.specs.PlaceLaws.{tail-back}
-use Rattle.samples.specs.Columns.{samplesOf, columnsOf}
-use Rattle.monomial.specs.Rows.{rowsOf}
+use Rattle.basis.specs.declared.Basis.the-variants.{Curve}
+use Rattle.monomial.specs.Rows.{weightedRowsAt}
 use Rattle.monomial.specs.Sums.{sumsOf}
 use Rattle.monomial.proofs.refold_right.Statement.{statement}
 use Rattle.monomial.proofs.refold_right.Tie as tie
 
 returns : tie.Need-returns
 returns c =
-    let at-args = c .before .before .before .before .before .before .before .args in
-    rw (c .before .before .fold-right .ensures) (tail-back 256 16 (at-args .sums .now) (drop 256 (sumsOf (rowsOf (samplesOf (at-args .n) (columnsOf (at-args .xs .now) (at-args .ys .now)))))))
+    let at-args = c .before .before .before .before .before .before .before .before .args in
+    rw (c .before .before .fold-right .ensures) (tail-back 256 16 (at-args .sums .now) (drop 256 (sumsOf (weightedRowsAt Curve (at-args .n) (at-args .xs .now) (at-args .xs .now) (at-args .ys .now) (at-args .ws .now)))))
 
 pub refold-right-spec : {M : Type 1} → statement M
 refold-right-spec =
