@@ -7,7 +7,7 @@ use lib.Ieee.{Float, lt}
 use Rattle.loops.specs.Fold.{fold, allOf}
 use Rattle.basis.specs.Sizes.{maxSamples, sumPlaces, highestDegree}
 use Rattle.value.specs.Finite.{finite}
-use Rattle.value.specs.Numbers.{infinityF, minusInfinityF}
+use Rattle.value.specs.Numbers.{zeroF, infinityF, minusInfinityF}
 use Rattle.statistics.specs.Degrees.{maxDegree}
 use Rattle.statistics.specs.declared.Confidence.{Confidence}
 use Rattle.statistics.specs.declared.Confidence.the-variants as confidence
@@ -41,10 +41,10 @@ tooShort n columns memories = anyShort memories || ltb (capacity columns) n
 abbrev pub bookShort : ℕ → List ℕ → ℕ → Bool
 bookShort n columns sums = tooShort n columns (needed sumPlaces sums ∷ [])
 
--- ---- 4: a given x, y, Custom score or tolerance is not finite; or, in a call that reads, a column value below the count
+-- ---- 4: a given x, y, weight, Custom score or tolerance is not finite; or, in a call that reads, a column value below the count
 
 abbrev pub sampleFinite : Sample → Bool
-sampleFinite p = finite (p .x) && finite (p .y)
+sampleFinite p = finite (p .x) && finite (p .y) && finite (p .w)
 
 abbrev pub allFinite : List Sample → Bool
 allFinite ps = allOf sampleFinite ps
@@ -63,6 +63,14 @@ toleranceFinite tolerance.None = true
 toleranceFinite (tolerance.Absolute a) = finite a
 toleranceFinite (tolerance.Variance p) = finite p
 toleranceFinite (tolerance.Measurement p) = finite p
+
+-- ---- 15: a weight to add is not above zero
+
+abbrev pub weightAbove : Sample → Bool
+weightAbove p = lt zeroF (p .w)
+
+abbrev pub allAbove : List Sample → Bool
+allAbove ps = allOf weightAbove ps
 
 -- ---- 5: the samples to add would pass capacity
 
