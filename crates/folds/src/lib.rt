@@ -15,7 +15,7 @@ ghost use Rattle.basis.specs.Sizes.{highestDegree, maxTerms, sumPlaces};
 ghost use Rattle.loops.specs.Within.{Within};
 ghost use Rattle.basis.specs.Counts.{countOf};
 ghost use Rattle.basis.specs.declared.Basis.the-variants.{Curve};
-ghost use Rattle.monomial.specs.Rows.{rowsAt};
+ghost use Rattle.monomial.specs.Rows.{rowsAt, weightedRowsAt};
 ghost use Rattle.monomial.specs.Sums.{addRows, sumsOf};
 ghost use Rattle.monomial.specs.Corner.{SameCorner};
 ghost use Rattle.choice.specs.Choice.{chosenOf};
@@ -48,6 +48,7 @@ fn end_of(n: usize, folds: usize, f: usize) -> usize
 fn fold_others(
     xs: &[f64],
     ys: &[f64],
+    ws: &[f64],
     n: usize,
     end: usize,
     k: CoefficientCount,
@@ -55,10 +56,10 @@ fn fold_others(
 ) -> [f64; SUMS]
     requires { ⌜ (n ≤ length (now xs)) × (n ≤ length (now ys)) × (end ≤ n) × (k .0 ≤ maxTerms) ⌝ }
     ensures long { λ r. ⌜ length r ≡ sumPlaces ⌝ }
-    ensures same { λ r. ⌜ SameCorner (k .0) r (addRows before (drop end (rowsAt Curve n (now (xs .entry)) (now (xs .entry)) (now (ys .entry))))) ⌝ }
+    ensures same { λ r. ⌜ SameCorner (k .0) r (addRows before (drop end (weightedRowsAt Curve n (now (xs .entry)) (now (xs .entry)) (now (ys .entry)) (now (ws .entry))))) ⌝ }
 {
     let mut sums = before;
-    monomial::add_corner(Basis::Curve, xs, xs, ys, end, n, k, &mut sums);
+    monomial::add_corner(Basis::Curve, xs, xs, ys, ws, end, n, k, &mut sums);
     sums
 }
 
@@ -66,6 +67,7 @@ fn fold_others(
 fn pass_fold(
     xs: &[f64],
     ys: &[f64],
+    ws: &[f64],
     n: usize,
     folds: usize,
     f: usize,
@@ -73,13 +75,13 @@ fn pass_fold(
     before: &mut [f64],
 )
     requires { ⌜ (n ≤ length (now xs)) × (n ≤ length (now ys)) × (f < folds) × (k .0 ≤ maxTerms) × (length (now before) ≡ sumPlaces) ⌝ }
-    requires { ⌜ SameCorner (k .0) (now before) (sumsOf (rowsAt Curve (startOf n folds f) (now xs) (now xs) (now ys))) ⌝ }
+    requires { ⌜ SameCorner (k .0) (now before) (sumsOf (weightedRowsAt Curve (startOf n folds f) (now xs) (now xs) (now ys) (now ws))) ⌝ }
     ensures long { λ _. ⌜ length (now (before .exit)) ≡ sumPlaces ⌝ }
-    ensures same { λ _. ⌜ SameCorner (k .0) (now (before .exit)) (sumsOf (rowsAt Curve (endOf n folds f) (now (xs .entry)) (now (xs .entry)) (now (ys .entry)))) ⌝ }
+    ensures same { λ _. ⌜ SameCorner (k .0) (now (before .exit)) (sumsOf (weightedRowsAt Curve (endOf n folds f) (now (xs .entry)) (now (xs .entry)) (now (ys .entry)) (now (ws .entry)))) ⌝ }
 {
     let start = start_of(n, folds, f);
     let end = end_of(n, folds, f);
-    monomial::add_corner(Basis::Curve, xs, xs, ys, start, end, k, before);
+    monomial::add_corner(Basis::Curve, xs, xs, ys, ws, start, end, k, before);
 }
 
 // A degree solved from the sums, and scored on the samples from start to end.
@@ -139,6 +141,7 @@ fn more(s: Scored, m: usize) -> usize
 fn add_fold(
     xs: &[f64],
     ys: &[f64],
+    ws: &[f64],
     n: usize,
     folds: usize,
     f: usize,
@@ -150,14 +153,14 @@ fn add_fold(
     counts: &mut [usize],
 )
     requires { ⌜ (n ≤ length (now xs)) × (n ≤ length (now ys)) × (n ≤ length (now scratch)) × (f < folds) × (b ≤ maxTerms) ⌝ }
-    requires { ⌜ SameCorner b before (sumsOf (rowsAt Curve (startOf n folds f) (now xs) (now xs) (now ys))) ⌝ }
-    requires { ⌜ Tallied (degreeScored criterion (rowsAt Curve n (now xs) (now xs) (now ys)) folds) f b (now totals) (now counts) ⌝ }
-    ensures tallied { λ _. ⌜ Tallied (degreeScored criterion (rowsAt Curve n (now (xs .entry)) (now (xs .entry)) (now (ys .entry))) folds) (f + 1) b (now (totals .exit)) (now (counts .exit)) ⌝ }
+    requires { ⌜ SameCorner b before (sumsOf (weightedRowsAt Curve (startOf n folds f) (now xs) (now xs) (now ys) (now ws))) ⌝ }
+    requires { ⌜ Tallied (degreeScored criterion (weightedRowsAt Curve n (now xs) (now xs) (now ys) (now ws)) folds) f b (now totals) (now counts) ⌝ }
+    ensures tallied { λ _. ⌜ Tallied (degreeScored criterion (weightedRowsAt Curve n (now (xs .entry)) (now (xs .entry)) (now (ys .entry)) (now (ws .entry))) folds) (f + 1) b (now (totals .exit)) (now (counts .exit)) ⌝ }
     ensures within { λ _. ⌜ Within n (now (scratch .entry)) (now (scratch .exit)) ⌝ }
 {
     let start = start_of(n, folds, f);
     let end = end_of(n, folds, f);
-    let sums = fold_others(xs, ys, n, end, CoefficientCount(b), before);
+    let sums = fold_others(xs, ys, ws, n, end, CoefficientCount(b), before);
     for d in 0..b {
         let s = score_fold(
             xs,
@@ -210,6 +213,7 @@ fn choose_by_means(totals: &[f64; TERMS], counts: &[usize; TERMS], b: usize) -> 
 pub fn choose_by_folds(
     xs: &[f64],
     ys: &[f64],
+    ws: &[f64],
     n: usize,
     folds: usize,
     bound: Degree,
@@ -217,7 +221,7 @@ pub fn choose_by_folds(
     scratch: &mut [f64],
 ) -> OptionDegree
     requires { ⌜ (n ≤ length (now xs)) × (n ≤ length (now ys)) × (n ≤ length (now scratch)) × (bound .0 ≤ highestDegree) ⌝ }
-    ensures is { λ r. ⌜ r ≡ validatedChoice criterion (rowsAt Curve n (now (xs .entry)) (now (xs .entry)) (now (ys .entry))) folds (bound .0) ⌝ }
+    ensures is { λ r. ⌜ r ≡ validatedChoice criterion (weightedRowsAt Curve n (now (xs .entry)) (now (xs .entry)) (now (ys .entry)) (now (ws .entry))) folds (bound .0) ⌝ }
     ensures within { λ _. ⌜ Within n (now (scratch .entry)) (now (scratch .exit)) ⌝ }
 {
     let b = bound.0 + 1;
@@ -228,6 +232,7 @@ pub fn choose_by_folds(
         add_fold(
             xs,
             ys,
+            ws,
             n,
             folds,
             f,
@@ -238,7 +243,7 @@ pub fn choose_by_folds(
             &mut totals,
             &mut counts,
         );
-        pass_fold(xs, ys, n, folds, f, CoefficientCount(b), &mut before);
+        pass_fold(xs, ys, ws, n, folds, f, CoefficientCount(b), &mut before);
     }
     choose_by_means(&totals, &counts, b)
 }
