@@ -7,13 +7,13 @@ use lib.ListN.{length}
 use lib.Ieee.{Float}
 use Rattle.samples.specs.Samples.{Sample}
 use Rattle.refusal.specs.Refusals.{Refusal, by, firstOf, settle}
-use Rattle.refusal.specs.Tests.{capacity, bookShort, sampleFinite}
+use Rattle.refusal.specs.Tests.{capacity, bookShort, sampleFinite, weightAbove}
 use Rattle.samples.specs.Columns.{Columns, lengths}
 use Rattle.book.specs.Calls.{Out, State, stateAfter, refused, withdrawOut, addNext, bookAnswered}
 
 -- 5's condition for single adds there is that capacity is zero
 abbrev pub windowTests : ℕ → Sample → List ℕ → ℕ → List Refusal
-windowTests n p columns sums = by (bookShort n columns sums) 1 ∷ by (not (sampleFinite p)) 4 ∷ by (eqb (capacity columns) 0) 5 ∷ []
+windowTests n p columns sums = by (bookShort n columns sums) 1 ∷ by (not (sampleFinite p)) 4 ∷ by (not (weightAbove p)) 15 ∷ by (eqb (capacity columns) 0) 5 ∷ []
 
 unfoldable pub windowRefusal : ℕ → Sample → List ℕ → ℕ → ℕ
 windowRefusal n p columns sums = firstOf (windowTests n p columns sums)

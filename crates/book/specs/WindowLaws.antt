@@ -8,7 +8,7 @@ use Rattle.refusal.specs.Laws.{numbered}
 use Rattle.book.specs.Window.{windowTests, windowRefusal}
 
 module _ (n : ℕ) (p : Sample) (columns : List ℕ) (sums : ℕ) where
-  pub window-numbers : List·Memᴰ (windowRefusal n p columns sums) (0 ∷ 1 ∷ 4 ∷ 5 ∷ [])
+  pub window-numbers : List·Memᴰ (windowRefusal n p columns sums) (0 ∷ 1 ∷ 4 ∷ 15 ∷ 5 ∷ [])
   unfolding windowRefusal
   window-numbers = numbered _
 

@@ -11,7 +11,7 @@ use Rattle.basis.specs.Sizes.{sumPlaces}
 use Rattle.loops.specs.Fold.{fold}
 use Rattle.runs.specs.Runs.{Machine, replies as repliesOf, history}
 use Rattle.samples.specs.Samples.{Sample}
-use Rattle.monomial.specs.Rows.{rowsOf}
+use Rattle.monomial.specs.Rows.{weightedRows}
 use Rattle.monomial.specs.Sums.{sumsOf}
 use Rattle.frame.specs.Frame.{decode}
 use Rattle.decimal.specs.Lines.{readLines}
@@ -96,10 +96,10 @@ opened columns sums = record { count = bookAfter 0 (openOut sums .answer); colum
 
 -- ---- the plain ledger: a list of samples, fed the calls' arguments and the lengths of the lent memory
 
--- Correct i: sample i gets a new y.
+-- Correct i: sample i gets a new y and keeps its weight.
 unfoldable pub newY : List Sample → ℕ → Float → List Sample
 newY [] i y = []
-newY (p ∷ l) zero y = record { x = p .x; y = y } ∷ l
+newY (p ∷ l) zero y = record { x = p .x; y = y; w = p .w } ∷ l
 newY (p ∷ l) (suc i) y = p ∷ newY l i y
 
 -- Withdraw i: it goes, later ones move down one.
@@ -134,7 +134,7 @@ ledgerNext m l (reads q) = l
 unfoldable pub ledgerReply : {R W : Type 0} → Reading R W → Lent → List Sample → Call R → Reply W
 ledgerReply readOn m l (changes c) =
     said (settle (refusalOf m (length l) c) (bookOf (length (changed m l c))) (answers.Refused (refusalOf m (length l) c)))
-ledgerReply readOn m l (reads q) = told (readOn q (length l) l (sumsOf (rowsOf l)) (m .columns) (m .sums))
+ledgerReply readOn m l (reads q) = told (readOn q (length l) l (sumsOf (weightedRows l)) (m .columns) (m .sums))
 
 abbrev pub ledger : {R W : Type 0} → Reading R W → Lent → Machine (List Sample) (Call R) (Reply W)
 ledger readOn m = record { step = ledgerNext m; reply = ledgerReply readOn m }
@@ -165,7 +165,7 @@ pub record Agrees {R W : Type 0} (readOn : Reading R W) (columns₀ : Columns) (
   -- the column places below it hold the ledger's samples,
   pub below : (k : Column) → take (final s cs .count) (final s cs .columns k) ≡ map (value k) (ledgerEnd (lentOf columns₀ sums₀) l cs)
   -- and the 272 sums are the ledger's, bit for bit, NaNs as one value.
-  pub sums : take sumPlaces (final s cs .sums) ≡ sumsOf (rowsOf (ledgerEnd (lentOf columns₀ sums₀) l cs))
+  pub sums : take sumPlaces (final s cs .sums) ≡ sumsOf (weightedRows (ledgerEnd (lentOf columns₀ sums₀) l cs))
   -- A column place at or past the count keeps what it held when it was last below the count, or else what it held at opening.
   pub places : (k : Column) (p : ℕ) → getD (final s cs .columns k) p nan ≡ held (value k) (getD (s .columns k) p nan) (lentOf columns₀ sums₀) l cs p
   -- Places past the 272 are not the book's: they are left as they were.

@@ -5,7 +5,7 @@ use mathlib.Core.List.{List, [], _∷_, _++_}
 use lib.ListN.{length}
 use lib.Ieee.{Float}
 use Rattle.samples.specs.Samples.{Sample}
-use Rattle.monomial.specs.Rows.{rowsOf}
+use Rattle.monomial.specs.Rows.{weightedRows}
 use Rattle.monomial.specs.Sums.{sumsOf}
 use Rattle.book.specs.Calls.{bookOf, openOut}
 use Rattle.settings.specs.declared.Settings.{Settings}
@@ -19,7 +19,7 @@ use Rattle.samples.specs.Columns.{Columns}
 
 -- a report of the plain ledger
 abbrev pub ledgerReport : Lent → List Sample → Settings → Places → ReportOut
-ledgerReport m l settings places = reportOn (length l) settings l (sumsOf (rowsOf l)) (m .columns) (m .sums) places
+ledgerReport m l settings places = reportOn (length l) settings l (sumsOf (weightedRows l)) (m .columns) (m .sums) places
 
 -- a report that stands in the list after the calls `before`; all are what the calls reply
 pub record ReportedIn (m : Lent) (before : List (Call ReadCall)) (settings : Settings) (places : Places) (all : List (Reply Told)) : Type 0 where

@@ -33,6 +33,10 @@ rowOf p = record { terms = table (powerF (p .x)) maxTerms; y = p .y }
 abbrev pub rowsOf : List Sample → List Row
 rowsOf ps = map rowOf ps
 
+-- the y's of rows
+abbrev pub ysIn : List Row → List Float
+ysIn rs = map (λ (r : Row). r .y) rs
+
 -- ---- with weights
 
 -- A row and its sample's weight: what the sums are made from, and nothing else.

@@ -14,7 +14,7 @@ ghost use Rattle.loops.specs.Places.{each, table};
 ghost use Rattle.value.specs.Numbers.{zeroF};
 ghost use Rattle.value.specs.Power.{powerF};
 ghost use Rattle.monomial.specs.Terms.{surfaceTerms, termsAt};
-ghost use Rattle.monomial.specs.Rows.{weightedRow, weightAt, weightedRowsAt, fitted as fittedF};
+ghost use Rattle.monomial.specs.Rows.{weightedRow, weightedOf, weightAt, weightedRowsAt, fitted as fittedF};
 ghost use Rattle.monomial.specs.Sums.{weightedProduct, addRow, addRows, sumsOf};
 ghost use Rattle.monomial.specs.Corner.{CornerSet};
 
@@ -174,7 +174,7 @@ pub fn add_row(sums: &mut [f64], terms: &[f64; TERMS], y: f64, w: f64)
 // Adds a sample's weighted products to what stands at the 272 places.
 pub fn add_sample(sums: &mut [f64], x: f64, y: f64, w: f64)
     requires { ⌜ sumPlaces ≤ length (now sums) ⌝ }
-    ensures { λ _. ⌜ now (sums .exit) ≡ addRow (now (sums .entry)) (weightedRow (table (powerF x) maxTerms) y w) ⌝ }
+    ensures { λ _. ⌜ now (sums .exit) ≡ addRow (now (sums .entry)) (weightedOf (record { x = x; y = y; w = w })) ⌝ }
 {
     let terms = value::powers(x);
     add_row(&mut *sums, &terms, y, w);

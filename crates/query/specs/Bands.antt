@@ -15,7 +15,7 @@ use Rattle.basis.specs.Counts.{countOf}
 use Rattle.basis.specs.declared.Basis.the-variants.{Curve}
 use Rattle.samples.specs.Samples.{Sample, ysOf}
 use Rattle.samples.specs.Columns.{samplesOf, Columns, lengths}
-use Rattle.monomial.specs.Rows.{rowsOf}
+use Rattle.monomial.specs.Rows.{Row, rowsOf, ysIn}
 use Rattle.solve.specs.Solve.{solve}
 use Rattle.covariance.specs.Bands.{bandAt}
 use Rattle.covariance.specs.declared.Band.{Band}
@@ -42,22 +42,22 @@ abbrev pub bandRefused : ℕ → BandOut
 bandRefused r = record { answer = answers.Refused r; scratch = [] }
 
 -- the band at x of the curve of this degree: z is the z score, sd that of all y's
-unfoldable pub bandOn : Float → ℕ → Confidence → Tolerance → List Sample → List Float → Band
-bandOn x degree confidence tolerance samples sums =
-    bandAt (countOf Curve degree) (solve sums (countOf Curve degree) .c) (covarianceAt sums (rowsOf samples) (countOf Curve degree)) tolerance (zScore confidence)
-    (stddevAndMean (ysOf samples) .stddev) (table (powerF x) maxTerms)
+unfoldable pub bandOn : Float → ℕ → Confidence → Tolerance → List Row → List Float → Band
+bandOn x degree confidence tolerance rows sums =
+    bandAt (countOf Curve degree) (solve sums (countOf Curve degree) .c) (covarianceAt sums rows (countOf Curve degree)) tolerance (zScore confidence)
+    (stddevAndMean (ysIn rows) .stddev) (table (powerF x) maxTerms)
 
 -- past refusals 1 to 9: 10 if the asked degree is unsolved, 12 if an inverse pivot fails, else the band
-unfoldable pub bandPast : ℕ → Float → ℕ → Confidence → Tolerance → List Sample → List Float → BandOut
-bandPast n x degree confidence tolerance samples sums =
-    let r = measureRefusal sums (rowsOf samples) (countOf Curve degree) in
-    record { answer = settle r (answers.Band (bandOn x degree confidence tolerance samples sums)) (answers.Refused r); scratch = zeros n }
+unfoldable pub bandPast : ℕ → Float → ℕ → Confidence → Tolerance → List Row → List Float → BandOut
+bandPast n x degree confidence tolerance rows sums =
+    let r = measureRefusal sums rows (countOf Curve degree) in
+    record { answer = settle r (answers.Band (bandOn x degree confidence tolerance rows sums)) (answers.Refused r); scratch = zeros n }
 
 -- a band of a book of n samples with these sums, columns, sums and scratch of these lengths
 unfoldable pub bandFor : ℕ → Float → ℕ → Confidence → Tolerance → List Sample → List Float → List ℕ → ℕ → ℕ → BandOut
 bandFor n x degree confidence tolerance samples sums columns places scratch =
     let r = bandRefusal n x degree confidence tolerance samples columns places scratch in
-    settle r (bandPast n x degree confidence tolerance samples sums) (bandRefused r)
+    settle r (bandPast n x degree confidence tolerance (rowsOf samples) sums) (bandRefused r)
 
 -- the same on what stands in memory: what the call does
 abbrev pub bandOut : ℕ → Float → ℕ → Confidence → Tolerance → Columns → List Float → List Float → BandOut

@@ -14,7 +14,7 @@ use Rattle.basis.specs.Counts.{countOf}
 use Rattle.basis.specs.declared.Basis.the-variants.{Curve}
 use Rattle.samples.specs.Samples.{Sample}
 use Rattle.samples.specs.Columns.{samplesOf, Columns, lengths}
-use Rattle.monomial.specs.Rows.{rowsOf}
+use Rattle.monomial.specs.Rows.{Row, rowsOf, weightedRows}
 use Rattle.solve.specs.Solve.{solve}
 use Rattle.score.specs.declared.Criterion.{Criterion}
 use Rattle.fit.specs.Solved.{isSolved}
@@ -41,10 +41,10 @@ fitNumber (answers.Refused k) = k
 abbrev pub fitRefused : ℕ → FitOut
 fitRefused r = record { answer = answers.Refused r; scratch = []; coefficients = [] }
 
--- past refusals 1 to 9: 10 if the asked degree is unsolved, else the degree and its 16 coefficients, +0 from k on
-unfoldable pub fitPast : ℕ → ℕ → List Sample → List Float → FitOut
-fitPast n degree samples sums =
-    cond (isSolved sums (rowsOf samples) (countOf Curve degree))
+-- past refusals 1 to 9, of the samples' rows: 10 if the asked degree is unsolved, else the degree and its 16 coefficients, +0 from k on
+unfoldable pub fitPast : ℕ → ℕ → List Row → List Float → FitOut
+fitPast n degree rows sums =
+    cond (isSolved sums rows (countOf Curve degree))
     (record { answer = answers.Fit (record { 0 = degree }); scratch = zeros n; coefficients = solve sums (countOf Curve degree) .c })
     (record { answer = answers.Refused 10; scratch = zeros n; coefficients = [] })
 
@@ -52,17 +52,17 @@ fitPast n degree samples sums =
 unfoldable pub fitOn : ℕ → ℕ → List Sample → List Float → List ℕ → ℕ → ℕ → ℕ → FitOut
 fitOn n degree samples sums columns places scratch coefficients =
     let r = fitRefusal n degree samples columns places scratch coefficients in
-    settle r (fitPast n degree samples sums) (fitRefused r)
+    settle r (fitPast n degree (rowsOf samples) sums) (fitRefused r)
 
 -- Validation, past 1 to 9: 11 if no degree is chosen; else its answer is the single fit at the chosen degree.
-unfoldable pub validatePast : ℕ → OptionDegree → List Sample → List Float → FitOut
-validatePast n None samples sums = record { answer = answers.Refused 11; scratch = zeros n; coefficients = [] }
-validatePast n (Some d) samples sums = fitPast n (d .0) samples sums
+unfoldable pub validatePast : ℕ → OptionDegree → List Row → List Float → FitOut
+validatePast n None rows sums = record { answer = answers.Refused 11; scratch = zeros n; coefficients = [] }
+validatePast n (Some d) rows sums = fitPast n (d .0) rows sums
 
 unfoldable pub validateOn : ℕ → ℕ → DegreeBound → Criterion → List Sample → List Float → List ℕ → ℕ → ℕ → ℕ → FitOut
 validateOn n folds bound criterion samples sums columns places scratch coefficients =
     let r = validateRefusal n folds bound samples columns places scratch coefficients in
-    settle r (validatePast n (validatedChoice criterion (rowsOf samples) folds (maxDegree bound n)) samples sums) (fitRefused r)
+    settle r (validatePast n (validatedChoice criterion (weightedRows samples) folds (maxDegree bound n)) (rowsOf samples) sums) (fitRefused r)
 
 -- the same on what stands in memory: what the calls do
 module _ (n : ℕ) (columns : Columns) (sums scratch coefficients : List Float) where

@@ -15,7 +15,9 @@ use statistics::Tolerance;
 ghost use Prim.Native.Nat.{_≤_};
 ghost use lib.ListN.{length, take};
 ghost use Rattle.basis.specs.Sizes.{highestDegree, maxTerms, sumPlaces};
-ghost use Rattle.samples.specs.Columns.{samplesOf, columnsOf};
+ghost use Rattle.basis.specs.declared.Basis.the-variants.{Curve};
+ghost use Rattle.samples.specs.Columns.{columnsOf};
+ghost use Rattle.monomial.specs.Rows.{rowsAt};
 ghost use Rattle.lent.specs.Slices.{before, contents};
 ghost use Rattle.query.specs.Fits.{FitIs, fitPast, fitOut, validateOut};
 ghost use Rattle.query.specs.Bands.{BandIs, bandOut};
@@ -43,7 +45,7 @@ fn solve_at(
     coefficients: &mut [f64],
 ) -> FitAnswer
     requires { ⌜ (n ≤ length (now xs)) × (n ≤ length (now ys)) × (n ≤ length (now scratch)) × (sumPlaces ≤ length (now sums)) × (maxTerms ≤ length (now coefficients)) × (degree .0 ≤ highestDegree) ⌝ }
-    ensures { λ r. ⌜ FitIs (fitPast n (degree .0) (samplesOf n (columnsOf (before xs) (before ys))) (take sumPlaces (before sums))) r (contents scratch) (contents coefficients) ⌝ }
+    ensures { λ r. ⌜ FitIs (fitPast n (degree .0) (rowsAt Curve n (before xs) (before xs) (before ys)) (take sumPlaces (before sums))) r (contents scratch) (contents coefficients) ⌝ }
 {
     let k = degree.k(Basis::Curve);
     let s = fit::attempt(Basis::Curve, xs, xs, ys, n, &sums[..SUMS], k, &mut *scratch);
@@ -62,11 +64,12 @@ pub fn fit(
     degree: Degree,
     xs: &[f64],
     ys: &[f64],
+    ws: &[f64],
     sums: &[f64],
     scratch: &mut [f64],
     coefficients: &mut [f64],
 ) -> FitAnswer
-    ensures { λ r. ⌜ FitIs (fitOut (book .count) (columnsOf (before xs) (before ys)) (before sums) (before scratch) (before coefficients) (degree .0)) r (contents scratch) (contents coefficients) ⌝ }
+    ensures { λ r. ⌜ FitIs (fitOut (book .count) (columnsOf (before xs) (before ys) (before ws)) (before sums) (before scratch) (before coefficients) (degree .0)) r (contents scratch) (contents coefficients) ⌝ }
 {
     let n = book.count;
     let refusal = refusals::fit_refusal(
@@ -74,6 +77,7 @@ pub fn fit(
         degree,
         xs,
         ys,
+        ws,
         sums.len(),
         scratch.len(),
         coefficients.len(),
@@ -92,11 +96,12 @@ pub fn validate(
     criterion: Criterion,
     xs: &[f64],
     ys: &[f64],
+    ws: &[f64],
     sums: &[f64],
     scratch: &mut [f64],
     coefficients: &mut [f64],
 ) -> FitAnswer
-    ensures { λ r. ⌜ FitIs (validateOut (book .count) (columnsOf (before xs) (before ys)) (before sums) (before scratch) (before coefficients) folds bound criterion) r (contents scratch) (contents coefficients) ⌝ }
+    ensures { λ r. ⌜ FitIs (validateOut (book .count) (columnsOf (before xs) (before ys) (before ws)) (before sums) (before scratch) (before coefficients) folds bound criterion) r (contents scratch) (contents coefficients) ⌝ }
 {
     let n = book.count;
     let refusal = refusals::validate_refusal(
@@ -105,6 +110,7 @@ pub fn validate(
         bound,
         xs,
         ys,
+        ws,
         sums.len(),
         scratch.len(),
         coefficients.len(),
@@ -113,7 +119,7 @@ pub fn validate(
         return FitAnswer::Refused(refusal);
     }
     let most = statistics::max_degree(bound, n);
-    let chosen = folds::choose_by_folds(xs, ys, n, folds, most, criterion, &mut *scratch);
+    let chosen = folds::choose_by_folds(xs, ys, ws, n, folds, most, criterion, &mut *scratch);
     let OptionDegree::Some(degree) = chosen else {
         lent::clear(scratch, n);
         return FitAnswer::Refused(11);
@@ -130,10 +136,11 @@ pub fn band(
     tolerance: Tolerance,
     xs: &[f64],
     ys: &[f64],
+    ws: &[f64],
     sums: &[f64],
     scratch: &mut [f64],
 ) -> BandAnswer
-    ensures { λ r. ⌜ BandIs (bandOut (book .count) x (degree .0) confidence tolerance (columnsOf (before xs) (before ys)) (before sums) (before scratch)) r (contents scratch) ⌝ }
+    ensures { λ r. ⌜ BandIs (bandOut (book .count) x (degree .0) confidence tolerance (columnsOf (before xs) (before ys) (before ws)) (before sums) (before scratch)) r (contents scratch) ⌝ }
 {
     let n = book.count;
     let refusal = refusals::band_refusal(
@@ -144,6 +151,7 @@ pub fn band(
         tolerance,
         xs,
         ys,
+        ws,
         sums.len(),
         scratch.len(),
     );

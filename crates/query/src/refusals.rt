@@ -18,22 +18,23 @@ fn fit_short(
     n: usize,
     xs: usize,
     ys: usize,
+    ws: usize,
     sums: usize,
     scratch: usize,
     coefficients: usize,
 ) -> bool
-    ensures { λ r. ⌜ r ≡ tooShort n (xs ∷ ys ∷ []) (fitNeeds n sums scratch coefficients) ⌝ }
+    ensures { λ r. ⌜ r ≡ tooShort n (xs ∷ ys ∷ ws ∷ []) (fitNeeds n sums scratch coefficients) ⌝ }
 {
     let written = refusal::short(n, scratch, refusal::short(TERMS, coefficients, false));
-    refusal::too_short(n, xs, ys, refusal::short(SUMS, sums, written))
+    refusal::too_short(n, xs, ys, ws, refusal::short(SUMS, sums, written))
 }
 
 // 1, of a band.
-fn band_short(n: usize, xs: usize, ys: usize, sums: usize, scratch: usize) -> bool
-    ensures { λ r. ⌜ r ≡ tooShort n (xs ∷ ys ∷ []) (bandNeeds n sums scratch) ⌝ }
+fn band_short(n: usize, xs: usize, ys: usize, ws: usize, sums: usize, scratch: usize) -> bool
+    ensures { λ r. ⌜ r ≡ tooShort n (xs ∷ ys ∷ ws ∷ []) (bandNeeds n sums scratch) ⌝ }
 {
     let written = refusal::short(n, scratch, false);
-    refusal::too_short(n, xs, ys, refusal::short(SUMS, sums, written))
+    refusal::too_short(n, xs, ys, ws, refusal::short(SUMS, sums, written))
 }
 
 pub fn fit_refusal(
@@ -41,16 +42,17 @@ pub fn fit_refusal(
     degree: Degree,
     xs: &[f64],
     ys: &[f64],
+    ws: &[f64],
     sums: usize,
     scratch: usize,
     coefficients: usize,
 ) -> u8
-    ensures { λ r. ⌜ r ≡ fitRefusal n (degree .0) (samplesOf n (columnsOf (before xs) (before ys))) (lengths (columnsOf (before xs) (before ys))) sums scratch coefficients ⌝ }
+    ensures { λ r. ⌜ r ≡ fitRefusal n (degree .0) (samplesOf n (columnsOf (before xs) (before ys) (before ws))) (lengths (columnsOf (before xs) (before ys) (before ws))) sums scratch coefficients ⌝ }
 {
-    if fit_short(n, xs.len(), ys.len(), sums, scratch, coefficients) {
+    if fit_short(n, xs.len(), ys.len(), ws.len(), sums, scratch, coefficients) {
         return 1;
     }
-    let wrong = !refusal::samples_finite(xs, ys, n);
+    let wrong = !refusal::samples_finite(xs, ys, ws, n);
     let high = refusal::degree_too_high(n, degree);
     refusal::first(
         wrong,
@@ -65,16 +67,17 @@ pub fn validate_refusal(
     bound: DegreeBound,
     xs: &[f64],
     ys: &[f64],
+    ws: &[f64],
     sums: usize,
     scratch: usize,
     coefficients: usize,
 ) -> u8
-    ensures { λ r. ⌜ r ≡ validateRefusal n folds bound (samplesOf n (columnsOf (before xs) (before ys))) (lengths (columnsOf (before xs) (before ys))) sums scratch coefficients ⌝ }
+    ensures { λ r. ⌜ r ≡ validateRefusal n folds bound (samplesOf n (columnsOf (before xs) (before ys) (before ws))) (lengths (columnsOf (before xs) (before ys) (before ws))) sums scratch coefficients ⌝ }
 {
-    if fit_short(n, xs.len(), ys.len(), sums, scratch, coefficients) {
+    if fit_short(n, xs.len(), ys.len(), ws.len(), sums, scratch, coefficients) {
         return 1;
     }
-    let wrong = !refusal::samples_finite(xs, ys, n);
+    let wrong = !refusal::samples_finite(xs, ys, ws, n);
     let uneven = refusal::wrong_folds(n, folds);
     let high = refusal::bound_too_high(bound, n);
     refusal::first(
@@ -92,18 +95,19 @@ pub fn band_refusal(
     tolerance: Tolerance,
     xs: &[f64],
     ys: &[f64],
+    ws: &[f64],
     sums: usize,
     scratch: usize,
 ) -> u8
-    ensures { λ r. ⌜ r ≡ bandRefusal n x (degree .0) confidence tolerance (samplesOf n (columnsOf (before xs) (before ys))) (lengths (columnsOf (before xs) (before ys))) sums scratch ⌝ }
+    ensures { λ r. ⌜ r ≡ bandRefusal n x (degree .0) confidence tolerance (samplesOf n (columnsOf (before xs) (before ys) (before ws))) (lengths (columnsOf (before xs) (before ys) (before ws))) sums scratch ⌝ }
 {
-    if band_short(n, xs.len(), ys.len(), sums, scratch) {
+    if band_short(n, xs.len(), ys.len(), ws.len(), sums, scratch) {
         return 1;
     }
     let given = value::is_finite(x);
     let score = refusal::score_finite(confidence);
     let width = refusal::tolerance_finite(tolerance);
-    let samples = refusal::samples_finite(xs, ys, n);
+    let samples = refusal::samples_finite(xs, ys, ws, n);
     let wrong = !(given & score & width & samples);
     let high = refusal::degree_too_high(n, degree);
     let outside = refusal::outside(x, xs, n);

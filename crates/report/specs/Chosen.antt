@@ -11,7 +11,7 @@ use Rattle.basis.specs.declared.OptionDegree.{OptionDegree}
 use Rattle.basis.specs.declared.OptionDegree.the-variants.{Some, None}
 use Rattle.statistics.specs.Degrees.{maxDegree}
 use Rattle.samples.specs.Samples.{Sample}
-use Rattle.monomial.specs.Rows.{rowsOf}
+use Rattle.monomial.specs.Rows.{Row}
 use Rattle.solve.specs.Solve.{solve}
 use Rattle.choice.specs.Laws.{chosen}
 use Rattle.fit.specs.Chosen.{choiceOf, countsOf}
@@ -21,8 +21,8 @@ use Rattle.settings.specs.declared.Settings.{Settings}
 use Rattle.report.specs.declared.Chosen.{Chosen}
 
 -- A report's bound is `max_degree` for its setting and n, and its degrees run from 0 to the bound.
-unfoldable pub reportChoice : ℕ → Settings → List Sample → List Float → Choice
-reportChoice n settings samples sums = choiceOf (settings .criterion) sums (rowsOf samples) (countsOf Curve (maxDegree (settings .bound) n))
+unfoldable pub reportChoice : ℕ → Settings → List Row → List Float → Choice
+reportChoice n settings rows sums = choiceOf (settings .criterion) sums rows (countsOf Curve (maxDegree (settings .bound) n))
 
 -- 11: no degree is chosen; 12: an inverse pivot fails
 unfoldable pub chosenRefusal : OptionDegree → List Float → ℕ
@@ -30,10 +30,10 @@ chosenRefusal None sums = 11
 chosenRefusal (Some d) sums = cond (inverseFails sums (countOf Curve (d .0))) 12 0
 
 -- the promise of the code's choice: r, and scratch s before and t after
-pub record Chooses (n : ℕ) (settings : Settings) (samples : List Sample) (sums s t : List Float) (r : Chosen) : Type 0 where
-  pub number : r .number ≡ chosenRefusal (reportChoice n settings samples sums .chosen) sums
-  pub choice : r .choice ≡ reportChoice n settings samples sums
-  pub degree : r .number ≡ 0 → reportChoice n settings samples sums .chosen ≡ Some (r .degree)
+pub record Chooses (n : ℕ) (settings : Settings) (rows : List Row) (sums s t : List Float) (r : Chosen) : Type 0 where
+  pub number : r .number ≡ chosenRefusal (reportChoice n settings rows sums .chosen) sums
+  pub choice : r .choice ≡ reportChoice n settings rows sums
+  pub degree : r .number ≡ 0 → reportChoice n settings rows sums .chosen ≡ Some (r .degree)
   pub coefficients : r .number ≡ 0 → r .c ≡ solve sums (countOf Curve (r .degree .0)) .c
-  pub covariance : r .number ≡ 0 → r .covariance ≡ covarianceAt sums (rowsOf samples) (countOf Curve (r .degree .0))
+  pub covariance : r .number ≡ 0 → r .covariance ≡ covarianceAt sums rows (countOf Curve (r .degree .0))
   pub within : Within n s t

@@ -14,7 +14,7 @@ use Rattle.statistics.specs.Scores.{zScore, tScore, degreesOfFreedom}
 use Rattle.statistics.specs.Variances.{stddevAndMean}
 use Rattle.samples.specs.Samples.{Sample, ysOf}
 use Rattle.samples.specs.Columns.{samplesOf, Columns, lengths}
-use Rattle.monomial.specs.Rows.{rowsOf}
+use Rattle.monomial.specs.Rows.{Row, rowsOf, ysIn}
 use Rattle.solve.specs.Solve.{solve}
 use Rattle.covariance.specs.Covariance.{errorsOf}
 use Rattle.covariance.specs.Marks.{ones}
@@ -44,14 +44,14 @@ reportNumber (answers.Refused k) = k
 -- Report returns degree, number of solved degrees, outliers and pruned terms. It writes unpruned coefficients and errors (16 places each, +0 from k on),
 -- 16 pruning bytes (1 pruned, else 0), and per sample lower, upper and an outlier byte; scratch ends as +0 in its first n places. Bands use unpruned
 -- coefficients and the z score; pruning uses the settings' rule and the t score at n − k degrees of freedom. c are the coefficients, v their covariance.
-unfoldable pub writtenBy : ℕ → Settings → List Sample → ℕ → ℕ → List Float → List Float → ReportOut
-writtenBy n settings samples degree solved c v =
+unfoldable pub writtenBy : ℕ → Settings → List Row → ℕ → ℕ → List Float → List Float → ReportOut
+writtenBy n settings rows degree solved c v =
     let k = countOf Curve degree in
     let e = errorsOf k v in
     let z = zScore (settings .confidence) in
-    let sd = stddevAndMean (ysOf samples) .stddev in
+    let sd = stddevAndMean (ysIn rows) .stddev in
     let pruned = prunedBytes (settings .pruning) k c e (tScore (settings .confidence) (degreesOfFreedom n k)) in
-    let outliers = outliersOf k c v (settings .tolerance) z sd (rowsOf samples) in
+    let outliers = outliersOf k c v (settings .tolerance) z sd rows in
     record {
       answer = answers.Report (record { 0 = degree }) solved (ones outliers) (ones pruned);
       written =
@@ -60,8 +60,8 @@ writtenBy n settings samples degree solved c v =
             coefficients = c;
             errors = e;
             pruned = pruned;
-            lower = lowersOf k c v (settings .tolerance) z sd (rowsOf samples);
-            upper = uppersOf k c v (settings .tolerance) z sd (rowsOf samples);
+            lower = lowersOf k c v (settings .tolerance) z sd rows;
+            upper = uppersOf k c v (settings .tolerance) z sd rows;
             outliers = outliers;
           };
     }
@@ -75,22 +75,22 @@ abbrev pub refusedEarly : ℕ → ReportOut
 refusedEarly r = record { answer = answers.Refused r; written = nothing }
 
 -- past refusals 1 to 9, of the chosen degree or none: 11 if no degree is chosen, 12 if an inverse pivot fails, else the report of the chosen degree
-unfoldable pub reportOf : ℕ → Settings → List Sample → List Float → ℕ → OptionDegree → ReportOut
-reportOf n settings samples sums solved None = refusedLate n 11
-reportOf n settings samples sums solved (Some d) =
+unfoldable pub reportOf : ℕ → Settings → List Row → List Float → ℕ → OptionDegree → ReportOut
+reportOf n settings rows sums solved None = refusedLate n 11
+reportOf n settings rows sums solved (Some d) =
     let k = countOf Curve (d .0) in
-    cond (inverseFails sums k) (refusedLate n 12) (writtenBy n settings samples (d .0) solved (solve sums k .c) (covarianceAt sums (rowsOf samples) k))
+    cond (inverseFails sums k) (refusedLate n 12) (writtenBy n settings rows (d .0) solved (solve sums k .c) (covarianceAt sums rows k))
 
-unfoldable pub reportPast : ℕ → Settings → List Sample → List Float → ReportOut
-reportPast n settings samples sums =
-    let choice = reportChoice n settings samples sums in
-    reportOf n settings samples sums (choice .solved) (choice .chosen)
+unfoldable pub reportPast : ℕ → Settings → List Row → List Float → ReportOut
+reportPast n settings rows sums =
+    let choice = reportChoice n settings rows sums in
+    reportOf n settings rows sums (choice .solved) (choice .chosen)
 
 -- a report of a book of n samples with these sums; columns, sums and the memory that is written have these lengths
 unfoldable pub reportOn : ℕ → Settings → List Sample → List Float → List ℕ → ℕ → Places → ReportOut
 reportOn n settings samples sums columns length places =
     let r = reportRefusal n settings samples columns length places in
-    settle r (reportPast n settings samples sums) (refusedEarly r)
+    settle r (reportPast n settings (rowsOf samples) sums) (refusedEarly r)
 
 -- the same on what stands in memory: what the call does
 abbrev pub reportOut : ℕ → Settings → Columns → List Float → Places → ReportOut

@@ -14,7 +14,9 @@ use settings::Settings;
 ghost use Prim.Native.Nat.{_+_, _≤_, _<_};
 ghost use lib.ListN.{length};
 ghost use Rattle.basis.specs.Sizes.{highestDegree, maxTerms, sumPlaces};
-ghost use Rattle.samples.specs.Columns.{samplesOf, columnsOf};
+ghost use Rattle.basis.specs.declared.Basis.the-variants.{Curve};
+ghost use Rattle.samples.specs.Columns.{columnsOf};
+ghost use Rattle.monomial.specs.Rows.{rowsAt};
 ghost use Rattle.statistics.specs.Degrees.{maxDegree};
 ghost use Rattle.lent.specs.Slices.{before, after};
 ghost use Rattle.report.specs.Outputs.{outputs};
@@ -62,7 +64,7 @@ fn choose(
     scratch: &mut [f64],
 ) -> Chosen
     requires { ⌜ (n ≤ length (now xs)) × (n ≤ length (now ys)) × (n ≤ length (now scratch)) × (sumPlaces ≤ length (now sums)) × (maxDegree (settings .bound) n ≤ highestDegree) ⌝ }
-    ensures { λ r. ⌜ Chooses n settings (samplesOf n (columnsOf (before xs) (before ys))) (before sums) (before scratch) (after scratch) r ⌝ }
+    ensures { λ r. ⌜ Chooses n settings (rowsAt Curve n (before xs) (before xs) (before ys)) (before sums) (before scratch) (after scratch) r ⌝ }
 {
     let bound = settings.bound;
     let criterion = settings.criterion;
@@ -123,7 +125,7 @@ fn write(
 ) -> ReportAnswer
     requires { ⌜ (n ≤ length (now xs)) × (n ≤ length (now ys)) × (degree .0 < n) × (degree .0 ≤ highestDegree) ⌝ }
     requires { ⌜ (n ≤ length (now scratch)) × (maxTerms ≤ length (now coefficients)) × (maxTerms ≤ length (now errors)) × (maxTerms ≤ length (now pruned)) × (n ≤ length (now lower)) × (n ≤ length (now upper)) × (n ≤ length (now outliers)) ⌝ }
-    ensures { λ r. ⌜ Does (writtenBy n settings (samplesOf n (columnsOf (before xs) (before ys))) (degree .0) solved c v) r (outputs scratch coefficients errors pruned lower upper outliers) ⌝ }
+    ensures { λ r. ⌜ Does (writtenBy n settings (rowsAt Curve n (before xs) (before xs) (before ys)) (degree .0) solved c v) r (outputs scratch coefficients errors pruned lower upper outliers) ⌝ }
 {
     let k = degree.k(Basis::Curve);
     let df = n - k.0;
@@ -168,6 +170,7 @@ pub fn report(
     settings: Settings,
     xs: &[f64],
     ys: &[f64],
+    ws: &[f64],
     sums: &[f64],
     scratch: &mut [f64],
     coefficients: &mut [f64],
@@ -177,7 +180,7 @@ pub fn report(
     upper: &mut [f64],
     outliers: &mut [u8],
 ) -> ReportAnswer
-    ensures { λ r. ⌜ ReportIs (book .count) settings (columnsOf (before xs) (before ys)) (before sums) r (outputs scratch coefficients errors pruned lower upper outliers) ⌝ }
+    ensures { λ r. ⌜ ReportIs (book .count) settings (columnsOf (before xs) (before ys) (before ws)) (before sums) r (outputs scratch coefficients errors pruned lower upper outliers) ⌝ }
 {
     let n = book.count;
     let places = Places {
@@ -189,7 +192,7 @@ pub fn report(
         upper: upper.len(),
         outliers: outliers.len(),
     };
-    let refusal = refusals::report_refusal(n, settings, xs, ys, sums.len(), places);
+    let refusal = refusals::report_refusal(n, settings, xs, ys, ws, sums.len(), places);
     if refusal != 0 {
         return ReportAnswer::Refused(refusal);
     }

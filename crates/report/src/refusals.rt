@@ -12,8 +12,8 @@ use crate::Places;
 use settings::Settings;
 
 // 1, of a report: the sums, and all that it writes.
-fn report_short(n: usize, xs: usize, ys: usize, sums: usize, p: Places) -> bool
-    ensures { λ r. ⌜ r ≡ tooShort n (xs ∷ ys ∷ []) (reportNeeds n sums p) ⌝ }
+fn report_short(n: usize, xs: usize, ys: usize, ws: usize, sums: usize, p: Places) -> bool
+    ensures { λ r. ⌜ r ≡ tooShort n (xs ∷ ys ∷ ws ∷ []) (reportNeeds n sums p) ⌝ }
 {
     let bands = refusal::short(
         n,
@@ -29,6 +29,7 @@ fn report_short(n: usize, xs: usize, ys: usize, sums: usize, p: Places) -> bool
         n,
         xs,
         ys,
+        ws,
         refusal::short(SUMS, sums, refusal::short(n, p.scratch, terms)),
     )
 }
@@ -38,12 +39,13 @@ pub fn report_refusal(
     settings: Settings,
     xs: &[f64],
     ys: &[f64],
+    ws: &[f64],
     sums: usize,
     places: Places,
 ) -> u8
-    ensures { λ r. ⌜ r ≡ reportRefusal n settings (samplesOf n (columnsOf (before xs) (before ys))) (lengths (columnsOf (before xs) (before ys))) sums places ⌝ }
+    ensures { λ r. ⌜ r ≡ reportRefusal n settings (samplesOf n (columnsOf (before xs) (before ys) (before ws))) (lengths (columnsOf (before xs) (before ys) (before ws))) sums places ⌝ }
 {
-    if report_short(n, xs.len(), ys.len(), sums, places) {
+    if report_short(n, xs.len(), ys.len(), ws.len(), sums, places) {
         return 1;
     }
     let bound = settings.bound;
@@ -51,7 +53,7 @@ pub fn report_refusal(
     let tolerance = settings.tolerance;
     let score = refusal::score_finite(confidence);
     let width = refusal::tolerance_finite(tolerance);
-    let samples = refusal::samples_finite(xs, ys, n);
+    let samples = refusal::samples_finite(xs, ys, ws, n);
     let wrong = !(score & width & samples);
     let high = refusal::bound_too_high(bound, n);
     refusal::first(

@@ -10,7 +10,7 @@ use Rattle.loops.specs.Fold.{fold}
 use Rattle.loops.specs.Places.{each, table}
 use Rattle.loops.specs.PlaceLaws.{each-again}
 use Rattle.basis.specs.declared.Basis.the-variants.{Curve}
-use Rattle.monomial.specs.Rows.{rowAt, weightedAt, weightedRowsAt}
+use Rattle.monomial.specs.Rows.{rowAt, rowOf, weightedAt, weightedRowsAt}
 use Rattle.monomial.specs.Terms.{termsAt}
 use Rattle.monomial.specs.Sums.{addRow, addRows}
 use Rattle.monomial.specs.SumLaws.{length-add-row, rows-afresh}
@@ -42,7 +42,7 @@ unfolding fold weightedRowsAt table
 loop2-holds c = (search needs, refl, refl)
 
 loop2-again : tie.Need-loop2-again Inv-loop μ-loop Inv-loop2 μ-loop2
-unfolding weightedAt rowAt termsAt
+unfolding weightedAt rowAt rowOf termsAt
 loop2-again c =
     let at-weight-at = c .before .before .before .weight-at in
     let at-loop2 = c .before .before .before .before .before .before .before .before .loop2 in
