@@ -1,6 +1,6 @@
 -- Columns that hold a ledger's samples, and the sums of the ledger, as each call changes them.
-use mathlib.Core.Path.{_≡_, refl, sym, ap, ap₂, _∙_}
-use mathlib.Core.List.{List, [], _∷_, _++_, map, map-append, append-assoc}
+use mathlib.Core.Path.{_≡_, refl, sym, ap, ap₂, fun-ext, _∙_}
+use mathlib.Core.List.{List, [], _∷_, _++_, map, map-map, map-append, append-assoc}
 use Prim.Native.Nat.{ℕ, zero, suc, _+_, _-_, _≤_, _<_}
 use native.Mathlib.Numerals.{add-one}
 use native.Mathlib.Omega.{arith}
@@ -9,10 +9,12 @@ use lib.ListN.{length, getD, set, take, drop, length-append, length-drop}
 use lib.Seq.{take-suc-set, take-take, take-at, drop-at, drop-drop, getD-drop, paste, length-paste, take-nil, take-paste, drop-paste, length-take-le}
 use lib.Ieee.{Float, nan}
 use Rattle.loops.specs.Places.{table}
-use Rattle.samples.specs.Samples.{Sample, xsOf, ysOf}
-use Rattle.samples.specs.Columns.{samplesOf, columnsOf, Columns, Column, ofX, ofY, value}
-use Rattle.monomial.specs.Rows.{rowOf, rowsOf}
+use Rattle.loops.specs.PlaceLaws.{table-same}
+use Rattle.samples.specs.Samples.{Sample, ysOf}
+use Rattle.samples.specs.Columns.{sampleAt, sampleBy, samplesOf, Columns, Column, ofX, ofY, ofW, value}
+use Rattle.monomial.specs.Rows.{weightedOf, weightedRows}
 use Rattle.monomial.specs.Sums.{addRow, sumsOf}
+use Rattle.monomial.specs.Parts.{yAside}
 use Rattle.monomial.specs.SumLaws.{length-sums, add-row-append, sums-again, corrected, terms-same, rows-again}
 use Rattle.book.specs.Calls.{withoutAt}
 use Rattle.ledger.specs.Ledger.{newY, seen}
@@ -25,11 +27,19 @@ length-new [] i y = refl
 length-new (p ∷ l) zero y = refl
 length-new (p ∷ l) (suc i) y = ap suc (length-new l i y)
 
-pub new-x : (l : List Sample) (i : ℕ) (y : Float) → xsOf (newY l i y) ≡ xsOf l
+-- but for y nothing is new
+pub new-aside : (l : List Sample) (i : ℕ) (y : Float) → map yAside (newY l i y) ≡ map yAside l
 unfolding newY
-new-x [] i y = refl
-new-x (p ∷ l) zero y = refl
-new-x (p ∷ l) (suc i) y = ap (λ r. p .x ∷ r) (new-x l i y)
+new-aside [] i y = refl
+new-aside (p ∷ l) zero y = refl
+new-aside (p ∷ l) (suc i) y = ap (λ r. yAside p ∷ r) (new-aside l i y)
+
+-- nor is what is read off a sample without its y
+pub new-same : (f : Sample → Float) → ((p : Sample) → f (yAside p) ≡ f p) → (l : List Sample) (i : ℕ) (y : Float) → map f (newY l i y) ≡ map f l
+new-same f e l i y = by-aside (newY l i y) ∙ ap (map f) (new-aside l i y) ∙ sym (by-aside l)
+  where
+    by-aside : (l : List Sample) → map f l ≡ map f (map yAside l)
+    by-aside l = sym (map-map f yAside l ∙ ap (λ g. map g l) (fun-ext e))
 
 pub new-y : (l : List Sample) (i : ℕ) (y : Float) → ysOf (newY l i y) ≡ set (ysOf l) i y
 unfolding newY
@@ -96,52 +106,65 @@ module _ (i n : ℕ) (c : List Float) (h : i < n) (k : n ≤ length c) where
       ∙ ap (λ j. drop j c) (sym e)
 
 -- the samples that columns hold
-holding : (l : List Sample) (a b : List Float) → take (length l) a ≡ xsOf l → take (length l) b ≡ ysOf l → samplesOf (length l) (columnsOf a b) ≡ l
+holding : (l : List Sample) (c : Columns) → ((k : Column) → take (length l) (c k) ≡ map (value k) l) → samplesOf (length l) c ≡ l
 unfolding samplesOf table
-holding [] a b e f = refl
-holding (p ∷ l) [] b e f = absurd (omega (arith, ap length e))
-holding (p ∷ l) (u ∷ a) [] e f = absurd (omega (arith, ap length f))
-holding (p ∷ l) (u ∷ a) (v ∷ b) e f =
-    let x : u ≡ p .x = ap (λ r. getD r 0 nan) e in
-    let y : v ≡ p .y = ap (λ r. getD r 0 nan) f in
-    ap₂ (λ q r. q ∷ r) (λ i. record { x = x i; y = y i }) (holding l a b (ap (drop 1) e) (ap (drop 1) f))
+holding [] c e = refl
+holding (p ∷ l) c e =
+    let first : sampleAt c 0 ≡ p = λ i. record { x = head ofX i; y = head ofY i; w = head ofW i } in
+    ap₂ (λ q r. q ∷ r) first
+    (table-same (λ t. sampleAt c (suc t)) (sampleAt (λ k. drop 1 (c k))) (length l) (λ t h. ap sampleBy (fun-ext (λ (k : Column). tail (c k) t)))
+    ∙ holding l (λ k. drop 1 (c k)) (λ k. later (c k) (map (value k) l) (length l) (value k p) (e k)))
+  where
+    head : (k : Column) → getD (c k) 0 nan ≡ value k p
+    head k = first-of (c k) (map (value k) l) (length l) (value k p) (e k)
+      where
+        first-of : (a m : List Float) (n : ℕ) (v : Float) → take (suc n) a ≡ v ∷ m → getD a 0 nan ≡ v
+        first-of [] m n v e = absurd (omega (arith, ap length e))
+        first-of (u ∷ a) m n v e = ap (λ r. getD r 0 nan) e
+
+    tail : (a : List Float) (t : ℕ) → getD a (suc t) nan ≡ getD (drop 1 a) t nan
+    tail [] t = refl
+    tail (u ∷ a) t = refl
+
+    later : (a m : List Float) (n : ℕ) (v : Float) → take (suc n) a ≡ v ∷ m → take n (drop 1 a) ≡ m
+    later [] m n v e = absurd (omega (arith, ap length e))
+    later (u ∷ a) m n v e = ap (drop 1) e
 
 pub samples-are : (l : List Sample) (n : ℕ) (c : Columns) → n ≡ length l → ((k : Column) → take n (c k) ≡ map (value k) l) → samplesOf n c ≡ l
-unfolding samplesOf
-samples-are l n c q e = rw q (holding l (c ofX) (c ofY) (rw q at (e ofX)) (rw q at (e ofY)))
+samples-are l n c q e = rw q (holding l c (λ k. rw q at (e k)))
 
 -- ---- the sums u: those of the ledger l, then the places past the 272, which hold rest
 
-module _ (l : List Sample) (rest u : List Float) (is : u ≡ sumsOf (rowsOf l) ++ rest) where
-  pub sums-first : take 272 u ≡ sumsOf (rowsOf l)
-  sums-first = ap (take 272) is ∙ take-at (sumsOf (rowsOf l)) rest 272 (length-sums (rowsOf l))
+module _ (l : List Sample) (rest u : List Float) (is : u ≡ sumsOf (weightedRows l) ++ rest) where
+  pub sums-first : take 272 u ≡ sumsOf (weightedRows l)
+  sums-first = ap (take 272) is ∙ take-at (sumsOf (weightedRows l)) rest 272 (length-sums (weightedRows l))
 
   pub sums-rest : drop 272 u ≡ rest
-  sums-rest = ap (drop 272) is ∙ drop-at (sumsOf (rowsOf l)) rest 272 (length-sums (rowsOf l))
+  sums-rest = ap (drop 272) is ∙ drop-at (sumsOf (weightedRows l)) rest 272 (length-sums (weightedRows l))
 
   -- an add adds its products
-  pub sums-add : (p : Sample) → addRow u (rowOf p) ≡ sumsOf (rowsOf (l ++ (p ∷ []))) ++ rest
+  pub sums-add : (p : Sample) → addRow u (weightedOf p) ≡ sumsOf (weightedRows (l ++ (p ∷ []))) ++ rest
   sums-add p =
-      ap (λ t. addRow t (rowOf p)) is
-      ∙ add-row-append (sumsOf (rowsOf l)) rest (rowOf p) (length-sums (rowsOf l))
-      ∙ ap (λ t. t ++ rest) (sym (sums-again (rowsOf l) (rowOf p)) ∙ ap sumsOf (sym (rows-again l p)))
+      ap (λ t. addRow t (weightedOf p)) is
+      ∙ add-row-append (sumsOf (weightedRows l)) rest (weightedOf p) (length-sums (weightedRows l))
+      ∙ ap (λ t. t ++ rest) (sym (sums-again (weightedRows l) (weightedOf p)) ∙ ap sumsOf (sym (rows-again l p)))
 
   -- a correction leaves A and folds g afresh
   pub sums-correct : (i : ℕ) (y : Float)
-      → take 256 u ++ (drop 256 (sumsOf (rowsOf (newY l i y))) ++ drop 272 u) ≡ sumsOf (rowsOf (newY l i y)) ++ rest
+      → take 256 u ++ (drop 256 (sumsOf (weightedRows (newY l i y))) ++ drop 272 u) ≡ sumsOf (weightedRows (newY l i y)) ++ rest
   sums-correct i y =
-      let g = drop 256 (sumsOf (rowsOf (newY l i y))) in
+      let g = drop 256 (sumsOf (weightedRows (newY l i y))) in
       ap (λ t. take 256 u ++ (g ++ t)) sums-rest
       ∙ sym (append-assoc (take 256 u) g rest)
       ∙ ap (λ t. t ++ g ++ rest) (sym (take-take 256 272 u (lit≤ tt)) ∙ ap (take 256) sums-first)
-      ∙ ap (λ t. t ++ rest) (corrected (rowsOf l) (rowsOf (newY l i y)) (terms-same l (newY l i y) (sym (new-x l i y))))
+      ∙ ap (λ t. t ++ rest) (corrected (weightedRows l) (weightedRows (newY l i y)) (terms-same l (newY l i y) (sym (new-aside l i y))))
 
 -- sums of any two lists are of one length
-pub sums-long : (l k : List Sample) (rest : List Float) → length (sumsOf (rowsOf l) ++ rest) ≡ length (sumsOf (rowsOf k) ++ rest)
+pub sums-long : (l k : List Sample) (rest : List Float) → length (sumsOf (weightedRows l) ++ rest) ≡ length (sumsOf (weightedRows k) ++ rest)
 sums-long l k rest =
-    length-append (sumsOf (rowsOf l)) rest
-    ∙ ap (λ n. n + length rest) (length-sums (rowsOf l) ∙ sym (length-sums (rowsOf k)))
-    ∙ sym (length-append (sumsOf (rowsOf k)) rest)
+    length-append (sumsOf (weightedRows l)) rest
+    ∙ ap (λ n. n + length rest) (length-sums (weightedRows l) ∙ sym (length-sums (weightedRows k)))
+    ∙ sym (length-append (sumsOf (weightedRows k)) rest)
 
 -- ---- what a place holds
 

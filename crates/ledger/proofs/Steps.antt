@@ -12,7 +12,7 @@ use lib.Ieee.{Float}
 use Rattle.loops.specs.Cases.{either}
 use Rattle.loops.specs.Fold.{fold}
 use Rattle.samples.specs.Samples.{Sample}
-use Rattle.monomial.specs.Rows.{rowsOf}
+use Rattle.monomial.specs.Rows.{weightedRows}
 use Rattle.monomial.specs.Sums.{sumsOf}
 use Rattle.frame.specs.Frame.{decode}
 use Rattle.decimal.specs.Lines.{readLines}
@@ -24,15 +24,15 @@ use Rattle.refusal.specs.Refusals.{firstOf, settle}
 use Rattle.refusal.specs.Laws.{first-none}
 use Rattle.refusal.specs.Rooms.{Room}
 use Rattle.refusal.specs.RoomLaws.{room-of, room, long-enough}
-use Rattle.refusal.specs.Tests.{capacity, sampleFinite}
-use Rattle.samples.specs.Columns.{lengths, Column, ofX, ofY, value, samplesOf, withY}
+use Rattle.refusal.specs.Tests.{capacity, sampleFinite, weightAbove}
+use Rattle.samples.specs.Columns.{lengths, Column, ofX, ofY, ofW, value, samplesOf, withY}
 use Rattle.samples.specs.ColumnLaws.{of-every, lengths-same}
 use Rattle.book.specs.Calls.{Out, State, stateAfter, bookOf, bookAnswered, refused, addOut, correctOut, withdrawOut, withoutAt, addNext, addMany, addFrameOut, addLinesOut}
 use Rattle.book.specs.Many.{added, RoomFor}
 use Rattle.book.specs.ManyLaws.{room-one, room-rest, one-added, many-added, added-is}
 use Rattle.book.specs.Window.{windowRefusal, withPlace, windowOut}
 use Rattle.ledger.specs.Ledger.{Change, adds, corrects, withdraws, frames, texts, windows, Lent, lentBy, outOf, newY, without, changed, refusalOf}
-use Rattle.ledger.proofs.Lists.{length-new, new-x, new-y, length-less, column-add, column-without, length-without, without-rest, samples-are, sums-rest, sums-add, sums-correct, sums-long, drop-later}
+use Rattle.ledger.proofs.Lists.{length-new, new-same, new-y, length-less, column-add, column-without, length-without, without-rest, samples-are, sums-rest, sums-add, sums-correct, sums-long, drop-later}
 
 -- ---- what a call that is not refused leaves
 
@@ -40,13 +40,13 @@ use Rattle.ledger.proofs.Lists.{length-new, new-x, new-y, length-less, 
 abbrev correctedState : State → ℕ → Float → State
 correctedState s i y =
     let c = withY i y (s .columns) in
-    record { count = s .count; columns = c; sums = take 256 (s .sums) ++ (drop 256 (sumsOf (rowsOf (samplesOf (s .count) c))) ++ drop 272 (s .sums)) }
+    record { count = s .count; columns = c; sums = take 256 (s .sums) ++ (drop 256 (sumsOf (weightedRows (samplesOf (s .count) c))) ++ drop 272 (s .sums)) }
 
 -- sample i goes
 abbrev withdrawnState : State → ℕ → State
 withdrawnState s i =
     let c : Column → List Float = λ k. withoutAt i (s .count) (s .columns k) in
-    record { count = s .count - 1; columns = c; sums = sumsOf (rowsOf (samplesOf (s .count - 1) c)) ++ drop 272 (s .sums) }
+    record { count = s .count - 1; columns = c; sums = sumsOf (weightedRows (samplesOf (s .count - 1) c)) ++ drop 272 (s .sums) }
 
 abbrev done : State → Change → State
 done s (adds p) = added s p
@@ -92,7 +92,7 @@ module _ (m : Lent) (rest : List Float) where
     pub room : s .count ≤ capacity (lentBy s .columns)
     pub long : 272 ≤ length (s .sums)
     pub below : (k : Column) → take (s .count) (s .columns k) ≡ map (value k) l
-    pub sums : s .sums ≡ sumsOf (rowsOf l) ++ rest
+    pub sums : s .sums ≡ sumsOf (weightedRows l) ++ rest
 
   -- s′ is what a call leaves of s: it holds l, and the columns stand from the new count on
   pub record Leaves (s : State) (l : List Sample) (s′ : State) : Type 0 where
@@ -105,7 +105,7 @@ module _ (m : Lent) (rest : List Float) where
   -- what is to be shown of a call
   leaves-by : (l l′ : List Sample) (s s′ : State) → Holds l s → s′ .count ≡ length l′ → s′ .count ≤ capacity (lentBy s .columns)
       → ((k : Column) → length (s′ .columns k) ≡ length (s .columns k)) → ((k : Column) → take (s′ .count) (s′ .columns k) ≡ map (value k) l′)
-      → ((k : Column) → drop (s′ .count) (s′ .columns k) ≡ drop (s′ .count) (s .columns k)) → s′ .sums ≡ sumsOf (rowsOf l′) ++ rest → Leaves s l′ s′
+      → ((k : Column) → drop (s′ .count) (s′ .columns k) ≡ drop (s′ .count) (s .columns k)) → s′ .sums ≡ sumsOf (weightedRows l′) ++ rest → Leaves s l′ s′
   leaves-by l l′ s s′ h c r n b d q =
       let t = ap length q ∙ sums-long l′ l rest ∙ sym (ap length (h .sums)) in
       let e = same-lent s s′ n t in
@@ -148,20 +148,23 @@ module _ (m : Lent) (rest : List Float) where
       let c = h .count ∙ sym (length-new l i y) in
       let b = below in
       leaves-by l (newY l i y) s (correctedState s i y) h c (h .room) long b keeps
-      (ap (λ u. take 256 (s .sums) ++ (drop 256 (sumsOf (rowsOf u)) ++ drop 272 (s .sums))) (held-by (newY l i y) (correctedState s i y) c b)
+      (ap (λ u. take 256 (s .sums) ++ (drop 256 (sumsOf (weightedRows u)) ++ drop 272 (s .sums))) (held-by (newY l i y) (correctedState s i y) c b)
       ∙ sums-correct l rest (s .sums) (h .sums) i y)
     where
       long : (k : Column) → length (correctedState s i y .columns k) ≡ length (s .columns k)
       long ofX = refl
       long ofY = length-set (s .columns ofY) i y
+      long ofW = refl
 
       below : (k : Column) → take (s .count) (correctedState s i y .columns k) ≡ map (value k) (newY l i y)
-      below ofX = h .below ofX ∙ sym (new-x l i y)
+      below ofX = h .below ofX ∙ sym (new-same (value ofX) (λ p. refl) l i y)
+      below ofW = h .below ofW ∙ sym (new-same (value ofW) (λ p. refl) l i y)
       below ofY = take-set-lt (s .count) (s .columns ofY) i y r ∙ ap (λ u. set u i y) (h .below ofY) ∙ sym (new-y l i y)
 
       keeps : (k : Column) → drop (s .count) (correctedState s i y .columns k) ≡ drop (s .count) (s .columns k)
       keeps ofX = refl
       keeps ofY = drop-set-lt (s .count) (s .columns ofY) i y r
+      keeps ofW = refl
 
   -- sample i goes
   leaves-withdraw : (l : List Sample) (s : State) (i : ℕ) → Holds l s → i < s .count → Leaves s (without i l) (withdrawnState s i)
@@ -176,20 +179,21 @@ module _ (m : Lent) (rest : List Float) where
       (λ k. length-without i n (s .columns k) r (f k))
       b
       (λ k. without-rest i n (s .columns k) r (f k))
-      (ap₂ (λ u v. sumsOf (rowsOf u) ++ v) (held-by (without i l) t c b) (sums-rest l rest (s .sums) (h .sums)))
+      (ap₂ (λ u v. sumsOf (weightedRows u) ++ v) (held-by (without i l) t c b) (sums-rest l rest (s .sums) (h .sums)))
 
 -- ---- a window's add, where 1, 4 and 5 do not hold: neither the withdrawal nor the add is refused
 
 module _ (s : State) (p : Sample) (e : windowRefusal (s .count) p (lentBy s .columns) (lentBy s .sums) ≡ 0) where
-  window-tests : (272 ≤ length (s .sums)) × (s .count ≤ capacity (lentBy s .columns)) × (sampleFinite p ≡ true) × (0 < capacity (lentBy s .columns))
+  window-tests : (272 ≤ length (s .sums)) × (s .count ≤ capacity (lentBy s .columns)) × (sampleFinite p ≡ true) × (weightAbove p ≡ true) × (0 < capacity (lentBy s .columns))
   unfolding windowRefusal
   window-tests =
       let k1 = first-none _ 0 _ e in
       let k4 = first-none _ 3 _ (k1 .1) in
-      let k5 = first-none _ 4 _ (k4 .1) in
+      let k15 = first-none _ 14 _ (k4 .1) in
+      let k5 = first-none _ 4 _ (k15 .1) in
       let z = eqb-false _ 0 (k5 .0) in
       let r = room (s .count) (lentBy s .columns) (sumsLent (lentBy s .sums)) (k1 .0) in
-      (r .enough .0, r .count, not-false _ (k4 .0), positive _ z)
+      (r .enough .0, r .count, not-false _ (k4 .0), not-false _ (k15 .0), positive _ z)
     where
       positive : (c : ℕ) → (c ≡ 0 → ⊥) → 0 < c
       positive zero z = absurd (z refl)
@@ -215,7 +219,7 @@ module _ (m : Lent) (rest : List Float) where
           let w = window-tests s p e in
           let z = eqb-false (s .count) (capacity (lentBy s .columns)) q in
           let r : s .count + 1 ≤ capacity (lentBy s .columns) = below (s .count) (capacity (lentBy s .columns)) (w .1) z in
-          rw (one-added s p (roomy s (s .count + 1) r (w .0)) (w .2)) (leaves-add m rest l s p h r)
+          rw (one-added s p (roomy s (s .count + 1) r (w .0)) (w .2) (w .3)) (leaves-add m rest l s p h r)
         where
           below : (a b : ℕ) → a ≤ b → (a ≡ b → ⊥) → a + 1 ≤ b
           below a b u v = either (a + 1) b (λ x. x) (λ x. absurd (v (omega arith)))
@@ -223,12 +227,12 @@ module _ (m : Lent) (rest : List Float) where
           let w = window-tests s p e in
           let z = eqb-true (s .count) (capacity (lentBy s .columns)) q in
           let t = withdrawnState s 0 in
-          let some : 0 < s .count = omega (arith, z, w .3) in
+          let some : 0 < s .count = omega (arith, z, w .4) in
           let one = leaves-withdraw m rest l s 0 h some in
           let lent : lentBy s ≡ lentBy t = h .lent ∙ sym (one .holds .lent) in
           let r : t .count + 1 ≤ capacity (lentBy t .columns) =
-          subst (λ (c : Lent). s .count - 1 + 1 ≤ capacity (c .columns)) lent (omega (arith, z, w .3)) in
-          let is = ap (λ (u : State). addNext u p) (withdraw-taken s 0 (w .0) (w .1) some) ∙ one-added t p (roomy t (t .count + 1) r (one .holds .long)) (w .2) in
+          subst (λ (c : Lent). s .count - 1 + 1 ≤ capacity (c .columns)) lent (omega (arith, z, w .4)) in
+          let is = ap (λ (u : State). addNext u p) (withdraw-taken s 0 (w .0) (w .1) some) ∙ one-added t p (roomy t (t .count + 1) r (one .holds .long)) (w .2) (w .3) in
           subst (λ (u : State). Leaves m rest s (without 0 l ++ (p ∷ [])) u) (sym is)
           (leaves-then m rest (without 0 l) (without 0 l ++ (p ∷ [])) s t (added t p) one (leaves-add m rest (without 0 l) t p (one .holds) r) (omega arith))
 
@@ -242,10 +246,10 @@ module _ (m : Lent) (rest : List Float) where
   leaves l s h (withdraws i) e = leaves-withdraw m rest l s i h (withdraw-room (s .count) (lengths (s .columns)) (length (s .sums)) i e .1)
   leaves l s h (frames f) e =
       let r = frame-room (s .count) (lengths (s .columns)) (length (s .sums)) f e in
-      rw (many-added (decode f) s (r .0) (r .2)) (leaves-many m rest (decode f) l s h (r .0))
+      rw (many-added (decode f) s (r .0) (r .2, r .3)) (leaves-many m rest (decode f) l s h (r .0))
   leaves l s h (texts t) e =
       let r = lines-room (s .count) (lengths (s .columns)) (length (s .sums)) t e in
-      rw (many-added (readLines t) s (r .0) (r .2)) (leaves-many m rest (readLines t) l s h (r .0))
+      rw (many-added (readLines t) s (r .0) (r .2, r .3)) (leaves-many m rest (readLines t) l s h (r .0))
   leaves l s h (windows p) e = leaves-window l s p h e
 
   pub record Stepped (s : State) (o : Out) (l : List Sample) (a : Answer) : Type 0 where

@@ -114,7 +114,7 @@ module _ (settings : Settings) (l : List Sample) (o : ReportOut) (e : o ≡ repo
   12-if-fails d w h = answered (Some (degree d)) (chosen-is S b d w) ∙ (rw h)
 
   otherwise : (d : ℕ) → IsChosen settings l d → inverseFails (ledgerSums settings l) (countOf Curve d) ≡ false
-      → o ≡ writtenBy (length l) settings l d (solvedCount (scored settings l) (degrees settings l)) (solve (ledgerSums settings l) (countOf Curve d) .c) (covarianceAt (ledgerSums settings l) (rowsOf l) (countOf Curve d))
+      → o ≡ writtenBy (length l) settings (rowsOf l) d (solvedCount (scored settings l) (degrees settings l)) (solve (ledgerSums settings l) (countOf Curve d) .c) (covarianceAt (ledgerSums settings l) (rowsOf l) (countOf Curve d))
   unfolding S b reportOf
   otherwise d w h = e ∙ ap (reportBy settings l) (chosen-is S b d w) ∙ (rw h)
 

@@ -11,7 +11,7 @@ use Rattle.statistics.specs.Degrees.{maxDegree}
 use Rattle.basis.specs.Counts.{countOf}
 use Rattle.basis.specs.declared.Basis.the-variants.{Curve}
 use Rattle.samples.specs.Samples.{Sample}
-use Rattle.monomial.specs.Rows.{rowsOf}
+use Rattle.monomial.specs.Rows.{rowsOf, weightedRows}
 use Rattle.monomial.specs.Sums.{sumsOf}
 use Rattle.solve.specs.Solve.{solve}
 use Rattle.choice.specs.Choice.{leastOf, solvedCount, Attained, Chosen}
@@ -25,7 +25,7 @@ use Rattle.report.specs.Reports.{ReportOut, writtenBy}
 module _ (settings : Settings) (samples : List Sample) where
   -- the ledger's sums
   abbrev pub ledgerSums : List Float
-  ledgerSums = sumsOf (rowsOf samples)
+  ledgerSums = sumsOf (weightedRows samples)
 
   -- A report's bound is `max_degree` for its setting and n, and its degrees run from 0 to the bound: this many.
   abbrev pub degrees : ℕ
@@ -59,4 +59,4 @@ module _ (settings : Settings) (samples : List Sample) where
     -- Otherwise it names the chosen degree and the number of solved degrees, with that fit's coefficients, errors, bands, outliers and pruned terms,
     -- all as the ledger's samples give them.
     pub otherwise : (d : ℕ) → IsChosen d → inverseFails ledgerSums (countOf Curve d) ≡ false
-        → o ≡ writtenBy (length samples) settings samples d (solvedCount scored degrees) (solve ledgerSums (countOf Curve d) .c) (covarianceAt ledgerSums (rowsOf samples) (countOf Curve d))
+        → o ≡ writtenBy (length samples) settings (rowsOf samples) d (solvedCount scored degrees) (solve ledgerSums (countOf Curve d) .c) (covarianceAt ledgerSums (rowsOf samples) (countOf Curve d))
