@@ -1,0 +1,6 @@
+-- Document 01's two-column book: the calls that change it, and demand 3 for them.
+pub mod Pairs
+pub mod Refusals
+pub mod Calls
+pub mod Many
+pub mod Ledger
