@@ -10,8 +10,8 @@ use Rattle.loops.specs.Fold.{fold}
 use Rattle.loops.specs.Places.{table}
 use Rattle.value.specs.Numbers.{zeroF}
 use Rattle.basis.specs.declared.Basis.the-variants.{Curve}
-use Rattle.monomial.specs.Rows.{Row, rowsAt}
-use Rattle.monomial.specs.RowLaws.{rows-at-take}
+use Rattle.monomial.specs.Rows.{WeightedRow, weightedRowsAt}
+use Rattle.monomial.specs.RowLaws.{weighted-at-take}
 use Rattle.monomial.specs.Sums.{addRows, sumsOf}
 use Rattle.monomial.specs.SumLaws.{length-sums, sums-append}
 use Rattle.monomial.specs.Corner.{SameCorner}
@@ -19,37 +19,37 @@ use Rattle.monomial.specs.CornerLaws.{corner-itself, corner-then, rows-corner}
 use Rattle.folds.specs.Folds.{startOf, endOf, othersOf}
 use Rattle.folds.specs.FoldLaws.{first-start, next-start, start-end, end-below}
 
-module _ (k : ℕ) (fits : k ≤ 16) (xs ys s t : List Float) (long : 272 ≤ length s) where
+module _ (k : ℕ) (fits : k ≤ 16) (xs ys ws s t : List Float) (long : 272 ≤ length s) where
   -- rows behind others
-  added : (rs qs : List Row) → SameCorner k s (sumsOf rs) → SameCorner k t (addRows s qs) → SameCorner k t (sumsOf (rs ++ qs))
+  added : (rs qs : List WeightedRow) → SameCorner k s (sumsOf rs) → SameCorner k t (addRows s qs) → SameCorner k t (sumsOf (rs ++ qs))
   added rs qs w m = rw (sums-append rs qs) (corner-then m (rows-corner k fits s (sumsOf rs) qs long (omega (arith, length-sums rs)) w))
 
-  module _ (n folds f start end : ℕ) (inside : f < folds) (begins : start ≡ startOf n folds f) (w : SameCorner k s (sumsOf (rowsAt Curve (startOf n folds f) xs xs ys))) where
-    from-start : SameCorner k s (sumsOf (rowsAt Curve start xs xs ys))
+  module _ (n folds f start end : ℕ) (inside : f < folds) (begins : start ≡ startOf n folds f) (w : SameCorner k s (sumsOf (weightedRowsAt Curve (startOf n folds f) xs xs ys ws))) where
+    from-start : SameCorner k s (sumsOf (weightedRowsAt Curve start xs xs ys ws))
     from-start = rw begins w
 
     -- those from end on, behind those before start
-    pub others-same : SameCorner k t (addRows s (drop end (rowsAt Curve n xs xs ys))) → SameCorner k t (sumsOf (othersOf start end (rowsAt Curve n xs xs ys)))
+    pub others-same : SameCorner k t (addRows s (drop end (weightedRowsAt Curve n xs xs ys ws))) → SameCorner k t (sumsOf (othersOf start end (weightedRowsAt Curve n xs xs ys ws)))
     unfolding othersOf
     others-same m =
-        rw (rows-at-take Curve xs xs ys start n (omega (arith, begins, start-end n folds f inside, end-below n folds f inside)))
-        (added (rowsAt Curve start xs xs ys) (drop end (rowsAt Curve n xs xs ys)) from-start m)
+        rw (weighted-at-take Curve xs xs ys ws start n (omega (arith, begins, start-end n folds f inside, end-below n folds f inside)))
+        (added (weightedRowsAt Curve start xs xs ys ws) (drop end (weightedRowsAt Curve n xs xs ys ws)) from-start m)
 
     -- the fold's own
-    pub passed-same : end ≡ endOf n folds f → SameCorner k t (addRows s (drop start (rowsAt Curve end xs xs ys))) → SameCorner k t (sumsOf (rowsAt Curve (endOf n folds f) xs xs ys))
-    passed-same ends m = rw (← ends, ← join) (added (rowsAt Curve start xs xs ys) (drop start (rowsAt Curve end xs xs ys)) from-start m)
+    pub passed-same : end ≡ endOf n folds f → SameCorner k t (addRows s (drop start (weightedRowsAt Curve end xs xs ys ws))) → SameCorner k t (sumsOf (weightedRowsAt Curve (endOf n folds f) xs xs ys ws))
+    passed-same ends m = rw (← ends, ← join) (added (weightedRowsAt Curve start xs xs ys ws) (drop start (weightedRowsAt Curve end xs xs ys ws)) from-start m)
       where
-        join : rowsAt Curve start xs xs ys ++ drop start (rowsAt Curve end xs xs ys) ≡ rowsAt Curve end xs xs ys
+        join : weightedRowsAt Curve start xs xs ys ws ++ drop start (weightedRowsAt Curve end xs xs ys ws) ≡ weightedRowsAt Curve end xs xs ys ws
         join =
-            ap (λ l. l ++ drop start (rowsAt Curve end xs xs ys)) (sym (rows-at-take Curve xs xs ys start end (omega (arith, begins, ends, start-end n folds f inside))))
-            ∙ take-append-drop start (rowsAt Curve end xs xs ys)
+            ap (λ l. l ++ drop start (weightedRowsAt Curve end xs xs ys ws)) (sym (weighted-at-take Curve xs xs ys ws start end (omega (arith, begins, ends, start-end n folds f inside))))
+            ∙ take-append-drop start (weightedRowsAt Curve end xs xs ys ws)
 
 -- none before the first fold
-pub begun : (k n folds : ℕ) (xs ys : List Float) → SameCorner k (replicate 272 zeroF) (sumsOf (rowsAt Curve (startOf n folds 0) xs xs ys))
-unfolding sumsOf rowsAt table fold
-begun k n folds xs ys = rw (first-start n folds) (corner-itself k (replicate 272 zeroF))
+pub begun : (k n folds : ℕ) (xs ys ws : List Float) → SameCorner k (replicate 272 zeroF) (sumsOf (weightedRowsAt Curve (startOf n folds 0) xs xs ys ws))
+unfolding sumsOf weightedRowsAt table fold
+begun k n folds xs ys ws = rw (first-start n folds) (corner-itself k (replicate 272 zeroF))
 
 -- where a fold ends the next begins
-pub next-begun : (k n folds f : ℕ) (xs ys s : List Float) → SameCorner k s (sumsOf (rowsAt Curve (endOf n folds f) xs xs ys)) → f + 1 < folds
-    → SameCorner k s (sumsOf (rowsAt Curve (startOf n folds (f + 1)) xs xs ys))
-next-begun k n folds f xs ys s w h = rw (next-start n folds f h) w
+pub next-begun : (k n folds f : ℕ) (xs ys ws s : List Float) → SameCorner k s (sumsOf (weightedRowsAt Curve (endOf n folds f) xs xs ys ws)) → f + 1 < folds
+    → SameCorner k s (sumsOf (weightedRowsAt Curve (startOf n folds (f + 1)) xs xs ys ws))
+next-begun k n folds f xs ys ws s w h = rw (next-start n folds f h) w

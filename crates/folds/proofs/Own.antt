@@ -8,7 +8,7 @@ use lib.Seq.{take-all}
 use lib.Ieee.{Float}
 use Rattle.loops.specs.PlaceLaws.{part-take, map-part}
 use Rattle.value.specs.Absolute.{absF}
-use Rattle.monomial.specs.Rows.{Row}
+use Rattle.monomial.specs.Rows.{Row, WeightedRow, rowsIn}
 use Rattle.monomial.specs.Sums.{sumsOf}
 use Rattle.monomial.specs.SumLaws.{length-sums}
 use Rattle.monomial.specs.Corner.{SameCorner}
@@ -38,10 +38,10 @@ module _ (start end n : ℕ) (s : List Float) (h : start ≤ end) (g : end ≤ n
       ∙ sym (ap (map absF) (map-part (residual k c) start (end - start) rows) ∙ map-part absF start (end - start) (map (residual k c) rows))
 
 -- what a fold says of k coefficients, from sums that are those over the others in the corner of m rows and columns
-pub fold-scored : (criterion : Criterion) (rows : List Row) (n folds k m f start end : ℕ) (sums : List Float) (r : Scored) → length rows ≡ n
+pub fold-scored : (criterion : Criterion) (rows : List WeightedRow) (plain : List Row) (n folds k m f start end : ℕ) (sums : List Float) (r : Scored) → length rows ≡ n → rowsIn rows ≡ plain
     → start ≡ startOf n folds f → end ≡ endOf n folds f → m ≤ 16 → k ≤ m → 256 ≤ length sums → SameCorner m sums (sumsOf (othersOf start end rows))
-    → r ≡ scoredBy criterion sums rows (ownOf start end rows) k → r ≡ foldScored criterion rows folds k f
+    → r ≡ scoredBy criterion sums plain (ownOf start end plain) k → r ≡ foldScored criterion rows folds k f
 unfolding foldScored
-fold-scored criterion rows n folds k m f start end sums r l a b u v g w h =
-    rw (l, ← a, ← b)
-    (h ∙ scored-corner m u sums (sumsOf (othersOf start end rows)) g (omega (arith, length-sums (othersOf start end rows))) w criterion rows (ownOf start end rows) k v)
+fold-scored criterion rows plain n folds k m f start end sums r l e a b u v g w h =
+    rw (l, e, ← a, ← b)
+    (h ∙ scored-corner m u sums (sumsOf (othersOf start end rows)) g (omega (arith, length-sums (othersOf start end rows))) w criterion plain (ownOf start end plain) k v)

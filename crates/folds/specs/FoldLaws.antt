@@ -12,7 +12,6 @@ use Rattle.loops.specs.Cases.{choose}
 use Rattle.loops.specs.Fold.{fold}
 use Rattle.loops.specs.FoldLaws.{fold-table}
 use Rattle.loops.specs.Places.{table}
-use Rattle.monomial.specs.Rows.{Row}
 use Rattle.folds.specs.Folds.{startOf, endOf, ownOf, own}
 
 -- 10 samples in 3 folds give 3, 3, 4
@@ -48,13 +47,13 @@ start-end n folds f h =
     choose (λ e. f * (n / folds) ≤ e) (eqb (f + 1) folds) n ((f + 1) * (n / folds)) (λ _. product-below n folds f (omega arith)) (λ _. mul-le-mul-right (n / folds) (omega arith))
 
 -- so the folds' own rows, one fold after the other, are all rows, each once
-own-after : (start end : ℕ) (rows : List Row) → start ≤ end → take start rows ++ ownOf start end rows ≡ take end rows
+own-after : {A : Type 0} (start end : ℕ) (rows : List A) → start ≤ end → take start rows ++ ownOf start end rows ≡ take end rows
 unfolding ownOf
 own-after start end rows h =
     let z : start + (end - start) ≡ end = omega arith in
     sym (take-add start (end - start) rows) ∙ ap (λ k. take k rows) z
 
-module _ (rows : List Row) (folds : ℕ) where
+module _ {A : Type 0} (rows : List A) (folds : ℕ) where
   one-more : (f : ℕ) → f < folds → fold _++_ [] (table (own rows folds) f) ≡ take (startOf (length rows) folds f) rows
       → fold _++_ [] (table (own rows folds) (f + 1)) ≡ take (endOf (length rows) folds f) rows
   one-more f h i =
