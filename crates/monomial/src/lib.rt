@@ -246,7 +246,13 @@ fn add_rows_cubic(
 {
     for t in start..end {
         let terms = terms_at(basis, xs[t], zs[t]);
-        add_lines(&mut *sums, CoefficientCount(4), &terms, ys[t], weight_at(ws, t));
+        add_lines(
+            &mut *sums,
+            CoefficientCount(4),
+            &terms,
+            ys[t],
+            weight_at(ws, t),
+        );
     }
 }
 
