@@ -18,7 +18,7 @@ use Rattle.statistics.specs.Degrees.{root, rootUpTo, maxDegree}
 use Rattle.statistics.specs.Medians.{insert, sort, infinite, midpoint, anyNan, medianOf}
 use Rattle.statistics.specs.Table.{tableEntry, thousandths, zThousandths}
 use Rattle.statistics.specs.Scores.{milli, zAt, zScore, entryAt, tableScore, tScore}
-use Rattle.monomial.specs.Rows.{Row, rowsOf}
+use Rattle.monomial.specs.Rows.{Row, rowsOf, weightedRows}
 use Rattle.monomial.specs.Sums.{sumsOf}
 use Rattle.solve.specs.declared.Solved.{Solved}
 use Rattle.score.specs.Score.{likelihoodOf, aicOf}
@@ -60,9 +60,9 @@ twice-chosen : chosenOf (known (record { solved = true; score = aicOf 2 1 zeroF 
 unfolding chosenOf leastOf yields near seek seeks from turns aicOf likelihoodOf maximumF isNan lnF lnPositive lnBits mBits kBiased lnSum ofInt ofBits toBits round size span climb odd units sum add sub mul div neg lt le eq trailingZeros
 twice-chosen = refl
 
-solved-is : (rows : List Row) (k : ℕ) (t : Bool) (v : Float) → scoredBy Aic (sumsOf rows) rows rows k ≡ record { solved = t; score = v } → isSolved (sumsOf rows) rows k ≡ t
+solved-is : (sums : List Float) (rows : List Row) (k : ℕ) (t : Bool) (v : Float) → scoredBy Aic sums rows rows k ≡ record { solved = t; score = v } → isSolved sums rows k ≡ t
 unfolding scoredBy
-solved-is rows k t v e = ap (λ (s : Scored). s .solved) e
+solved-is sums rows k t v e = ap (λ (s : Scored). s .solved) e
 
 -- ---- the theorem
 
@@ -80,10 +80,10 @@ cases =
       t8 = refl;
       t9 = refl;
       t10 = ap (λ (s : Solved). take 2 (s .c)) line-degree-1;
-      t10-solved = solved-is (rowsOf line) 2 true _ line-score-1;
+      t10-solved = solved-is (sumsOf (weightedRows line)) (rowsOf line) 2 true _ line-score-1;
       t11 = chosen-same _ _ 2 (below-two _ line-score-0 line-score-1) ∙ line-chosen;
       t11-above = rw (line-score-0, line-score-1) line-above;
       t11-least = least-same _ _ 2 (below-two _ line-score-0 line-score-1) ∙ line-least ∙ sym (ap (λ (s : Scored). s .score) line-score-1);
-      t12-unsolved = solved-is (rowsOf twice) 2 false _ twice-score-1;
+      t12-unsolved = solved-is (sumsOf (weightedRows twice)) (rowsOf twice) 2 false _ twice-score-1;
       t12 = chosen-same _ _ 2 (below-two _ twice-score-0 twice-score-1) ∙ twice-chosen;
     }
