@@ -6,14 +6,14 @@ use native.Mathlib.Omega.{arith}
 use lib.ListN.{length, take, drop}
 use lib.Ieee.{Float, nan}
 use Rattle.loops.specs.Places.{each, table}
-use Rattle.loops.specs.PlaceLaws.{table-again, take-table, length-table, map-table, table-same, each-write, getD-within}
+use Rattle.loops.specs.PlaceLaws.{table-again, take-table, length-table, map-table, table-same, table-take, each-write, getD-within}
 use Rattle.value.specs.Numbers.{oneF}
 use Rattle.basis.specs.declared.Basis.{Basis}
 use Rattle.basis.specs.declared.Basis.the-variants.{Curve}
 use Rattle.samples.specs.Columns.{sampleAt, samplesOf, columnsOf}
 use Rattle.samples.specs.ColumnLaws.{map-samples}
 use Rattle.monomial.specs.Terms.{termsAt}
-use Rattle.monomial.specs.Rows.{Row, rowAt, rowsAt, rowOf, rowsOf, WeightedRow, weightedAt, weightedRowsAt, weightedOf, weightedRows, rowsIn}
+use Rattle.monomial.specs.Rows.{Row, rowAt, rowsAt, rowOf, rowsOf, ysIn, WeightedRow, weightedAt, weightedRowsAt, weightedOf, weightedRows, rowsIn}
 
 module _ (basis : Basis) (xs zs ys : List Float) where
   pub length-rows-at : (n : ℕ) → length (rowsAt basis n xs zs ys) ≡ n
@@ -44,6 +44,11 @@ module _ (basis : Basis) (xs zs ys : List Float) where
 pub curve-rows : (n : ℕ) (xs zs ys ws : List Float) → rowsAt Curve n xs zs ys ≡ rowsOf (samplesOf n (columnsOf xs ys ws))
 unfolding rowsAt rowAt rowOf termsAt
 curve-rows n xs zs ys ws = map-samples n (columnsOf xs ys ws) rowOf
+
+-- their y's are the first n places of the column
+pub ys-in-rows : (n : ℕ) (xs zs ys : List Float) → n ≤ length ys → ysIn (rowsAt Curve n xs zs ys) ≡ take n ys
+unfolding rowAt
+ys-in-rows n xs zs ys h = sym (map-rows-at Curve xs zs ys (λ (r : Row). r .y) n) ∙ table-take nan n ys h
 
 -- ---- with weights
 
