@@ -14,8 +14,7 @@ use Rattle.basis.specs.declared.OptionDegree.{OptionDegree}
 use Rattle.basis.specs.declared.OptionDegree.the-variants.{Some, None}
 use Rattle.statistics.specs.Degrees.{maxDegree}
 use Rattle.statistics.specs.DegreeLaws.{max-degree-below}
-use Rattle.samples.specs.Samples.{Sample}
-use Rattle.monomial.specs.Rows.{rowsOf}
+use Rattle.monomial.specs.Rows.{Row}
 use Rattle.fit.specs.Solved.{isSolved}
 use Rattle.fit.specs.Chosen.{choiceOf, countsOf}
 use Rattle.fit.specs.declared.Choice.{Choice}
@@ -28,36 +27,36 @@ use Rattle.report.specs.Chosen.{reportChoice, chosenRefusal, Chooses}
 use Rattle.report.specs.ChosenLaws.{chosen-solved}
 
 -- a solved degree is not refused by 10
-measured-solved : (sums : List Float) (samples : List Sample) (k : ℕ) → isSolved sums (rowsOf samples) k ≡ true
-    → measureRefusal sums (rowsOf samples) k ≡ cond (inverseFails sums k) 12 0
+measured-solved : (sums : List Float) (rows : List Row) (k : ℕ) → isSolved sums rows k ≡ true
+    → measureRefusal sums rows k ≡ cond (inverseFails sums k) 12 0
 unfolding measureRefusal firstOf
-measured-solved sums samples k h = rw h
+measured-solved sums rows k h = rw h
 
 -- r is what the code chooses, with the bound m
-module _ (n : ℕ) (settings : Settings) (samples : List Sample) (sums : List Float) (r : Choice) (m : ℕ) (bound : m ≡ maxDegree (settings .bound) n)
-    (found : r ≡ choiceOf (settings .criterion) sums (rowsOf samples) (countsOf Curve m)) where
+module _ (n : ℕ) (settings : Settings) (rows : List Row) (sums : List Float) (r : Choice) (m : ℕ) (bound : m ≡ maxDegree (settings .bound) n)
+    (found : r ≡ choiceOf (settings .criterion) sums rows (countsOf Curve m)) where
   -- it is the report's choice
-  choice-is : r ≡ reportChoice n settings samples sums
+  choice-is : r ≡ reportChoice n settings rows sums
   unfolding reportChoice
-  choice-is = found ∙ ap (λ b. choiceOf (settings .criterion) sums (rowsOf samples) (countsOf Curve b)) bound
+  choice-is = found ∙ ap (λ b. choiceOf (settings .criterion) sums rows (countsOf Curve b)) bound
 
-  chosen-is : (o : OptionDegree) → r .chosen ≡ o → reportChoice n settings samples sums .chosen ≡ o
+  chosen-is : (o : OptionDegree) → r .chosen ≡ o → reportChoice n settings rows sums .chosen ≡ o
   chosen-is o h = ap (λ (c : Choice). c .chosen) (sym choice-is) ∙ h
 
-  none-number : r .chosen ≡ None → 11 ≡ chosenRefusal (reportChoice n settings samples sums .chosen) sums
+  none-number : r .chosen ≡ None → 11 ≡ chosenRefusal (reportChoice n settings rows sums .chosen) sums
   unfolding chosenRefusal
   none-number h = rw (chosen-is None h) refl
 
-  some-number : (d : Degree) → r .chosen ≡ Some d → (k : ℕ) → k ≡ measureRefusal sums (rowsOf samples) (countOf Curve (d .0))
-      → k ≡ chosenRefusal (reportChoice n settings samples sums .chosen) sums
+  some-number : (d : Degree) → r .chosen ≡ Some d → (k : ℕ) → k ≡ measureRefusal sums rows (countOf Curve (d .0))
+      → k ≡ chosenRefusal (reportChoice n settings rows sums .chosen) sums
   unfolding chosenRefusal
   some-number d h k q =
       let o = chosen-is (Some d) h in
-      rw o (q ∙ measured-solved sums samples (countOf Curve (d .0)) (chosen-solved n settings samples sums d o .1))
+      rw o (q ∙ measured-solved sums rows (countOf Curve (d .0)) (chosen-solved n settings rows sums d o .1))
 
   -- no degree is chosen
   pub chooses-none : r .chosen ≡ None → (d : Degree) (c v s t : List Float) → Within n s t
-      → Chooses n settings samples sums s t (record { number = 11; choice = r; degree = d; c = c; covariance = v })
+      → Chooses n settings rows sums s t (record { number = 11; choice = r; degree = d; c = c; covariance = v })
   chooses-none h d c v s t w =
       record {
         number = none-number h;
@@ -70,8 +69,8 @@ module _ (n : ℕ) (settings : Settings) (samples : List Sample) (sums : List Fl
 
   -- d is chosen, and measured
   pub chooses-some : (d : Degree) → r .chosen ≡ Some d → (a : Measured) (s t u : List Float) → Within n s t
-      → Measures sums (rowsOf samples) (countOf Curve (d .0)) n t u a
-      → Chooses n settings samples sums s u (record { number = a .number; choice = r; degree = d; c = a .c; covariance = a .covariance })
+      → Measures sums rows (countOf Curve (d .0)) n t u a
+      → Chooses n settings rows sums s u (record { number = a .number; choice = r; degree = d; c = a .c; covariance = a .covariance })
   chooses-some d h a s t u w q =
       record {
         number = some-number d h (a .number) (q .number);
@@ -84,12 +83,12 @@ module _ (n : ℕ) (settings : Settings) (samples : List Sample) (sums : List Fl
 
   -- it is at most 15
   pub chosen-most : maxDegree (settings .bound) n ≤ 15 → (d : Degree) → r .chosen ≡ Some d → d .0 ≤ 15
-  chosen-most h d q = omega (arith, chosen-solved n settings samples sums d (chosen-is (Some d) q) .0)
+  chosen-most h d q = omega (arith, chosen-solved n settings rows sums d (chosen-is (Some d) q) .0)
 
 -- the degree that a report is written of is below the count, and at most 15
-pub chosen-below : (n : ℕ) (settings : Settings) (samples : List Sample) (sums s t : List Float) (m : Chosen) → Chooses n settings samples sums s t m
+pub chosen-below : (n : ℕ) (settings : Settings) (rows : List Row) (sums s t : List Float) (m : Chosen) → Chooses n settings rows sums s t m
     → m .number ≡ 0 → 0 < n → maxDegree (settings .bound) n ≤ 15 → (m .degree .0 < n) × (m .degree .0 ≤ 15)
-chosen-below n settings samples sums s t m w z h k =
-    let d = chosen-solved n settings samples sums (m .degree) (w .degree z) in
+chosen-below n settings rows sums s t m w z h k =
+    let d = chosen-solved n settings rows sums (m .degree) (w .degree z) in
     let b = max-degree-below (settings .bound) n h in
     (omega (arith, d .0), omega (arith, d .0))

@@ -13,7 +13,7 @@ use Rattle.basis.specs.declared.OptionDegree.the-variants.{Some, None}
 use Rattle.basis.specs.declared.Degree.{Degree}
 use Rattle.samples.specs.Samples.{Sample}
 use Rattle.samples.specs.Columns.{samplesOf, Columns, lengths}
-use Rattle.monomial.specs.Rows.{rowsOf}
+use Rattle.monomial.specs.Rows.{Row, rowsOf}
 use Rattle.solve.specs.Solve.{solve}
 use Rattle.measure.specs.Measures.{inverseFails, covarianceAt}
 use Rattle.lent.specs.Written.{over, zeros}
@@ -31,9 +31,9 @@ use Rattle.report.specs.Chosen.{reportChoice, chosenRefusal, Chooses}
 use Rattle.report.specs.Reports.{ReportOut, refusedLate, Does, ReportIs, writtenBy, reportOf, reportPast, reportOn}
 use Rattle.report.specs.Outputs.{Outputs, overAll, placesOf}
 
-module _ (n : ℕ) (settings : Settings) (samples : List Sample) (sums : List Float) (solved : ℕ) where
+module _ (n : ℕ) (settings : Settings) (rows : List Row) (sums : List Float) (solved : ℕ) where
   -- a number that is not 0 is what the report is refused by
-  late-refused : (o : OptionDegree) (r : ℕ) → r ≡ chosenRefusal o sums → (r ≡ 0 → ⊥) → reportOf n settings samples sums solved o ≡ refusedLate n r
+  late-refused : (o : OptionDegree) (r : ℕ) → r ≡ chosenRefusal o sums → (r ≡ 0 → ⊥) → reportOf n settings rows sums solved o ≡ refusedLate n r
   unfolding reportOf chosenRefusal
   late-refused None r e h = ap (refusedLate n) (sym e)
   late-refused (Some d) r e h = go (inverseFails sums (countOf Curve (d .0))) _ e
@@ -43,7 +43,7 @@ module _ (n : ℕ) (settings : Settings) (samples : List Sample) (sums : List Fl
       go false w q = absurd (h q)
 
   chosen-whole : (d : Degree) → chosenRefusal (Some d) sums ≡ 0
-      → reportOf n settings samples sums solved (Some d) ≡ writtenBy n settings samples (d .0) solved (solve sums (countOf Curve (d .0)) .c) (covarianceAt sums (rowsOf samples) (countOf Curve (d .0)))
+      → reportOf n settings rows sums solved (Some d) ≡ writtenBy n settings rows (d .0) solved (solve sums (countOf Curve (d .0)) .c) (covarianceAt sums rows (countOf Curve (d .0)))
   unfolding reportOf chosenRefusal
   chosen-whole d e = go (inverseFails sums (countOf Curve (d .0))) _ e
     where
@@ -67,10 +67,10 @@ used-scratch n s u h values w e =
       outliers = over (values .outliers) (w .outliers);
     }
 
-written-scratch : (n : ℕ) (settings : Settings) (samples : List Sample) (degree solved : ℕ) (c v : List Float)
-    → writtenBy n settings samples degree solved c v .written .scratch ≡ zeros n
+written-scratch : (n : ℕ) (settings : Settings) (rows : List Row) (degree solved : ℕ) (c v : List Float)
+    → writtenBy n settings rows degree solved c v .written .scratch ≡ zeros n
 unfolding writtenBy
-written-scratch n settings samples degree solved c v = refl
+written-scratch n settings rows degree solved c v = refl
 
 -- a report of n samples, over the columns, the sums, and the memory w that it writes
 module _ (n : ℕ) (settings : Settings) (columns : Columns) (sums : List Float) (w : Outputs) where
@@ -91,20 +91,20 @@ module _ (n : ℕ) (settings : Settings) (columns : Columns) (sums : List Float)
     pub has-room : ReportRoom n settings (lengths columns) (length sums) (placesOf w)
     has-room = report-room n settings samples (lengths columns) (length sums) (placesOf w) (sym is ∙ none)
 
-    -- m is what was chosen, and u scratch after it
-    module _ (m : Chosen) (u : List Float) (ch : Chooses n settings samples (take 272 sums) (w .scratch) u m) where
+    -- m is what was chosen of the samples' rows, and u scratch after it
+    module _ (rows : List Row) (same : rows ≡ rowsOf samples) (m : Chosen) (u : List Float) (ch : Chooses n settings rows (take 272 sums) (w .scratch) u m) where
       past : refusal ≡ 0
       past = sym is ∙ none
 
       -- what is answered of the chosen degree
       whole-chosen : m .number ≡ 0
-          → reportOf n settings samples (take 272 sums) (reportChoice n settings samples (take 272 sums) .solved) (reportChoice n settings samples (take 272 sums) .chosen)
-          ≡ writtenBy n settings samples (m .degree .0) (m .choice .solved) (m .c) (m .covariance)
+          → reportOf n settings rows (take 272 sums) (reportChoice n settings rows (take 272 sums) .solved) (reportChoice n settings rows (take 272 sums) .chosen)
+          ≡ writtenBy n settings rows (m .degree .0) (m .choice .solved) (m .c) (m .covariance)
       whole-chosen h =
           let o = ch .degree h in
           let z : chosenRefusal (Some (m .degree)) (take 272 sums) ≡ 0 = ap (λ d. chosenRefusal d (take 272 sums)) (sym o) ∙ sym (ch .number) ∙ h in
-          let s : m .choice .solved ≡ reportChoice n settings samples (take 272 sums) .solved = ap (λ (a : Choice). a .solved) (ch .choice) in
-          rw (o, ← s, ch .coefficients h, ch .covariance h) (chosen-whole n settings samples (take 272 sums) (m .choice .solved) (m .degree) z)
+          let s : m .choice .solved ≡ reportChoice n settings rows (take 272 sums) .solved = ap (λ (a : Choice). a .solved) (ch .choice) in
+          rw (o, ← s, ch .coefficients h, ch .covariance h) (chosen-whole n settings rows (take 272 sums) (m .choice .solved) (m .degree) z)
 
       -- 11 or 12: scratch is cleared
       pub report-late : (m .number ≡ 0 → ⊥) → (t : List Float) → t ≡ zeros n ++ drop n u
@@ -115,10 +115,10 @@ module _ (n : ℕ) (settings : Settings) (columns : Columns) (sums : List Float)
           })
       unfolding reportOn reportPast
       report-late h t cleared =
-          let o = reportChoice n settings samples (take 272 sums) in
-          let e = late-refused n settings samples (take 272 sums) (o .solved) (o .chosen) (m .number) (ch .number) h in
+          let o = reportChoice n settings rows (take 272 sums) in
+          let e = late-refused n settings rows (take 272 sums) (o .solved) (o .chosen) (m .number) (ch .number) h in
           let q = over-cleared n (w .scratch) u t (ch .within) cleared in
-          rw (past, e)
+          rw (past, ← same, e)
           (record {
             answer = refl;
             outputs = λ i. record { scratch = q i; coefficients = w .coefficients; errors = w .errors; pruned = w .pruned; lower = w .lower; upper = w .upper; outliers = w .outliers };
@@ -126,7 +126,7 @@ module _ (n : ℕ) (settings : Settings) (columns : Columns) (sums : List Float)
 
       -- the report is written
       pub report-whole : m .number ≡ 0 → (a : ReportAnswer) (w′ : Outputs)
-          → Does (writtenBy n settings samples (m .degree .0) (m .choice .solved) (m .c) (m .covariance)) a
+          → Does (writtenBy n settings rows (m .degree .0) (m .choice .solved) (m .c) (m .covariance)) a
           (record {
             found = record { scratch = u; coefficients = w .coefficients; errors = w .errors; pruned = w .pruned; lower = w .lower; upper = w .upper; outliers = w .outliers };
             left = w′;
@@ -134,9 +134,9 @@ module _ (n : ℕ) (settings : Settings) (columns : Columns) (sums : List Float)
           → ReportIs n settings columns sums a (record { found = w; left = w′ })
       unfolding reportOn reportPast
       report-whole h a w′ d =
-          let o = writtenBy n settings samples (m .degree .0) (m .choice .solved) (m .c) (m .covariance) in
-          rw (past, whole-chosen h)
+          let o = writtenBy n settings rows (m .degree .0) (m .choice .solved) (m .c) (m .covariance) in
+          rw (past, ← same, whole-chosen h)
           (record {
             answer = d .answer;
-            outputs = d .outputs ∙ used-scratch n (w .scratch) u (ch .within) (o .written) w (written-scratch n settings samples (m .degree .0) (m .choice .solved) (m .c) (m .covariance));
+            outputs = d .outputs ∙ used-scratch n (w .scratch) u (ch .within) (o .written) w (written-scratch n settings rows (m .degree .0) (m .choice .solved) (m .c) (m .covariance));
           })

@@ -11,8 +11,7 @@ use Rattle.statistics.specs.Variances.{stddevAndMean}
 use Rattle.statistics.specs.declared.StddevAndMean.{StddevAndMean}
 use Rattle.basis.specs.Counts.{countOf}
 use Rattle.basis.specs.declared.Basis.the-variants.{Curve}
-use Rattle.samples.specs.Samples.{Sample, ysOf}
-use Rattle.monomial.specs.Rows.{Row, rowsOf}
+use Rattle.monomial.specs.Rows.{Row, ysIn}
 use Rattle.covariance.specs.Covariance.{errorsOf}
 use Rattle.covariance.specs.Marks.{ones}
 use Rattle.covariance.specs.Bands.{lowerOf, upperOf, outlierOf, lowersOf, uppersOf, outliersOf}
@@ -28,10 +27,10 @@ length-errors : (k : ℕ) (v : List Float) → length (errorsOf k v) ≡ 16
 unfolding errorsOf
 length-errors k v = length-each _ k (replicate 16 zeroF) ∙ length-replicate 16 zeroF
 
-module _ (n : ℕ) (settings : Settings) (samples : List Sample) (degree solved : ℕ) (c v : List Float) (sized : length c ≡ 16)
-    (k : ℕ) (ek : k ≡ countOf Curve degree) (rows : List Row) (er : rows ≡ rowsOf samples) (counted : length rows ≡ n)
+module _ (n : ℕ) (settings : Settings) (rows : List Row) (degree solved : ℕ) (c v : List Float) (sized : length c ≡ 16)
+    (k : ℕ) (ek : k ≡ countOf Curve degree) (counted : length rows ≡ n)
     (t z : Float) (spread : StddevAndMean) (e : List Float) (et : t ≡ tScore (settings .confidence) (degreesOfFreedom n k))
-    (ez : z ≡ zScore (settings .confidence)) (es : spread ≡ stddevAndMean (ysOf samples)) (ee : e ≡ errorsOf k v) where
+    (ez : z ≡ zScore (settings .confidence)) (es : spread ≡ stddevAndMean (ysIn rows)) (ee : e ≡ errorsOf k v) where
   -- a value of each sample was written
   rows-over : {A : Type 0} (f : Row → A) (l l′ : List A) → l′ ≡ map f rows ++ drop n l → l′ ≡ over (map f rows) l
   rows-over f l l′ h = over-by n (map f rows) l l′ (length-map rows f ∙ counted) h
@@ -43,10 +42,10 @@ module _ (n : ℕ) (settings : Settings) (samples : List Sample) (degree solved 
       → w′ .lower ≡ lowersOf k c v (settings .tolerance) z (spread .stddev) rows ++ drop n (w .lower)
       → w′ .upper ≡ uppersOf k c v (settings .tolerance) z (spread .stddev) rows ++ drop n (w .upper)
       → w′ .outliers ≡ outliersOf k c v (settings .tolerance) z (spread .stddev) rows ++ drop n (w .outliers)
-      → Does (writtenBy n settings samples degree solved c v) (answers.Report (record { 0 = degree }) solved marks terms) (record { found = w; left = w′ })
+      → Does (writtenBy n settings rows degree solved c v) (answers.Report (record { 0 = degree }) solved marks terms) (record { found = w; left = w′ })
   unfolding writtenBy
   writes-is marks terms w w′ hm ht hs hc he hp hl hu hb =
-      rw (← ek, ← er, ← et, ← ez, ← es, ← ee)
+      rw (← ek, ← et, ← ez, ← es, ← ee)
       (record {
         answer = ap₂ (λ o p. answers.Report (record { 0 = degree }) solved o p) hm ht;
         outputs = λ i. record {

@@ -1,4 +1,4 @@
--- The choice of a report: over the degrees 0 to its bound, from its samples and sums. Definitions only.
+-- The choice of a report: over the degrees 0 to its bound, from its rows and sums. Definitions only.
 use mathlib.Core.Path.{_≡_}
 use mathlib.Core.Bool.{cond}
 use mathlib.Core.List.{List}
@@ -10,7 +10,6 @@ use Rattle.basis.specs.declared.Basis.the-variants.{Curve}
 use Rattle.basis.specs.declared.OptionDegree.{OptionDegree}
 use Rattle.basis.specs.declared.OptionDegree.the-variants.{Some, None}
 use Rattle.statistics.specs.Degrees.{maxDegree}
-use Rattle.samples.specs.Samples.{Sample}
 use Rattle.monomial.specs.Rows.{Row}
 use Rattle.solve.specs.Solve.{solve}
 use Rattle.choice.specs.Laws.{chosen}

@@ -11,8 +11,7 @@ use Rattle.basis.specs.declared.Basis.the-variants.{Curve}
 use Rattle.basis.specs.declared.Degree.{Degree}
 use Rattle.basis.specs.declared.OptionDegree.the-variants.{Some}
 use Rattle.statistics.specs.Degrees.{maxDegree}
-use Rattle.samples.specs.Samples.{Sample}
-use Rattle.monomial.specs.Rows.{rowsOf}
+use Rattle.monomial.specs.Rows.{Row}
 use Rattle.choice.specs.Laws.{chosen}
 use Rattle.fit.specs.Solved.{isSolved, scoredBy}
 use Rattle.fit.specs.Chosen.{choiceOf, tried}
@@ -20,13 +19,13 @@ use Rattle.settings.specs.declared.Settings.{Settings}
 use Rattle.report.specs.Chosen.{reportChoice}
 
 -- the chosen degree is at most the bound, and solved
-pub chosen-solved : (n : ℕ) (settings : Settings) (samples : List Sample) (sums : List Float) (d : Degree)
-    → reportChoice n settings samples sums .chosen ≡ Some d
-    → (d .0 ≤ maxDegree (settings .bound) n) × (isSolved sums (rowsOf samples) (countOf Curve (d .0)) ≡ true)
+pub chosen-solved : (n : ℕ) (settings : Settings) (rows : List Row) (sums : List Float) (d : Degree)
+    → reportChoice n settings rows sums .chosen ≡ Some d
+    → (d .0 ≤ maxDegree (settings .bound) n) × (isSolved sums rows (countOf Curve (d .0)) ≡ true)
 unfolding reportChoice choiceOf tried scoredBy
-chosen-solved n settings samples sums d h =
+chosen-solved n settings rows sums d h =
     let b = maxDegree (settings .bound) n in
     let w = chosen _ _ (d .0) h in
     let l = length-table (countOf Curve) (b + 1) in
     let k = table-at (countOf Curve) (b + 1) (d .0) 0 (omega (arith, w .within, l)) in
-    (omega (arith, w .within, l), ap (isSolved sums (rowsOf samples)) (sym k) ∙ w .is-solved)
+    (omega (arith, w .within, l), ap (isSolved sums rows) (sym k) ∙ w .is-solved)

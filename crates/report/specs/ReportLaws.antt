@@ -9,6 +9,7 @@ use Rattle.basis.specs.declared.Basis.the-variants.{Curve}
 use Rattle.basis.specs.declared.OptionDegree.{OptionDegree}
 use Rattle.basis.specs.declared.OptionDegree.the-variants.{Some, None}
 use Rattle.samples.specs.Samples.{Sample}
+use Rattle.monomial.specs.Rows.{Row, rowsOf}
 use Rattle.refusal.specs.Refusals.{InOrder, those, isAmong}
 use Rattle.refusal.specs.Laws.{settled-among}
 use Rattle.measure.specs.Measures.{inverseFails}
@@ -18,11 +19,11 @@ use Rattle.report.specs.Refusals.{reportRefusal}
 use Rattle.report.specs.RefusalLaws.{report-numbers}
 use Rattle.report.specs.Reports.{ReportOut, reportNumber, refusedLate, writtenBy, reportOf, reportPast, reportOn}
 
-past-number : (n : ℕ) (settings : Settings) (samples : List Sample) (sums : List Float) (solved : ℕ) (o : OptionDegree)
-    → List·Memᴰ (reportNumber (reportOf n settings samples sums solved o .answer)) (0 ∷ 1 ∷ 4 ∷ 7 ∷ 8 ∷ 11 ∷ 12 ∷ [])
+past-number : (n : ℕ) (settings : Settings) (rows : List Row) (sums : List Float) (solved : ℕ) (o : OptionDegree)
+    → List·Memᴰ (reportNumber (reportOf n settings rows sums solved o .answer)) (0 ∷ 1 ∷ 4 ∷ 7 ∷ 8 ∷ 11 ∷ 12 ∷ [])
 unfolding reportOf writtenBy
-past-number n settings samples sums solved None = Memᴰ·append-right (0 ∷ 1 ∷ 4 ∷ 7 ∷ 8 ∷ []) (List·Memᴰ·head refl)
-past-number n settings samples sums solved (Some d) = go (inverseFails sums (countOf Curve (d .0))) _ refl
+past-number n settings rows sums solved None = Memᴰ·append-right (0 ∷ 1 ∷ 4 ∷ 7 ∷ 8 ∷ []) (List·Memᴰ·head refl)
+past-number n settings rows sums solved (Some d) = go (inverseFails sums (countOf Curve (d .0))) _ refl
   where
     go : (t : Bool) (w : ReportOut) → reportNumber (w .answer) ≡ 0
         → List·Memᴰ (reportNumber (cond t (refusedLate n 12) w .answer)) (0 ∷ 1 ∷ 4 ∷ 7 ∷ 8 ∷ 11 ∷ 12 ∷ [])
@@ -33,8 +34,8 @@ pub report-answers : (n : ℕ) (settings : Settings) (samples : List Sample) (su
     → List·Memᴰ (reportNumber (reportOn n settings samples sums columns length places .answer)) (0 ∷ 1 ∷ 4 ∷ 7 ∷ 8 ∷ 11 ∷ 12 ∷ [])
 unfolding reportOn reportPast
 report-answers n settings samples sums columns length places =
-    settled-among (λ (o : ReportOut). reportNumber (o .answer)) (reportRefusal n settings samples columns length places) (reportPast n settings samples sums) _
-    (0 ∷ 1 ∷ 4 ∷ 7 ∷ 8 ∷ []) (11 ∷ 12 ∷ []) (report-numbers n settings samples columns length places) (past-number n settings samples sums _ _) refl
+    settled-among (λ (o : ReportOut). reportNumber (o .answer)) (reportRefusal n settings samples columns length places) (reportPast n settings (rowsOf samples) sums) _
+    (0 ∷ 1 ∷ 4 ∷ 7 ∷ 8 ∷ []) (11 ∷ 12 ∷ []) (report-numbers n settings samples columns length places) (past-number n settings (rowsOf samples) sums _ _) refl
 
 -- they too stand in the checking order
 pub answers-in-order : InOrder (1 ∷ 4 ∷ 7 ∷ 8 ∷ 11 ∷ 12 ∷ [])

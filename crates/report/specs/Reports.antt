@@ -12,7 +12,7 @@ use Rattle.basis.specs.declared.OptionDegree.{OptionDegree}
 use Rattle.basis.specs.declared.OptionDegree.the-variants.{Some, None}
 use Rattle.statistics.specs.Scores.{zScore, tScore, degreesOfFreedom}
 use Rattle.statistics.specs.Variances.{stddevAndMean}
-use Rattle.samples.specs.Samples.{Sample, ysOf}
+use Rattle.samples.specs.Samples.{Sample}
 use Rattle.samples.specs.Columns.{samplesOf, Columns, lengths}
 use Rattle.monomial.specs.Rows.{Row, rowsOf, ysIn}
 use Rattle.solve.specs.Solve.{solve}

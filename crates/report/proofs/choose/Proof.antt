@@ -1,14 +1,10 @@
 -- `report::choose` meets its contract.
-use mathlib.Core.Path.{ap, _∙_}
-use mathlib.Core.List.{List}
+use mathlib.Core.Path.{_∙_}
 use native.Mathlib.Omega.{arith}
 use borrow.Author.Needs.{needs}
 use Rattle.basis.specs.CountLaws.{curve-count}
 use Rattle.basis.specs.declared.Basis.the-variants.{Curve}
-use Rattle.samples.specs.Columns.{samplesOf, columnsOf}
-use Rattle.monomial.specs.Rows.{Row}
-use Rattle.monomial.specs.RowLaws.{curve-rows}
-use Rattle.fit.specs.Chosen.{choiceOf, countsOf}
+use Rattle.monomial.specs.Rows.{rowsAt}
 use Rattle.report.proofs.Choosing.{chosen-most, chooses-none, chooses-some}
 use Rattle.report.proofs.choose.Statement.{statement}
 use Rattle.report.proofs.choose.Tie as tie
@@ -19,10 +15,8 @@ k-requires c κs =
     let at-choose = c .before .before .before .before .before .choose in
     let at-max-degree = c .before .before .before .before .before .before .before .max-degree in
     let at-pre = c .before .before .before .before .before .before .before .before .before .before .before .before .pre in
-    let samples = samplesOf (at-args .n) (columnsOf (at-args .xs .now) (at-args .ys .now)) in
-    let same = curve-rows (at-args .n) (at-args .xs .now) (at-args .xs .now) (at-args .ys .now) in
-    let found = at-choose .ensures .0 ∙ ap (λ (rows : List Row). choiceOf (at-args .settings .criterion) (at-args .sums .now) rows (countsOf Curve (at-max-degree .result .0))) same in
-    let m = chosen-most (at-args .n) (at-args .settings) samples (at-args .sums .now) (at-choose .result) _ (at-max-degree .ensures) found (at-pre .4) _ (c .before .chosen .given .1) in
+    let rows = rowsAt Curve (at-args .n) (at-args .xs .now) (at-args .xs .now) (at-args .ys .now) in
+    let m = chosen-most (at-args .n) (at-args .settings) rows (at-args .sums .now) (at-choose .result) _ (at-max-degree .ensures) (at-choose .ensures .0) (at-pre .4) _ (c .before .chosen .given .1) in
     omega (arith, m)
 
 measure-requires : tie.Need-measure-requires
@@ -32,10 +26,8 @@ measure-requires c κs =
     let at-max-degree = c .before .before .before .before .before .before .before .before .before .max-degree in
     let at-pre = c .before .before .before .before .before .before .before .before .before .before .before .before .before .before .pre in
     let at-chosen = c .before .before .before .chosen in
-    let samples = samplesOf (at-args .n) (columnsOf (at-args .xs .now) (at-args .ys .now)) in
-    let same = curve-rows (at-args .n) (at-args .xs .now) (at-args .xs .now) (at-args .ys .now) in
-    let found = at-choose .ensures .0 ∙ ap (λ (rows : List Row). choiceOf (at-args .settings .criterion) (at-args .sums .now) rows (countsOf Curve (at-max-degree .result .0))) same in
-    let m = chosen-most (at-args .n) (at-args .settings) samples (at-args .sums .now) (at-choose .result) _ (at-max-degree .ensures) found (at-pre .4) _ (at-chosen .given .1) in
+    let rows = rowsAt Curve (at-args .n) (at-args .xs .now) (at-args .xs .now) (at-args .ys .now) in
+    let m = chosen-most (at-args .n) (at-args .settings) rows (at-args .sums .now) (at-choose .result) _ (at-max-degree .ensures) (at-choose .ensures .0) (at-pre .4) _ (at-chosen .given .1) in
     (at-pre .0, at-pre .0, at-pre .1, omega (arith, at-pre .2, at-choose .ensures .1 .long), at-pre .3, omega (arith, c .before .k .ensures ∙ curve-count _, m))
 
 choose-requires : tie.Need-choose-requires
@@ -48,10 +40,8 @@ returns c =
     let at-args = c .before .before .before .before .before .before .before .before .before .before .before .args in
     let at-choose = c .before .before .before .before .choose in
     let at-max-degree = c .before .before .before .before .before .before .max-degree in
-    let samples = samplesOf (at-args .n) (columnsOf (at-args .xs .now) (at-args .ys .now)) in
-    let same = curve-rows (at-args .n) (at-args .xs .now) (at-args .xs .now) (at-args .ys .now) in
-    let found = at-choose .ensures .0 ∙ ap (λ (rows : List Row). choiceOf (at-args .settings .criterion) (at-args .sums .now) rows (countsOf Curve (at-max-degree .result .0))) same in
-    chooses-none (at-args .n) (at-args .settings) samples (at-args .sums .now) (at-choose .result) _ (at-max-degree .ensures) found (c .enum-told .given .1) _ _ _ _ _ (at-choose .ensures .1)
+    let rows = rowsAt Curve (at-args .n) (at-args .xs .now) (at-args .xs .now) (at-args .ys .now) in
+    chooses-none (at-args .n) (at-args .settings) rows (at-args .sums .now) (at-choose .result) _ (at-max-degree .ensures) (at-choose .ensures .0) (c .enum-told .given .1) _ _ _ _ _ (at-choose .ensures .1)
 
 returns-2 : tie.Need-returns-2
 returns-2 c =
@@ -60,10 +50,8 @@ returns-2 c =
     let at-max-degree = c .before .before .before .before .before .before .before .before .before .before .before .before .before .before .max-degree in
     let at-chosen = c .before .before .before .before .before .before .before .before .chosen in
     let at-measure = c .before .before .before .before .measure in
-    let samples = samplesOf (at-args .n) (columnsOf (at-args .xs .now) (at-args .ys .now)) in
-    let same = curve-rows (at-args .n) (at-args .xs .now) (at-args .xs .now) (at-args .ys .now) in
-    let found = at-choose .ensures .0 ∙ ap (λ (rows : List Row). choiceOf (at-args .settings .criterion) (at-args .sums .now) rows (countsOf Curve (at-max-degree .result .0))) same in
-    chooses-some (at-args .n) (at-args .settings) samples (at-args .sums .now) (at-choose .result) _ (at-max-degree .ensures) found _ (at-chosen .given .1) (at-measure .result) _ _ _ (at-choose .ensures .1) (rw (c .before .before .before .before .before .before .k .ensures, same) at (at-measure .ensures))
+    let rows = rowsAt Curve (at-args .n) (at-args .xs .now) (at-args .xs .now) (at-args .ys .now) in
+    chooses-some (at-args .n) (at-args .settings) rows (at-args .sums .now) (at-choose .result) _ (at-max-degree .ensures) (at-choose .ensures .0) _ (at-chosen .given .1) (at-measure .result) _ _ _ (at-choose .ensures .1) (rw (c .before .before .before .before .before .before .k .ensures) at (at-measure .ensures))
 
 pub choose-spec : {M : Type 1} → statement M
 choose-spec =

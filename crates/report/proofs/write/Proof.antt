@@ -7,9 +7,8 @@ use lib.ListN.{length}
 use Rattle.statistics.specs.Variances.{stddevAndMean}
 use Rattle.basis.specs.CountLaws.{curve-count}
 use Rattle.basis.specs.declared.Basis.the-variants.{Curve}
-use Rattle.samples.specs.Columns.{samplesOf, columnsOf, ofY}
-use Rattle.samples.specs.ColumnLaws.{column-of-samples}
-use Rattle.monomial.specs.RowLaws.{curve-rows, length-rows-at}
+use Rattle.monomial.specs.Rows.{rowsAt}
+use Rattle.monomial.specs.RowLaws.{length-rows-at, ys-in-rows}
 use Rattle.report.proofs.Writing.{writes-is}
 use Rattle.report.proofs.write.Statement.{statement}
 use Rattle.report.proofs.write.Tie as tie
@@ -57,12 +56,12 @@ returns c =
     let at-put-terms = c .before .before .before .before .before .before .before .before .before .before .before .before .before .before .before .before .before .before .before .before .before .before .before .before .put-terms in
     let at-put-terms2 = c .before .before .before .before .before .before .before .before .before .before .before .before .before .before .before .before .before .before .before .before .put-terms2 in
     let n = at-args .n in
-    let samples = samplesOf n (columnsOf (at-args .xs .now) (at-args .ys .now)) in
+    let rows = rowsAt Curve n (at-args .xs .now) (at-args .xs .now) (at-args .ys .now) in
     let sized : length (at-args .t5) ≡ 16 = omega (arith, at-good .1 .1 .1 .1 .0) in
-    writes-is n (at-args .settings) samples (at-args .degree .0) (at-args .solved) (at-args .t5) (at-args .t6) sized
-    (at-k .result .0) (at-k .ensures) _ (curve-rows n (at-args .xs .now) (at-args .xs .now) (at-args .ys .now)) (length-rows-at Curve (at-args .xs .now) (at-args .xs .now) (at-args .ys .now) n)
+    writes-is n (at-args .settings) rows (at-args .degree .0) (at-args .solved) (at-args .t5) (at-args .t6) sized
+    (at-k .result .0) (at-k .ensures) (length-rows-at Curve (at-args .xs .now) (at-args .xs .now) (at-args .ys .now) n)
     (at-t-score .result) (at-z-score .result) (at-stddev-and-mean .result) (at-errors .result) (at-t-score .ensures) (at-z-score .ensures)
-    (at-stddev-and-mean .ensures ∙ ap stddevAndMean (sym (column-of-samples n (columnsOf (at-args .xs .now) (at-args .ys .now)) ofY (at-pre .0 .1)))) (at-errors .ensures)
+    (at-stddev-and-mean .ensures ∙ ap stddevAndMean (sym (ys-in-rows n (at-args .xs .now) (at-args .xs .now) (at-args .ys .now) (at-pre .0 .1)))) (at-errors .ensures)
     (at-put-bands .result) (at-put-pruned .result) _ _ (at-put-bands .ensures .0) (at-put-pruned .ensures .0) (at-clear .ensures) (at-put-terms .ensures) (at-put-terms2 .ensures) (at-put-pruned .ensures .1) (at-put-bands .ensures .1 .0) (at-put-bands .ensures .1 .1 .0) (at-put-bands .ensures .1 .1 .1)
 
 pub write-spec : {M : Type 1} → statement M

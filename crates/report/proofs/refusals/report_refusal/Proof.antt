@@ -18,7 +18,7 @@ samples-finite-requires : tie.Need-samples-finite-requires
 samples-finite-requires c κs =
     let at-report-short = c .before .before .before .report-short in
     let r = room _ _ _ (sym (at-report-short .ensures) ∙ c .before .before .if1 .left) in
-    (r .within .0, r .within .1 .0)
+    (r .within .0, r .within .1 .0, r .within .1 .1 .0)
 
 returns-2 : tie.Need-returns-2
 unfolding reportRefusal
@@ -28,7 +28,7 @@ returns-2 c =
     let at-score-finite = c .before .before .before .before .before .before .score-finite in
     let at-tolerance-finite = c .before .before .before .before .before .tolerance-finite in
     let at-samples-finite = c .before .before .before .before .samples-finite in
-    let at-args = c .before .before .before .before .before .before .before .before .before .before .before .args in
+    let at-args = c .before .before .before .before .before .before .before .before .before .before .before .before .args in
     let at-bound-too-high = c .before .before .before .bound-too-high in
     first-fails 1 _ (at-report-short .ensures) (at-if1 .left)
     (first-of 4 _ (ap not (ap₂ (λ (s t : Bool). s && t) (ap₂ (λ (s t : Bool). s && t) (at-score-finite .ensures) (at-tolerance-finite .ensures)) (at-samples-finite .ensures)))
