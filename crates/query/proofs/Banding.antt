@@ -12,8 +12,7 @@ use Rattle.statistics.specs.declared.StddevAndMean.{StddevAndMean}
 use Rattle.statistics.specs.declared.Tolerance.{Tolerance}
 use Rattle.basis.specs.Counts.{countOf}
 use Rattle.basis.specs.declared.Basis.the-variants.{Curve}
-use Rattle.samples.specs.Samples.{Sample, ysOf}
-use Rattle.monomial.specs.Rows.{rowsOf}
+use Rattle.monomial.specs.Rows.{Row, ysIn}
 use Rattle.solve.specs.Solve.{solve}
 use Rattle.covariance.specs.Bands.{bandAt}
 use Rattle.covariance.specs.declared.Band.{Band}
@@ -34,19 +33,19 @@ band-early (suc k) q past s e h = rw (← e) (record { answer = refl; scratch = 
 pub band-through : (q : ℕ) (past : BandOut) (r : BandAnswer) (s s′ : List Float) → q ≡ 0 → BandIs past r (contentsOf s s′) → BandIs (settle q past (bandRefused q)) r (contentsOf s s′)
 band-through q past r s s′ e f = rw e f
 
-module _ (n : ℕ) (x : Float) (degree : ℕ) (confidence : Confidence) (tolerance : Tolerance) (samples : List Sample) (sums s s′ : List Float)
+module _ (n : ℕ) (x : Float) (degree : ℕ) (confidence : Confidence) (tolerance : Tolerance) (rows : List Row) (sums s s′ : List Float)
     (es : s′ ≡ over (zeros n) s) where
   -- by 10 or 12
-  pub band-late : (r : ℕ) → r ≡ measureRefusal sums (rowsOf samples) (countOf Curve degree) → (r ≡ 0 → ⊥)
-      → BandIs (bandPast n x degree confidence tolerance samples sums) (answers.Refused r) (contentsOf s s′)
+  pub band-late : (r : ℕ) → r ≡ measureRefusal sums rows (countOf Curve degree) → (r ≡ 0 → ⊥)
+      → BandIs (bandPast n x degree confidence tolerance rows sums) (answers.Refused r) (contentsOf s s′)
   unfolding bandPast
   band-late zero e h = absurd (h refl)
   band-late (suc k) e h = rw (← e) (record { answer = refl; scratch = es })
 
   -- from coefficients c, their covariance v, the z score and the spread of all y's
-  pub band-made : 0 ≡ measureRefusal sums (rowsOf samples) (countOf Curve degree) → (c v : List Float) (z : Float) (w : StddevAndMean) (b : Band)
-      → c ≡ solve sums (countOf Curve degree) .c → v ≡ covarianceAt sums (rowsOf samples) (countOf Curve degree) → z ≡ zScore confidence → w ≡ stddevAndMean (ysOf samples)
+  pub band-made : 0 ≡ measureRefusal sums rows (countOf Curve degree) → (c v : List Float) (z : Float) (w : StddevAndMean) (b : Band)
+      → c ≡ solve sums (countOf Curve degree) .c → v ≡ covarianceAt sums rows (countOf Curve degree) → z ≡ zScore confidence → w ≡ stddevAndMean (ysIn rows)
       → b ≡ bandAt (countOf Curve degree) c v tolerance z (w .stddev) (table (powerF x) 16)
-      → BandIs (bandPast n x degree confidence tolerance samples sums) (answers.Band b) (contentsOf s s′)
+      → BandIs (bandPast n x degree confidence tolerance rows sums) (answers.Band b) (contentsOf s s′)
   unfolding bandPast bandOn
   band-made e c v z w b ec ev ez ew eb = rw (← e, eb, ec, ev, ez, ew) (record { answer = refl; scratch = es })

@@ -9,8 +9,7 @@ use Rattle.basis.specs.declared.OptionDegree.{OptionDegree}
 use Rattle.basis.specs.declared.OptionDegree.the-variants.{Some, None}
 use Rattle.basis.specs.Counts.{countOf}
 use Rattle.basis.specs.declared.Basis.the-variants.{Curve}
-use Rattle.samples.specs.Samples.{Sample}
-use Rattle.monomial.specs.Rows.{rowsOf}
+use Rattle.monomial.specs.Rows.{Row}
 use Rattle.solve.specs.Solve.{solve}
 use Rattle.fit.specs.Solved.{isSolved}
 use Rattle.refusal.specs.Refusals.{settle}
@@ -31,28 +30,28 @@ refused-early (suc k) q past s c e h = rw (← e) (record { answer = refl; scrat
 pub let-through : (q : ℕ) (past : FitOut) (r : FitAnswer) (s s′ c c′ : List Float) → q ≡ 0 → FitIs past r (contentsOf s s′) (contentsOf c c′) → FitIs (settle q past (fitRefused q)) r (contentsOf s s′) (contentsOf c c′)
 let-through q past r s s′ c c′ e f = rw e f
 
-module _ (n degree : ℕ) (samples : List Sample) (sums s s′ c : List Float) (es : s′ ≡ over (zeros n) s) where
-  pub fit-unsolved : isSolved sums (rowsOf samples) (countOf Curve degree) ≡ false → FitIs (fitPast n degree samples sums) (answers.Refused 10) (contentsOf s s′) (contentsOf c c)
+module _ (n degree : ℕ) (rows : List Row) (sums s s′ c : List Float) (es : s′ ≡ over (zeros n) s) where
+  pub fit-unsolved : isSolved sums rows (countOf Curve degree) ≡ false → FitIs (fitPast n degree rows sums) (answers.Refused 10) (contentsOf s s′) (contentsOf c c)
   unfolding fitPast
   fit-unsolved h = rw h (record { answer = refl; scratch = es; coefficients = refl })
 
-  pub fit-solved : isSolved sums (rowsOf samples) (countOf Curve degree) ≡ true → (c′ : List Float) → c′ ≡ over (solve sums (countOf Curve degree) .c) c
-      → FitIs (fitPast n degree samples sums) (answers.Fit (record { 0 = degree })) (contentsOf s s′) (contentsOf c c′)
+  pub fit-solved : isSolved sums rows (countOf Curve degree) ≡ true → (c′ : List Float) → c′ ≡ over (solve sums (countOf Curve degree) .c) c
+      → FitIs (fitPast n degree rows sums) (answers.Fit (record { 0 = degree })) (contentsOf s s′) (contentsOf c c′)
   unfolding fitPast
   fit-solved h c′ ec = rw h (record { answer = refl; scratch = es; coefficients = ec })
 
 -- validation: none is chosen, or the single fit at the chosen degree, from scratch that the folds have used
-module _ (n : ℕ) (o : OptionDegree) (samples : List Sample) (sums s c : List Float) where
-  pub none-validated : o ≡ None → (s′ : List Float) → s′ ≡ over (zeros n) s → FitIs (validatePast n o samples sums) (answers.Refused 11) (contentsOf s s′) (contentsOf c c)
+module _ (n : ℕ) (o : OptionDegree) (rows : List Row) (sums s c : List Float) where
+  pub none-validated : o ≡ None → (s′ : List Float) → s′ ≡ over (zeros n) s → FitIs (validatePast n o rows sums) (answers.Refused 11) (contentsOf s s′) (contentsOf c c)
   unfolding validatePast
   none-validated h s′ es = rw h (record { answer = refl; scratch = es; coefficients = refl })
 
   pub one-validated : (d : ℕ) → o ≡ Some (record { 0 = d }) → (r : FitAnswer) (u s′ c′ : List Float) → Within n s u
-      → FitIs (fitPast n d samples sums) r (contentsOf u s′) (contentsOf c c′) → FitIs (validatePast n o samples sums) r (contentsOf s s′) (contentsOf c c′)
+      → FitIs (fitPast n d rows sums) r (contentsOf u s′) (contentsOf c c′) → FitIs (validatePast n o rows sums) r (contentsOf s s′) (contentsOf c c′)
   unfolding validatePast
   one-validated d h r u s′ c′ w f =
       rw h (record {
         answer = f .answer;
-        scratch = f .scratch ∙ ap (λ z. over z u) (past-scratch n d samples sums) ∙ over-within n s u w ∙ ap (λ z. over z s) (sym (past-scratch n d samples sums));
+        scratch = f .scratch ∙ ap (λ z. over z u) (past-scratch n d rows sums) ∙ over-within n s u w ∙ ap (λ z. over z s) (sym (past-scratch n d rows sums));
         coefficients = f .coefficients;
       })

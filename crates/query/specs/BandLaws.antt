@@ -7,6 +7,7 @@ use lib.Ieee.{Float}
 use Rattle.statistics.specs.declared.Confidence.{Confidence}
 use Rattle.statistics.specs.declared.Tolerance.{Tolerance}
 use Rattle.samples.specs.Samples.{Sample}
+use Rattle.monomial.specs.Rows.{rowsOf}
 use Rattle.covariance.specs.declared.Band.{Band}
 use Rattle.refusal.specs.Refusals.{settle}
 use Rattle.refusal.specs.Laws.{numbered, settled-among}
@@ -27,5 +28,5 @@ pub band-answers : (n : ℕ) (x : Float) (degree : ℕ) (confidence : Confidence
 unfolding bandFor bandPast measureRefusal
 band-answers n x degree confidence tolerance samples sums columns places scratch =
     settled-among (λ (o : BandOut). bandNumber (o .answer)) (bandRefusal n x degree confidence tolerance samples columns places scratch)
-    (bandPast n x degree confidence tolerance samples sums) _ (0 ∷ 1 ∷ 4 ∷ 7 ∷ 8 ∷ 9 ∷ []) (10 ∷ 12 ∷ [])
+    (bandPast n x degree confidence tolerance (rowsOf samples) sums) _ (0 ∷ 1 ∷ 4 ∷ 7 ∷ 8 ∷ 9 ∷ []) (10 ∷ 12 ∷ [])
     (band-numbers n samples columns places scratch x degree confidence tolerance) (band-past-number _ _ (numbered _)) refl

@@ -13,7 +13,7 @@ use Rattle.statistics.specs.declared.Confidence.{Confidence}
 use Rattle.statistics.specs.declared.Tolerance.{Tolerance}
 use Rattle.basis.specs.Counts.{countOf}
 use Rattle.basis.specs.declared.Basis.the-variants.{Curve}
-use Rattle.samples.specs.Samples.{Sample, ysOf}
+use Rattle.samples.specs.Samples.{Sample}
 use Rattle.samples.specs.Columns.{samplesOf, Columns, lengths}
 use Rattle.monomial.specs.Rows.{Row, rowsOf, ysIn}
 use Rattle.solve.specs.Solve.{solve}

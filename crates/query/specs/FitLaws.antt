@@ -11,7 +11,7 @@ use Rattle.statistics.specs.declared.DegreeBound.{DegreeBound}
 use Rattle.basis.specs.Counts.{countOf}
 use Rattle.basis.specs.declared.Basis.the-variants.{Curve}
 use Rattle.samples.specs.Samples.{Sample}
-use Rattle.monomial.specs.Rows.{rowsOf}
+use Rattle.monomial.specs.Rows.{Row, rowsOf}
 use Rattle.score.specs.declared.Criterion.{Criterion}
 use Rattle.fit.specs.Solved.{isSolved}
 use Rattle.refusal.specs.Laws.{settled-among}
@@ -22,21 +22,21 @@ use Rattle.query.specs.RefusalLaws.{fit-numbers, validate-numbers}
 use Rattle.query.specs.Fits.{FitOut, fitNumber, fitPast, fitOn, validatePast, validateOn}
 
 -- Every fit or validation that passes refusals 1 to 9 leaves scratch's first n places +0.
-pub past-scratch : (n degree : ℕ) (samples : List Sample) (sums : List Float) → fitPast n degree samples sums .scratch ≡ zeros n
+pub past-scratch : (n degree : ℕ) (rows : List Row) (sums : List Float) → fitPast n degree rows sums .scratch ≡ zeros n
 unfolding fitPast
-past-scratch n degree samples sums = go (isSolved sums (rowsOf samples) (countOf Curve degree)) refl
+past-scratch n degree rows sums = go (isSolved sums rows (countOf Curve degree)) refl
   where
-    go : (t : Bool) → isSolved sums (rowsOf samples) (countOf Curve degree) ≡ t → fitPast n degree samples sums .scratch ≡ zeros n
+    go : (t : Bool) → isSolved sums rows (countOf Curve degree) ≡ t → fitPast n degree rows sums .scratch ≡ zeros n
     go true h = rw h
     go false h = rw h
 
 -- ---- what each may answer, by document 01's numbers
 
-fit-past-number : (n degree : ℕ) (samples : List Sample) (sums : List Float) → List·Memᴰ (fitNumber (fitPast n degree samples sums .answer)) (0 ∷ 10 ∷ [])
+fit-past-number : (n degree : ℕ) (rows : List Row) (sums : List Float) → List·Memᴰ (fitNumber (fitPast n degree rows sums .answer)) (0 ∷ 10 ∷ [])
 unfolding fitPast
-fit-past-number n degree samples sums = go (isSolved sums (rowsOf samples) (countOf Curve degree)) refl
+fit-past-number n degree rows sums = go (isSolved sums rows (countOf Curve degree)) refl
   where
-    go : (t : Bool) → isSolved sums (rowsOf samples) (countOf Curve degree) ≡ t → List·Memᴰ (fitNumber (fitPast n degree samples sums .answer)) (0 ∷ 10 ∷ [])
+    go : (t : Bool) → isSolved sums rows (countOf Curve degree) ≡ t → List·Memᴰ (fitNumber (fitPast n degree rows sums .answer)) (0 ∷ 10 ∷ [])
     go true h = rw h (List·Memᴰ·head refl)
     go false h = rw h (List·Memᴰ·tail (List·Memᴰ·head refl))
 
@@ -49,20 +49,20 @@ pub fit-answers : (n degree : ℕ) (samples : List Sample) (sums : List Float) (
     → List·Memᴰ (fitNumber (fitOn n degree samples sums columns places scratch coefficients .answer)) (0 ∷ 1 ∷ 4 ∷ 7 ∷ 8 ∷ 10 ∷ [])
 unfolding fitOn
 fit-answers n degree samples sums columns places scratch coefficients =
-    settled-among (λ (o : FitOut). fitNumber (o .answer)) (fitRefusal n degree samples columns places scratch coefficients) (fitPast n degree samples sums) _
+    settled-among (λ (o : FitOut). fitNumber (o .answer)) (fitRefusal n degree samples columns places scratch coefficients) (fitPast n degree (rowsOf samples) sums) _
     (0 ∷ 1 ∷ 4 ∷ 7 ∷ 8 ∷ []) (10 ∷ []) (fit-numbers n samples columns places scratch degree coefficients)
-    (past-among _ (fit-past-number n degree samples sums)) refl
+    (past-among _ (fit-past-number n degree (rowsOf samples) sums)) refl
 
-validate-past-number : (n : ℕ) (o : OptionDegree) (samples : List Sample) (sums : List Float)
-    → List·Memᴰ (fitNumber (validatePast n o samples sums .answer)) (0 ∷ 1 ∷ 4 ∷ 7 ∷ 8 ∷ 10 ∷ 11 ∷ [])
+validate-past-number : (n : ℕ) (o : OptionDegree) (rows : List Row) (sums : List Float)
+    → List·Memᴰ (fitNumber (validatePast n o rows sums .answer)) (0 ∷ 1 ∷ 4 ∷ 7 ∷ 8 ∷ 10 ∷ 11 ∷ [])
 unfolding validatePast
-validate-past-number n None samples sums = Memᴰ·append-right (0 ∷ 1 ∷ 4 ∷ 7 ∷ 8 ∷ 10 ∷ []) (List·Memᴰ·head refl)
-validate-past-number n (Some d) samples sums = Memᴰ·append-left (11 ∷ []) (past-among _ (fit-past-number n (d .0) samples sums))
+validate-past-number n None rows sums = Memᴰ·append-right (0 ∷ 1 ∷ 4 ∷ 7 ∷ 8 ∷ 10 ∷ []) (List·Memᴰ·head refl)
+validate-past-number n (Some d) rows sums = Memᴰ·append-left (11 ∷ []) (past-among _ (fit-past-number n (d .0) rows sums))
 
 pub validate-answers : (n folds : ℕ) (bound : DegreeBound) (criterion : Criterion) (samples : List Sample) (sums : List Float) (columns : List ℕ) (places scratch coefficients : ℕ)
     → List·Memᴰ (fitNumber (validateOn n folds bound criterion samples sums columns places scratch coefficients .answer)) (0 ∷ 1 ∷ 4 ∷ 7 ∷ 8 ∷ 10 ∷ 11 ∷ [])
 unfolding validateOn
 validate-answers n folds bound criterion samples sums columns places scratch coefficients =
-    settled-among (λ (o : FitOut). fitNumber (o .answer)) (validateRefusal n folds bound samples columns places scratch coefficients) (validatePast n _ samples sums) _
+    settled-among (λ (o : FitOut). fitNumber (o .answer)) (validateRefusal n folds bound samples columns places scratch coefficients) (validatePast n _ (rowsOf samples) sums) _
     (0 ∷ 1 ∷ 4 ∷ 7 ∷ 8 ∷ []) (10 ∷ 11 ∷ []) (validate-numbers n samples columns places scratch folds bound coefficients)
-    (validate-past-number n _ samples sums) refl
+    (validate-past-number n _ (rowsOf samples) sums) refl

@@ -6,10 +6,10 @@ use borrow.Author.Needs.{needs}
 use lib.ListN.{length}
 use lib.Seq.{length-take-le}
 use Rattle.basis.specs.CountLaws.{curve-count}
-use Rattle.monomial.specs.RowLaws.{curve-rows}
+use Rattle.basis.specs.declared.Basis.the-variants.{Curve}
+use Rattle.monomial.specs.Rows.{rowsAt}
+use Rattle.monomial.specs.RowLaws.{curve-rows, ys-in-rows}
 use Rattle.monomial.specs.TermLaws.{curve-terms}
-use Rattle.samples.specs.Columns.{ofY, samplesOf, columnsOf}
-use Rattle.samples.specs.ColumnLaws.{column-of-samples}
 use Rattle.statistics.specs.Variances.{stddevAndMean}
 use Rattle.lent.specs.WrittenLaws.{over-cleared}
 use Rattle.query.specs.RefusalLaws.{band-room}
@@ -21,25 +21,25 @@ use Rattle.query.proofs.band.Tie as tie
 returns : tie.Need-returns
 unfolding bandFor
 returns c =
-    let at-args = c .before .before .before .before .before .before .args in
+    let at-args = c .before .before .before .before .before .before .before .args in
     band-early _ _ _ (at-args .scratch .now) (c .before .band-refusal .ensures) (c .if1 .taken)
 
 k-requires : tie.Need-k-requires
 k-requires c κs =
-    let at-args = c .before .before .before .before .before .before .args in
+    let at-args = c .before .before .before .before .before .before .before .args in
     let w = band-room _ _ _ _ _ (at-args .x) (at-args .degree .0) (at-args .confidence) (at-args .tolerance) (sym (c .before .band-refusal .ensures) ∙ c .if1 .left) in
     omega (arith, w .1)
 
 slice-aggregate-measure : tie.Need-slice-aggregate-measure
 slice-aggregate-measure c =
-    let at-args = c .before .before .before .before .before .before .before .before .args in
+    let at-args = c .before .before .before .before .before .before .before .before .before .args in
     let at-band-refusal = c .before .before .before .band-refusal in
     let w = band-room _ _ _ _ _ (at-args .x) (at-args .degree .0) (at-args .confidence) (at-args .tolerance) (sym (at-band-refusal .ensures) ∙ c .before .before .if1 .left) in
     sym (length-take-le 272 (at-args .sums .now) (w .0 .enough .0))
 
 measure-requires : tie.Need-measure-requires
 measure-requires c κs =
-    let at-args = c .before .before .before .before .before .before .before .before .before .args in
+    let at-args = c .before .before .before .before .before .before .before .before .before .before .args in
     let at-band-refusal = c .before .before .before .before .band-refusal in
     let at-if1 = c .before .before .before .if1 in
     let w = band-room _ _ _ _ _ (at-args .x) (at-args .degree .0) (at-args .confidence) (at-args .tolerance) (sym (at-band-refusal .ensures) ∙ at-if1 .left) in
@@ -47,7 +47,7 @@ measure-requires c κs =
 
 clear-requires : tie.Need-clear-requires
 clear-requires c κs =
-    let at-args = c .before .before .before .before .before .before .before .before .before .before .before .before .before .args in
+    let at-args = c .before .before .before .before .before .before .before .before .before .before .before .before .before .before .args in
     let at-band-refusal = c .before .before .before .before .before .before .before .before .band-refusal in
     let at-if1 = c .before .before .before .before .before .before .before .if1 in
     let at-measure = c .before .before .before .measure in
@@ -59,17 +59,17 @@ unfolding bandFor
 returns-2 c =
     let at-band-refusal = c .before .before .before .before .before .before .before .before .before .before .before .before .before .band-refusal in
     let at-if1 = c .before .before .before .before .before .before .before .before .before .before .before .before .if1 in
-    let at-args = c .before .before .before .before .before .before .before .before .before .before .before .before .before .before .before .before .before .before .args in
+    let at-args = c .before .before .before .before .before .before .before .before .before .before .before .before .before .before .before .before .before .before .before .args in
     let at-measure = c .before .before .before .before .before .before .before .before .measure in
-    let same = curve-rows (at-args .book .count) (at-args .xs .now) (at-args .xs .now) (at-args .ys .now) in
-    let ran = rw (c .before .before .before .before .before .before .before .before .before .before .before .k .ensures, same) at (at-measure .ensures) in
+    let same = curve-rows (at-args .book .count) (at-args .xs .now) (at-args .xs .now) (at-args .ys .now) (at-args .ws .now) in
+    let ran = rw (c .before .before .before .before .before .before .before .before .before .before .before .k .ensures) at (at-measure .ensures) in
     let at-clear = c .before .before .before .before .clear in
     band-through _ _ _ _ _ (sym (at-band-refusal .ensures) ∙ at-if1 .left)
-    (band-late (at-args .book .count) (at-args .x) (at-args .degree .0) (at-args .confidence) (at-args .tolerance) (samplesOf (at-args .book .count) (columnsOf (at-args .xs .now) (at-args .ys .now))) _ _ _ (over-cleared _ _ _ _ (ran .within) (at-clear .ensures)) _ (ran .number) (c .if2 .taken))
+    (rw same at (band-late (at-args .book .count) (at-args .x) (at-args .degree .0) (at-args .confidence) (at-args .tolerance) (rowsAt Curve (at-args .book .count) (at-args .xs .now) (at-args .xs .now) (at-args .ys .now)) _ _ _ (over-cleared _ _ _ _ (ran .within) (at-clear .ensures)) _ (ran .number) (c .if2 .taken)))
 
 stddev-and-mean-requires : tie.Need-stddev-and-mean-requires
 stddev-and-mean-requires c κs =
-    let at-args = c .before .before .before .before .before .before .before .before .before .before .before .before .before .before .before .before .before .before .before .before .before .args in
+    let at-args = c .before .before .before .before .before .before .before .before .before .before .before .before .before .before .before .before .before .before .before .before .before .before .args in
     let at-band-refusal = c .before .before .before .before .before .before .before .before .before .before .before .before .before .before .before .before .band-refusal in
     let at-if1 = c .before .before .before .before .before .before .before .before .before .before .before .before .before .before .before .if1 in
     let w = band-room _ _ _ _ _ (at-args .x) (at-args .degree .0) (at-args .confidence) (at-args .tolerance) (sym (at-band-refusal .ensures) ∙ at-if1 .left) in
@@ -77,7 +77,7 @@ stddev-and-mean-requires c κs =
 
 band-at-requires : tie.Need-band-at-requires
 band-at-requires c κs =
-    let at-args = c .before .before .before .before .before .before .before .before .before .before .before .before .before .before .before .before .before .before .before .before .before .before .before .before .args in
+    let at-args = c .before .before .before .before .before .before .before .before .before .before .before .before .before .before .before .before .before .before .before .before .before .before .before .before .before .args in
     let at-band-refusal = c .before .before .before .before .before .before .before .before .before .before .before .before .before .before .before .before .before .before .before .band-refusal in
     let at-if1 = c .before .before .before .before .before .before .before .before .before .before .before .before .before .before .before .before .before .before .if1 in
     let w = band-room _ _ _ _ _ (at-args .x) (at-args .degree .0) (at-args .confidence) (at-args .tolerance) (sym (at-band-refusal .ensures) ∙ at-if1 .left) in
@@ -86,20 +86,20 @@ band-at-requires c κs =
 returns-3 : tie.Need-returns-3
 unfolding bandFor
 returns-3 c =
-    let at-args = c .before .before .before .before .before .before .before .before .before .before .before .before .before .before .before .before .before .before .before .before .before .before .before .before .before .args in
+    let at-args = c .before .before .before .before .before .before .before .before .before .before .before .before .before .before .before .before .before .before .before .before .before .before .before .before .before .before .args in
     let at-band-refusal = c .before .before .before .before .before .before .before .before .before .before .before .before .before .before .before .before .before .before .before .before .band-refusal in
     let at-if1 = c .before .before .before .before .before .before .before .before .before .before .before .before .before .before .before .before .before .before .before .if1 in
     let at-measure = c .before .before .before .before .before .before .before .before .before .before .before .before .before .before .before .measure in
-    let same = curve-rows (at-args .book .count) (at-args .xs .now) (at-args .xs .now) (at-args .ys .now) in
-    let ran = rw (c .before .before .before .before .before .before .before .before .before .before .before .before .before .before .before .before .before .before .k .ensures, same) at (at-measure .ensures) in
+    let same = curve-rows (at-args .book .count) (at-args .xs .now) (at-args .xs .now) (at-args .ys .now) (at-args .ws .now) in
+    let ran = rw (c .before .before .before .before .before .before .before .before .before .before .before .before .before .before .before .before .before .before .k .ensures) at (at-measure .ensures) in
     let at-clear = c .before .before .before .before .before .before .before .before .before .before .before .clear in
     let at-if2 = c .before .before .before .before .before .before .before .if2 in
     let at-z-score = c .before .before .before .before .z-score in
     let at-stddev-and-mean = c .before .before .before .stddev-and-mean in
     let w = band-room _ _ _ _ _ (at-args .x) (at-args .degree .0) (at-args .confidence) (at-args .tolerance) (sym (at-band-refusal .ensures) ∙ at-if1 .left) in
     band-through _ _ _ _ _ (sym (at-band-refusal .ensures) ∙ at-if1 .left)
-    (band-made (at-args .book .count) (at-args .x) (at-args .degree .0) (at-args .confidence) (at-args .tolerance) (samplesOf (at-args .book .count) (columnsOf (at-args .xs .now) (at-args .ys .now))) _ _ _ (over-cleared _ _ _ _ (ran .within) (at-clear .ensures)) (sym (at-if2 .left) ∙ ran .number) _ _ _ _ _ (ran .coefficients) (ran .covariance (at-if2 .left)) (at-z-score .ensures)
-    (at-stddev-and-mean .ensures ∙ ap stddevAndMean (sym (column-of-samples (at-args .book .count) (columnsOf (at-args .xs .now) (at-args .ys .now)) ofY (w .0 .within .1 .0)))) (rw (c .before .before .before .before .before .before .before .before .before .before .before .before .before .before .before .before .before .before .k .ensures, curve-terms) at (c .band-at .ensures)))
+    (rw same at (band-made (at-args .book .count) (at-args .x) (at-args .degree .0) (at-args .confidence) (at-args .tolerance) (rowsAt Curve (at-args .book .count) (at-args .xs .now) (at-args .xs .now) (at-args .ys .now)) _ _ _ (over-cleared _ _ _ _ (ran .within) (at-clear .ensures)) (sym (at-if2 .left) ∙ ran .number) _ _ _ _ _ (ran .coefficients) (ran .covariance (at-if2 .left)) (at-z-score .ensures)
+    (at-stddev-and-mean .ensures ∙ ap stddevAndMean (sym (ys-in-rows (at-args .book .count) (at-args .xs .now) (at-args .xs .now) (at-args .ys .now) (w .0 .within .1 .0)))) (rw (c .before .before .before .before .before .before .before .before .before .before .before .before .before .before .before .before .before .before .k .ensures, curve-terms) at (c .band-at .ensures))))
 
 pub band-spec : {M : Type 1} → statement M
 band-spec =

@@ -2,6 +2,7 @@
 use mathlib.Core.Path.{sym, _∙_}
 use Prim.Native.Nat.{_-_}
 use borrow.Author.Needs.{needs}
+use Rattle.monomial.specs.RowLaws.{curve-rows}
 use Rattle.query.specs.Fits.{fitOn}
 use Rattle.query.specs.RefusalLaws.{fit-room}
 use Rattle.query.proofs.Fitting.{refused-early, let-through}
@@ -11,12 +12,12 @@ use Rattle.query.proofs.fit.Tie as tie
 returns : tie.Need-returns
 unfolding fitOn
 returns c =
-    let at-args = c .before .before .before .before .before .before .before .args in
+    let at-args = c .before .before .before .before .before .before .before .before .args in
     refused-early _ _ _ (at-args .scratch .now) (at-args .coefficients .now) (c .before .fit-refusal .ensures) (c .if1 .taken)
 
 solve-at-requires : tie.Need-solve-at-requires
 solve-at-requires c κs =
-    let at-args = c .before .before .before .before .before .before .before .before .before .args in
+    let at-args = c .before .before .before .before .before .before .before .before .before .before .args in
     let at-fit-refusal = c .before .before .before .fit-refusal in
     let w = fit-room _ _ _ _ _ (at-args .degree .0) _ (sym (at-fit-refusal .ensures) ∙ c .before .before .if1 .left) in
     (w .0 .within .0, w .0 .within .1 .0, w .0 .enough .1 .0, w .0 .enough .0, w .0 .enough .1 .1 .0, w .1)
@@ -26,8 +27,9 @@ unfolding fitOn
 returns-2 c =
     let at-fit-refusal = c .before .before .before .before .before .before .before .before .fit-refusal in
     let at-if1 = c .before .before .before .before .before .before .before .if1 in
+    let at-args = c .before .before .before .before .before .before .before .before .before .before .before .before .before .before .before .args in
     let at-solve-at = c .before .before .before .before .solve-at in
-    let-through _ _ _ _ _ _ _ (sym (at-fit-refusal .ensures) ∙ at-if1 .left) (at-solve-at .ensures)
+    let-through _ _ _ _ _ _ _ (sym (at-fit-refusal .ensures) ∙ at-if1 .left) (rw (curve-rows (at-args .book .count) (at-args .xs .now) (at-args .xs .now) (at-args .ys .now) (at-args .ws .now)) at (at-solve-at .ensures))
 
 pub fit-spec : {M : Type 1} → statement M
 fit-spec =

@@ -8,7 +8,6 @@ use lib.ListN.{take, drop}
 use Rattle.basis.specs.Counts.{countOf}
 use Rattle.basis.specs.CountLaws.{curve-count}
 use Rattle.basis.specs.declared.Basis.the-variants.{Curve}
-use Rattle.monomial.specs.RowLaws.{curve-rows}
 use Rattle.solve.specs.Solve.{solve}
 use lib.Seq.{length-take-le}
 use borrow.Author.Tests.{not-true, not-false}
@@ -40,8 +39,7 @@ returns : tie.Need-returns
 returns c =
     let at-args = c .before .before .before .before .before .before .before .before .before .before .before .before .before .before .before .before .before .args in
     let at-attempt = c .before .before .before .before .before .before .before .before .attempt in
-    let same = curve-rows (at-args .n) (at-args .xs .now) (at-args .xs .now) (at-args .ys .now) in
-    let ran = rw (c .before .before .before .before .before .before .before .before .before .before .before .k .ensures, same) at (at-attempt .ensures) in
+    let ran = rw (c .before .before .before .before .before .before .before .before .before .before .before .k .ensures) at (at-attempt .ensures) in
     let at-clear = c .before .before .before .before .clear in
     fit-unsolved (at-args .n) (at-args .degree .0) _ _ (at-args .scratch .now) _ (at-args .coefficients .now) (over-cleared (at-args .n) _ _ _ (ran .within) (at-clear .ensures)) (sym (ran .is-solved) ∙ not-true _ (c .if1 .taken))
 
@@ -49,8 +47,7 @@ returns-2 : tie.Need-returns-2
 returns-2 c =
     let at-args = c .before .before .before .before .before .before .before .before .before .before .before .before .before .before .before .before .before .before .before .before .before .before .args in
     let at-attempt = c .before .before .before .before .before .before .before .before .before .before .before .before .before .attempt in
-    let same = curve-rows (at-args .n) (at-args .xs .now) (at-args .xs .now) (at-args .ys .now) in
-    let ran = rw (c .before .before .before .before .before .before .before .before .before .before .before .before .before .before .before .before .k .ensures, same) at (at-attempt .ensures) in
+    let ran = rw (c .before .before .before .before .before .before .before .before .before .before .before .before .before .before .before .before .k .ensures) at (at-attempt .ensures) in
     let at-clear = c .before .before .before .before .before .before .before .before .before .clear in
     let at-if1 = c .before .before .before .before .before .if1 in
     let at-pre = c .before .before .before .before .before .before .before .before .before .before .before .before .before .before .before .before .before .before .before .before .before .before .pre in

@@ -22,7 +22,7 @@ samples-finite-requires c κs =
     let at-band-short = c .before .before .before .before .band-short in
     let at-if1 = c .before .before .before .if1 in
     let r = room _ _ _ (sym (at-band-short .ensures) ∙ at-if1 .left) in
-    (r .within .0, r .within .1 .0)
+    (r .within .0, r .within .1 .0, r .within .1 .1 .0)
 
 outside-requires : tie.Need-outside-requires
 outside-requires c κs =
@@ -36,7 +36,7 @@ returns-2 c =
     let at-band-short = c .before .before .before .before .before .before .before .before .before .before .before .band-short in
     let at-if1 = c .before .before .before .before .before .before .before .before .before .before .if1 in
     let at-outside = c .before .before .before .before .outside in
-    let at-args = c .before .before .before .before .before .before .before .before .before .before .before .before .before .before .args in
+    let at-args = c .before .before .before .before .before .before .before .before .before .before .before .before .before .before .before .args in
     let at-is-finite = c .before .before .before .before .before .before .before .before .before .is-finite in
     let at-score-finite = c .before .before .before .before .before .before .before .before .score-finite in
     let at-tolerance-finite = c .before .before .before .before .before .before .before .tolerance-finite in
@@ -44,7 +44,7 @@ returns-2 c =
     let at-degree-too-high = c .before .before .before .before .before .degree-too-high in
     let at-first = c .before .before .before .first in
     let within = room _ _ _ (sym (at-band-short .ensures) ∙ at-if1 .left) .within .0 in
-    let beyond = at-outside .ensures ∙ ap (outside (at-args .x)) (sym (column-of-samples (at-args .n) (columnsOf (at-args .xs .now) (at-args .ys .now)) ofX within)) in
+    let beyond = at-outside .ensures ∙ ap (outside (at-args .x)) (sym (column-of-samples (at-args .n) (columnsOf (at-args .xs .now) (at-args .ys .now) (at-args .ws .now)) ofX within)) in
     first-fails 1 _ (at-band-short .ensures) (at-if1 .left)
     (first-of 4 _ (ap not (ap₂ _&&_ (ap₂ _&&_ (ap₂ _&&_ (at-is-finite .ensures) (at-score-finite .ensures)) (at-tolerance-finite .ensures)) (at-samples-finite .ensures)))
     (first-of 7 _ {t = eqb (at-args .n) 0} refl (first-of 8 _ (at-degree-too-high .ensures) (first-of 9 _ beyond first-end (at-first .ensures)) (c .before .before .first2 .ensures)) (c .before .first3 .ensures)) (c .first4 .ensures))

@@ -17,7 +17,7 @@ returns c = first-holds 1 _ (c .before .fit-short .ensures) (c .if1 .taken)
 samples-finite-requires : tie.Need-samples-finite-requires
 samples-finite-requires c κs =
     let r = room _ _ _ (sym (c .before .fit-short .ensures) ∙ c .if1 .left) in
-    (r .within .0, r .within .1 .0)
+    (r .within .0, r .within .1 .0, r .within .1 .1 .0)
 
 returns-2 : tie.Need-returns-2
 unfolding fitRefusal
@@ -25,7 +25,7 @@ returns-2 c =
     let at-fit-short = c .before .before .before .before .before .before .fit-short in
     let at-if1 = c .before .before .before .before .before .if1 in
     let at-samples-finite = c .before .before .before .before .samples-finite in
-    let at-args = c .before .before .before .before .before .before .before .before .before .args in
+    let at-args = c .before .before .before .before .before .before .before .before .before .before .args in
     let at-degree-too-high = c .before .before .before .degree-too-high in
     first-fails 1 _ (at-fit-short .ensures) (at-if1 .left)
     (first-of 4 _ (ap not (at-samples-finite .ensures)) (first-of 7 _ {t = eqb (at-args .n) 0} refl (first-of 8 _ (at-degree-too-high .ensures) first-end (c .before .before .first .ensures)) (c .before .first2 .ensures)) (c .first3 .ensures))

@@ -16,7 +16,7 @@ returns c = first-holds 1 _ (c .before .fit-short .ensures) (c .if1 .taken)
 samples-finite-requires : tie.Need-samples-finite-requires
 samples-finite-requires c κs =
     let r = room _ _ _ (sym (c .before .fit-short .ensures) ∙ c .if1 .left) in
-    (r .within .0, r .within .1 .0)
+    (r .within .0, r .within .1 .0, r .within .1 .1 .0)
 
 returns-2 : tie.Need-returns-2
 unfolding validateRefusal
