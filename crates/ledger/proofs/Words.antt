@@ -44,20 +44,20 @@ module _ (settings : Settings) (l : List Sample) where
   same d h =
       ap (scoredBy (settings .criterion) (ledgerSums settings l) (rowsOf l) (rowsOf l)) (table-at (countOf Curve) (degrees settings l) d 0 h)
 
-  chosen-by : reportChoice (length l) settings l (ledgerSums settings l) .chosen ≡ chosenOf (scored settings l) (degrees settings l)
+  chosen-by : reportChoice (length l) settings (rowsOf l) (ledgerSums settings l) .chosen ≡ chosenOf (scored settings l) (degrees settings l)
   unfolding reportChoice choiceOf try counts
   chosen-by = ap (chosenOf try) long ∙ chosen-same try (scored settings l) (degrees settings l) same
 
-  solved-by : reportChoice (length l) settings l (ledgerSums settings l) .solved ≡ solvedCount (scored settings l) (degrees settings l)
+  solved-by : reportChoice (length l) settings (rowsOf l) (ledgerSums settings l) .solved ≡ solvedCount (scored settings l) (degrees settings l)
   unfolding reportChoice choiceOf try counts
   solved-by = ap (solvedCount try) long ∙ count-same try (scored settings l) (degrees settings l) same
 
 -- what a report answers past refusals 1 to 9, from the chosen degree or none
 module _ (settings : Settings) (l : List Sample) where
   abbrev pub reportBy : OptionDegree → ReportOut
-  reportBy c = reportOf (length l) settings l (ledgerSums settings l) (solvedCount (scored settings l) (degrees settings l)) c
+  reportBy c = reportOf (length l) settings (rowsOf l) (ledgerSums settings l) (solvedCount (scored settings l) (degrees settings l)) c
 
-  pub past-chosen : reportPast (length l) settings l (ledgerSums settings l) ≡ reportBy (chosenOf (scored settings l) (degrees settings l))
+  pub past-chosen : reportPast (length l) settings (rowsOf l) (ledgerSums settings l) ≡ reportBy (chosenOf (scored settings l) (degrees settings l))
   unfolding reportPast
   past-chosen = rw (chosen-by settings l, solved-by settings l) refl
 
