@@ -100,20 +100,20 @@ held f v m l cs p = fold (λ u k. seen u (map f k) p) v (history (ledgerNext m) 
 
 -- ---- the claim, about any list of calls from a book just opened, refused ones included, whatever the columns held at opening
 
-pub record WholePairs (c : Columns) (sums : List Float) (cs : List Change) : Type 0 where
+pub record WholePairs (c : Columns) (sums₀ : List Float) (cs : List Change) : Type 0 where
   -- Each call's answer is the ledger's.
-  pub answered : programAnswers (opened c sums) cs ≡ ledgerAnswers (lentOf c sums) [] cs
+  pub answered : programAnswers (opened c sums₀) cs ≡ ledgerAnswers (lentOf c sums₀) [] cs
   -- After the list, the book is the ledger's length,
-  pub book : final (opened c sums) cs .count ≡ length (ledgerEnd (lentOf c sums) [] cs)
+  pub book : final (opened c sums₀) cs .count ≡ length (ledgerEnd (lentOf c sums₀) [] cs)
   -- the column places below it hold the ledger's samples,
-  pub below-x : take (final (opened c sums) cs .count) (final (opened c sums) cs .columns .xs) ≡ map (λ (p : Pair). p .x) (ledgerEnd (lentOf c sums) [] cs)
-  pub below-y : take (final (opened c sums) cs .count) (final (opened c sums) cs .columns .ys) ≡ map (λ (p : Pair). p .y) (ledgerEnd (lentOf c sums) [] cs)
+  pub below-x : take (final (opened c sums₀) cs .count) (final (opened c sums₀) cs .columns .xs) ≡ map (λ (p : Pair). p .x) (ledgerEnd (lentOf c sums₀) [] cs)
+  pub below-y : take (final (opened c sums₀) cs .count) (final (opened c sums₀) cs .columns .ys) ≡ map (λ (p : Pair). p .y) (ledgerEnd (lentOf c sums₀) [] cs)
   -- and the 272 sums are the ledger's, bit for bit, NaNs as one value.
-  pub sums : take sumPlaces (final (opened c sums) cs .sums) ≡ plainSums (pairRows (ledgerEnd (lentOf c sums) [] cs))
+  pub sums : take sumPlaces (final (opened c sums₀) cs .sums) ≡ plainSums (pairRows (ledgerEnd (lentOf c sums₀) [] cs))
   -- A column place at or past the count keeps what it held when it was last below the count, or else what it held at opening.
-  pub places-x : (p : ℕ) → getD (final (opened c sums) cs .columns .xs) p nan ≡ held (λ (q : Pair). q .x) (getD (c .xs) p nan) (lentOf c sums) [] cs p
-  pub places-y : (p : ℕ) → getD (final (opened c sums) cs .columns .ys) p nan ≡ held (λ (q : Pair). q .y) (getD (c .ys) p nan) (lentOf c sums) [] cs p
+  pub places-x : (p : ℕ) → getD (final (opened c sums₀) cs .columns .xs) p nan ≡ held (λ (q : Pair). q .x) (getD (c .xs) p nan) (lentOf c sums₀) [] cs p
+  pub places-y : (p : ℕ) → getD (final (opened c sums₀) cs .columns .ys) p nan ≡ held (λ (q : Pair). q .y) (getD (c .ys) p nan) (lentOf c sums₀) [] cs p
   -- Places past the 272 are not the book's: they are left as they were.
-  pub past : drop sumPlaces (final (opened c sums) cs .sums) ≡ drop sumPlaces sums
+  pub past : drop sumPlaces (final (opened c sums₀) cs .sums) ≡ drop sumPlaces sums₀
   -- The columns and the sums are the same lent memory in every call.
-  pub lent : lentOf (final (opened c sums) cs .columns) (final (opened c sums) cs .sums) ≡ lentOf c sums
+  pub lent : lentOf (final (opened c sums₀) cs .columns) (final (opened c sums₀) cs .sums) ≡ lentOf c sums₀
