@@ -63,14 +63,14 @@ not-refused sums (suc k) e h =
     let z : _≡_ {A = ℕ} 0 1 = cc in
     absurd (omega arith)
 
-abbrev emptyState : Columns → List Float → State
+abbrev pub emptyState : Columns → List Float → State
 emptyState columns sums = stateOf 0 columns (sumsOf [] ++ drop 272 sums)
 
 opened-is : (columns : Columns) (sums : List Float) → openRefusal (length sums) ≡ 0 → emptyState columns sums ≡ opened columns sums
 unfolding openOut
 opened-is columns sums e = rw e
 
-opened-holds : (columns : Columns) (sums : List Float) → 272 ≤ length sums → Holds (lentOf columns sums) (drop 272 sums) [] (emptyState columns sums)
+pub opened-holds : (columns : Columns) (sums : List Float) → 272 ≤ length sums → Holds (lentOf columns sums) (drop 272 sums) [] (emptyState columns sums)
 opened-holds columns sums h =
     let t : length (sumsOf [] ++ drop 272 sums) ≡ length sums =
     length-append (sumsOf []) (drop 272 sums) ∙ omega (arith, length-drop 272 sums, length-sums []) in

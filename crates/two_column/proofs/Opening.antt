@@ -17,7 +17,7 @@ use Rattle.book.specs.Calls as book
 use Rattle.two_column.specs.Pairs.{columns}
 use Rattle.two_column.specs.Calls.{Is, refused, openOut}
 
-no-sums : sumsOf [] ≡ plainSums []
+pub no-sums : sumsOf [] ≡ plainSums []
 unfolding sumsOf plainSums fold
 no-sums = refl
 
