@@ -1,4 +1,4 @@
--- How a list of calls stands in lent buffers: the k-th call has 5 kinds from place 5 k on, 9 words from 9 k on, and 4 numbers from 4 k on.
+-- How a list of calls stands in lent buffers: the k-th call has 5 kinds from place 5 k on, 9 words from 9 k on, and 5 numbers from 5 k on.
 -- Definitions only.
 use mathlib.Core.Bool.{Bool, cond, _&&_, _||_}
 use mathlib.Core.List.{List}
@@ -22,11 +22,11 @@ pruningBy kind = cond (eqb kind 4) 1 0
 
 -- the kinds: of the call, of the bound, the criterion, the confidence and the tolerance;
 -- the words: the index, the bound's degree, and the lengths of scratch, coefficients, errors, pruning bytes, lower, upper and outlier bytes;
--- the numbers: x, y, the Custom score, and the tolerance's number
+-- the numbers: x, y, the weight, the Custom score, and the tolerance's number
 unfoldable pub settingsAt : List ℕ → List ℕ → List Float → ℕ → Settings
 settingsAt kinds words numbers k =
-    settingsOf (getD kinds (5 * k + 1) 0) (getD words (9 * k + 1) 0) (getD kinds (5 * k + 2) 0) (getD kinds (5 * k + 3) 0) (getD numbers (4 * k + 2) nan)
-    (getD kinds (5 * k + 4) 0) (getD numbers (4 * k + 3) nan) (pruningBy (getD kinds (5 * k) 0))
+    settingsOf (getD kinds (5 * k + 1) 0) (getD words (9 * k + 1) 0) (getD kinds (5 * k + 2) 0) (getD kinds (5 * k + 3) 0) (getD numbers (5 * k + 3) nan)
+    (getD kinds (5 * k + 4) 0) (getD numbers (5 * k + 4) nan) (pruningBy (getD kinds (5 * k) 0))
 
 unfoldable pub placesAt : List ℕ → ℕ → Places
 placesAt words k =
@@ -41,16 +41,16 @@ placesAt words k =
     }
 
 -- a call by its kind: 0 add, 1 correct, 2 withdraw, else report (4 by size, every other with polyfit's rule of pruning)
-unfoldable pub callOf : ℕ → ℕ → Float → Float → Settings → Places → Call ReadCall
-callOf zero i x y settings places = changes (adds (record { x = x; y = y }))
-callOf (suc zero) i x y settings places = changes (corrects i y)
-callOf (suc (suc zero)) i x y settings places = changes (withdraws i)
-callOf (suc (suc (suc kind))) i x y settings places = reads (reports settings places)
+unfoldable pub callOf : ℕ → ℕ → Float → Float → Float → Settings → Places → Call ReadCall
+callOf zero i x y w settings places = changes (adds (record { x = x; y = y; w = w }))
+callOf (suc zero) i x y w settings places = changes (corrects i y)
+callOf (suc (suc zero)) i x y w settings places = changes (withdraws i)
+callOf (suc (suc (suc kind))) i x y w settings places = reads (reports settings places)
 
 unfoldable pub callAt : List ℕ → List ℕ → List Float → ℕ → Call ReadCall
 callAt kinds words numbers k =
-    callOf (getD kinds (5 * k) 0) (getD words (9 * k) 0) (getD numbers (4 * k) nan) (getD numbers (4 * k + 1) nan) (settingsAt kinds words numbers k)
-    (placesAt words k)
+    callOf (getD kinds (5 * k) 0) (getD words (9 * k) 0) (getD numbers (5 * k) nan) (getD numbers (5 * k + 1) nan) (getD numbers (5 * k + 2) nan)
+    (settingsAt kinds words numbers k) (placesAt words k)
 
 -- as many calls as there are whole records of kinds
 abbrev pub callCount : List ℕ → ℕ
@@ -84,7 +84,7 @@ holdsAll width m p =
 -- buffers of these lengths hold m records, five results a call, a window a call, and the 272 sums
 unfoldable pub hasRoom : ℕ → ℕ → ℕ → ℕ → Buffers → Bool
 hasRoom m words numbers width b =
-    leb m (words / 9) && leb m (numbers / 4) && leb m (b .results / 5) && leb sumPlaces (b .sums) && holdsAll width m (b .outputs)
+    leb m (words / 9) && leb m (numbers / 5) && leb m (b .results / 5) && leb sumPlaces (b .sums) && holdsAll width m (b .outputs)
 
 -- they do, and every record's memory fits
 unfoldable pub wellFormed : List ℕ → List ℕ → List Float → ℕ → Buffers → Bool

@@ -85,11 +85,11 @@ pub record LentMemory : Type 0 where
   pub found : Memory
   pub left : Memory
 
-abbrev pub memory : Slice Float → Slice Float → Slice Float → Slice ℕ → LentOutputs → LentMemory
-memory xs ys sums results w =
+abbrev pub memory : Slice Float → Slice Float → Slice Float → Slice Float → Slice ℕ → LentOutputs → LentMemory
+memory xs ys ws sums results w =
     record {
-      found = record { columns = columnsOf (before xs) (before ys); sums = before sums; results = before results; outputs = w .found };
-      left = record { columns = columnsOf (after xs) (after ys); sums = after sums; results = after results; outputs = w .left };
+      found = record { columns = columnsOf (before xs) (before ys) (before ws); sums = before sums; results = before results; outputs = w .found };
+      left = record { columns = columnsOf (after xs) (after ys) (after ws); sums = after sums; results = after results; outputs = w .left };
     }
 
 -- the calls cs from a book just opened: n is the book, m the memory before and m′ after

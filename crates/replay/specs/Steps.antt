@@ -61,7 +61,7 @@ RunIs cs width n m = Ran cs width n (m .found) (m .left)
 pub record Stands (kinds words : List ℕ) (numbers : List Float) (k : ℕ) : Type 0 where
   pub kind : 5 * k + 5 ≤ length kinds
   pub word : 9 * k + 9 ≤ length words
-  pub number : 4 * k + 4 ≤ length numbers
+  pub number : 5 * k + 5 ≤ length numbers
 
 -- memory of these lengths can be cut from this place on
 pub record Windows (at : ℕ) (p : Places) (w : Outputs) : Type 0 where

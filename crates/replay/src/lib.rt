@@ -60,14 +60,14 @@ fn settings_at(kinds: &[u32], words: &[usize], numbers: &[f64], k: usize) -> Set
 {
     let kind = 5 * k;
     let word = 9 * k;
-    let number = 4 * k;
+    let number = 5 * k;
     let bound = kinds[kind + 1];
     let most = words[word + 1];
     let criterion = kinds[kind + 2];
     let confidence = kinds[kind + 3];
-    let score = numbers[number + 2];
+    let score = numbers[number + 3];
     let tolerance = kinds[kind + 4];
-    let value = numbers[number + 3];
+    let value = numbers[number + 4];
     let pruning = pruning_by(kinds[kind]);
     settings::numbered(
         bound,
@@ -153,7 +153,7 @@ fn has_room(m: usize, words: usize, numbers: usize, width: usize, b: Buffers) ->
 {
     let outputs = b.outputs;
     (m <= words / 9)
-        & (m <= numbers / 4)
+        & (m <= numbers / 5)
         & (m <= b.results / 5)
         & (SUMS <= b.sums)
         & room_in_all(width, m, outputs)
@@ -256,24 +256,26 @@ fn change(
     index: usize,
     x: f64,
     y: f64,
+    w: f64,
     settings: Settings,
     places: Places,
     xs: &mut [f64],
     ys: &mut [f64],
+    ws: &mut [f64],
     sums: &mut [f64],
 ) -> Done
     requires { ⌜ kind < 3 ⌝ }
-    ensures { λ r. ⌜ Changed (stateOf (book .count) (columnsOf (before xs) (before ys)) (before sums)) (callOf kind index x y settings places) r (columnsOf (after xs) (after ys)) (after sums) ⌝ }
+    ensures { λ r. ⌜ Changed (stateOf (book .count) (columnsOf (before xs) (before ys) (before ws)) (before sums)) (callOf kind index x y w settings places) r (columnsOf (after xs) (after ys) (after ws)) (after sums) ⌝ }
 {
     if kind == 0 {
-        let a = book::add(book, x, y, xs, ys, sums);
+        let a = book::add(book, x, y, w, xs, ys, ws, sums);
         return record_change(book, a);
     }
     if kind == 1 {
-        let a = book::correct(book, index, y, xs, ys, sums);
+        let a = book::correct(book, index, y, xs, ys, ws, sums);
         return record_change(book, a);
     }
-    let a = book::withdraw(book, index, xs, ys, sums);
+    let a = book::withdraw(book, index, xs, ys, ws, sums);
     record_change(book, a)
 }
 
@@ -285,6 +287,7 @@ fn report_at(
     at: usize,
     xs: &[f64],
     ys: &[f64],
+    ws: &[f64],
     sums: &[f64],
     scratch: &mut [f64],
     coefficients: &mut [f64],
@@ -295,7 +298,7 @@ fn report_at(
     outliers: &mut [u8],
 ) -> Done
     requires { ⌜ Windows at p (outputsNow scratch coefficients errors pruned lower upper outliers) ⌝ }
-    ensures { λ r. ⌜ Reported (book .count) at (reportOut (book .count) settings (columnsOf (before xs) (before ys)) (before sums) p) r (outputs scratch coefficients errors pruned lower upper outliers) ⌝ }
+    ensures { λ r. ⌜ Reported (book .count) at (reportOut (book .count) settings (columnsOf (before xs) (before ys) (before ws)) (before sums) p) r (outputs scratch coefficients errors pruned lower upper outliers) ⌝ }
 {
     let s = at + p.scratch;
     let c = at + p.coefficients;
@@ -309,6 +312,7 @@ fn report_at(
         settings,
         xs,
         ys,
+        ws,
         sums,
         &mut scratch[at..s],
         &mut coefficients[at..c],
@@ -331,6 +335,7 @@ fn turn(
     k: usize,
     xs: &mut [f64],
     ys: &mut [f64],
+    ws: &mut [f64],
     sums: &mut [f64],
     results: &mut [usize],
     scratch: &mut [f64],
@@ -342,7 +347,7 @@ fn turn(
     outliers: &mut [u8],
 ) -> Book
     requires { ⌜ Stands (now kinds) (now words) (now numbers) k × (5 * k + 5 ≤ length (now results)) × Windows (width * k) (placesAt (now words) k) (outputsNow scratch coefficients errors pruned lower upper outliers) ⌝ }
-    ensures { λ r. ⌜ TurnIs (callAt (before kinds) (before words) (before numbers) k) width k (book .count) (r .count) (memory xs ys sums results (outputs scratch coefficients errors pruned lower upper outliers)) ⌝ }
+    ensures { λ r. ⌜ TurnIs (callAt (before kinds) (before words) (before numbers) k) width k (book .count) (r .count) (memory xs ys ws sums results (outputs scratch coefficients errors pruned lower upper outliers)) ⌝ }
 {
     let settings = settings_at(kinds, words, numbers, k);
     let places = places_at(words, k);
@@ -351,10 +356,24 @@ fn turn(
     let end = from + 5;
     if kind < 3 {
         let index = words[9 * k];
-        let number = 4 * k;
+        let number = 5 * k;
         let x = numbers[number];
         let y = numbers[number + 1];
-        let d = change(book, kind, index, x, y, settings, places, xs, ys, sums);
+        let w = numbers[number + 2];
+        let d = change(
+            book,
+            kind,
+            index,
+            x,
+            y,
+            w,
+            settings,
+            places,
+            xs,
+            ys,
+            ws,
+            sums,
+        );
         put(d, &mut results[from..end]);
         return Book { count: d.count };
     }
@@ -365,6 +384,7 @@ fn turn(
         width * k,
         xs,
         ys,
+        ws,
         sums,
         scratch,
         coefficients,
@@ -386,6 +406,7 @@ fn run(
     width: usize,
     xs: &mut [f64],
     ys: &mut [f64],
+    ws: &mut [f64],
     sums: &mut [f64],
     results: &mut [usize],
     scratch: &mut [f64],
@@ -397,7 +418,7 @@ fn run(
     outliers: &mut [u8],
 ) -> Book
     requires { ⌜ wellFormed (now kinds) (now words) (now numbers) width (buffersOf (now sums) (now results) (outputsNow scratch coefficients errors pruned lower upper outliers)) ≡ true ⌝ }
-    ensures { λ r. ⌜ RunIs (callsOf (before kinds) (before words) (before numbers)) width (r .count) (memory xs ys sums results (outputs scratch coefficients errors pruned lower upper outliers)) ⌝ }
+    ensures { λ r. ⌜ RunIs (callsOf (before kinds) (before words) (before numbers)) width (r .count) (memory xs ys ws sums results (outputs scratch coefficients errors pruned lower upper outliers)) ⌝ }
 {
     let a = book::open(sums);
     let first = record_change(Book { count: 0 }, a);
@@ -414,6 +435,7 @@ fn run(
             k,
             xs,
             ys,
+            ws,
             sums,
             results,
             scratch,
@@ -438,6 +460,7 @@ pub fn replay(
     width: usize,
     xs: &mut [f64],
     ys: &mut [f64],
+    ws: &mut [f64],
     sums: &mut [f64],
     results: &mut [usize],
     scratch: &mut [f64],
@@ -448,7 +471,7 @@ pub fn replay(
     upper: &mut [f64],
     outliers: &mut [u8],
 ) -> Replayed
-    ensures { λ r. ⌜ ReplayIs (before kinds) (before words) (before numbers) width (memory xs ys sums results (outputs scratch coefficients errors pruned lower upper outliers)) r ⌝ }
+    ensures { λ r. ⌜ ReplayIs (before kinds) (before words) (before numbers) width (memory xs ys ws sums results (outputs scratch coefficients errors pruned lower upper outliers)) r ⌝ }
 {
     let places = Places {
         scratch: scratch.len(),
@@ -474,6 +497,7 @@ pub fn replay(
         width,
         xs,
         ys,
+        ws,
         sums,
         results,
         scratch,
