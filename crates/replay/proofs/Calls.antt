@@ -56,20 +56,20 @@ module _ (s : State) (c : Change) (r : Answer) (d : Done) (left : Columns) (t : 
       }
 
 -- by its kind
-module _ (kind i : ℕ) (x y : Float) (settings : Settings) (places : Places) (n : ℕ) (columns : Columns) (sums : List Float) where
+module _ (kind i : ℕ) (x y w : Float) (settings : Settings) (places : Places) (n : ℕ) (columns : Columns) (sums : List Float) where
   module _ (r : Answer) (d : Done) (left : Columns) (t : List Float) (e : d ≡ changeRecord n r) where
-    pub change-adds : kind ≡ 0 → Is (addOut n (record { x = x; y = y }) columns sums) r left t
-        → Changed (stateOf n columns sums) (callOf kind i x y settings places) d left t
+    pub change-adds : kind ≡ 0 → Is (addOut n (record { x = x; y = y; w = w }) columns sums) r left t
+        → Changed (stateOf n columns sums) (callOf kind i x y w settings places) d left t
     unfolding callOf outOf
-    change-adds q h = rw q (changed (stateOf n columns sums) (adds (record { x = x; y = y })) r d left t h e)
+    change-adds q h = rw q (changed (stateOf n columns sums) (adds (record { x = x; y = y; w = w })) r d left t h e)
 
     pub change-corrects : kind ≡ 1 → Is (correctOut n i y columns sums) r left t
-        → Changed (stateOf n columns sums) (callOf kind i x y settings places) d left t
+        → Changed (stateOf n columns sums) (callOf kind i x y w settings places) d left t
     unfolding callOf outOf
     change-corrects q h = rw q (changed (stateOf n columns sums) (corrects i y) r d left t h e)
 
     pub change-withdraws : kind < 3 → (kind ≡ 0 → ⊥) → (kind ≡ 1 → ⊥) → Is (withdrawOut n i columns sums) r left t
-        → Changed (stateOf n columns sums) (callOf kind i x y settings places) d left t
+        → Changed (stateOf n columns sums) (callOf kind i x y w settings places) d left t
     unfolding callOf outOf
     change-withdraws l q₀ q₁ h =
         let q : kind ≡ 2 = omega (arith, q₀, q₁) in
@@ -87,22 +87,22 @@ none-written at w = λ i. record {
   outliers = over-nothing at (w .outliers) i;
 }
 
-pub nothing-else : (kind i : ℕ) (x y : Float) (settings : Settings) (places : Places) → kind < 3 → (s : State) (at : ℕ) (w : Outputs)
-    → w ≡ overAllAt at (writtenOf (reply readOn s (callOf kind i x y settings places))) w
+pub nothing-else : (kind i : ℕ) (x y w : Float) (settings : Settings) (places : Places) → kind < 3 → (s : State) (at : ℕ) (o : Outputs)
+    → o ≡ overAllAt at (writtenOf (reply readOn s (callOf kind i x y w settings places))) o
 unfolding callOf reply writtenOf
-nothing-else zero i x y settings places h s at w = none-written at w
-nothing-else (suc zero) i x y settings places h s at w = none-written at w
-nothing-else (suc (suc zero)) i x y settings places h s at w = none-written at w
-nothing-else (suc (suc (suc k))) i x y settings places h s at w = absurd (omega arith)
+nothing-else zero i x y w settings places h s at o = none-written at o
+nothing-else (suc zero) i x y w settings places h s at o = none-written at o
+nothing-else (suc (suc zero)) i x y w settings places h s at o = none-written at o
+nothing-else (suc (suc (suc k))) i x y w settings places h s at o = absurd (omega arith)
 
 -- any other is a report
-pub is-report : (kind i : ℕ) (x y : Float) (settings : Settings) (places : Places) → 3 ≤ kind
-    → callOf kind i x y settings places ≡ reads (reports settings places)
+pub is-report : (kind i : ℕ) (x y w : Float) (settings : Settings) (places : Places) → 3 ≤ kind
+    → callOf kind i x y w settings places ≡ reads (reports settings places)
 unfolding callOf
-is-report zero i x y settings places h = absurd (omega arith)
-is-report (suc zero) i x y settings places h = absurd (omega arith)
-is-report (suc (suc zero)) i x y settings places h = absurd (omega arith)
-is-report (suc (suc (suc k))) i x y settings places h = refl
+is-report zero i x y w settings places h = absurd (omega arith)
+is-report (suc zero) i x y w settings places h = absurd (omega arith)
+is-report (suc (suc zero)) i x y w settings places h = absurd (omega arith)
+is-report (suc (suc (suc k))) i x y w settings places h = refl
 
 -- ---- a report into windows
 

@@ -46,7 +46,7 @@ held-all width m p h =
 
 record Roomy (m words numbers width : ℕ) (b : Buffers) : Type 0 where
   word : m ≤ words / 9
-  number : m ≤ numbers / 4
+  number : m ≤ numbers / 5
   results : m ≤ b .results / 5
   sums : 272 ≤ b .sums
   outputs : HeldAll width m (b .outputs)
@@ -57,7 +57,7 @@ roomy m words numbers width b h =
     let w = and-both _ (holdsAll width m (b .outputs)) h in
     let t = and-both _ (leb 272 (b .sums)) (w .0) in
     let r = and-both _ (leb m (b .results / 5)) (t .0) in
-    let n = and-both (leb m (words / 9)) (leb m (numbers / 4)) (r .0) in
+    let n = and-both (leb m (words / 9)) (leb m (numbers / 5)) (r .0) in
     record {
       word = leb-true _ _ (n .0);
       number = leb-true _ _ (n .1);
@@ -144,7 +144,7 @@ module _ (kinds words : List ℕ) (numbers : List Float) (width k : ℕ) (m : Me
         record {
           kind = record-room 5 (callCount kinds) k (length kinds) (omega arith) q;
           word = record-room 9 (callCount kinds) k (length words) (h .room .word) q;
-          number = record-room 4 (callCount kinds) k (length numbers) (h .room .number) q;
+          number = record-room 5 (callCount kinds) k (length numbers) (h .room .number) q;
         }
 
     pub results-room : 5 * k + 5 ≤ length (m .results)

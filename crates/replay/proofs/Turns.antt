@@ -52,7 +52,7 @@ module _ (kinds words : List ℕ) (numbers : List Float) (width k n : ℕ) (m : 
 
     pub turned-change : (left : Columns) (t : List Float) → getD kinds (5 * k) 0 < 3
         → Changed (stateOf n (m .columns) (m .sums))
-        (callOf (getD kinds (5 * k) 0) (getD words (9 * k) 0) (getD numbers (4 * k) nan) (getD numbers (4 * k + 1) nan) settings places) d left t
+        (callOf (getD kinds (5 * k) 0) (getD words (9 * k) 0) (getD numbers (5 * k) nan) (getD numbers (5 * k + 1) nan) (getD numbers (5 * k + 2) nan) settings places) d left t
         → Turned (callAt kinds words numbers k) width k n (d .count) m (record { columns = left; sums = t; results = back; outputs = m .outputs })
     unfolding callAt
     turned-change left t h c =
@@ -60,7 +60,7 @@ module _ (kinds words : List ℕ) (numbers : List Float) (width k n : ℕ) (m : 
         (record {
           state = c .state;
           results = back-is ∙ ap (λ v. overAt (5 * k) v (m .results)) (c .results);
-          outputs = nothing-else _ _ _ _ settings places h (stateOf n (m .columns) (m .sums)) (width * k) (m .outputs);
+          outputs = nothing-else _ _ _ _ _ settings places h (stateOf n (m .columns) (m .sums)) (width * k) (m .outputs);
         })
 
     pub turned-report : (w : Outputs) → 3 ≤ getD kinds (5 * k) 0
@@ -69,7 +69,7 @@ module _ (kinds words : List ℕ) (numbers : List Float) (width k n : ℕ) (m : 
     unfolding callAt next reply readOn resultsOf writtenOf
     turned-report w h r =
         let o = reportOut n settings (m .columns) (m .sums) places in
-        let q = is-report (getD kinds (5 * k) 0) (getD words (9 * k) 0) (getD numbers (4 * k) nan) (getD numbers (4 * k + 1) nan) settings places h in
+        let q = is-report (getD kinds (5 * k) 0) (getD words (9 * k) 0) (getD numbers (5 * k) nan) (getD numbers (5 * k + 1) nan) (getD numbers (5 * k + 2) nan) settings places h in
         let e = ap (λ (z : Done). z .count) (r .done) ∙ report-count n (o .answer) in
         rw (← is, ← ip, q)
         (record {

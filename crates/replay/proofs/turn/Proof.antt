@@ -42,13 +42,13 @@ mul-from : tie.Need-mul-from
 mul-from c =
     let at-pre = c .before .before .before .before .before .before .before .before .before .before .before .before .before .before .before .before .before .pre in
     let at-good = c .before .before .before .before .before .before .before .before .before .before .before .before .before .before .before .before .before .good in
-    omega (arith, at-pre .1, at-good .1 .1 .1 .1 .1 .1 .1 .1 .1 .0)
+    omega (arith, at-pre .1, at-good .1 .1 .1 .1 .1 .1 .1 .1 .1 .1 .0)
 
 add-end : tie.Need-add-end
 add-end c =
     let at-pre = c .before .before .before .before .before .before .before .before .before .before .before .before .before .before .before .before .before .pre in
     let at-good = c .before .before .before .before .before .before .before .before .before .before .before .before .before .before .before .before .before .good in
-    omega (arith, at-pre .1, at-good .1 .1 .1 .1 .1 .1 .1 .1 .1 .0)
+    omega (arith, at-pre .1, at-good .1 .1 .1 .1 .1 .1 .1 .1 .1 .1 .0)
 
 mul-index : tie.Need-mul-index
 mul-index c =
@@ -104,6 +104,24 @@ shared-slice-read-y c =
     let at-good = c .before .before .before .before .before .before .before .before .before .before .before .before .before .before .before .before .before .before .before .before .before .good in
     omega (arith, at-pre .0 .number, at-good .1 .1 .1 .0)
 
+add-w : tie.Need-add-w
+add-w c =
+    let at-pre = c .before .before .before .before .before .before .before .before .before .before .before .before .before .before .before .before .before .before .before .before .pre in
+    let at-good = c .before .before .before .before .before .before .before .before .before .before .before .before .before .before .before .before .before .before .before .before .good in
+    omega (arith, at-pre .0 .number, at-good .1 .1 .1 .0)
+
+mul-w : tie.Need-mul-w
+mul-w c =
+    let at-pre = c .before .before .before .before .before .before .before .before .before .before .before .before .before .before .before .before .before .before .before .before .pre in
+    let at-good = c .before .before .before .before .before .before .before .before .before .before .before .before .before .before .before .before .before .before .before .before .good in
+    omega (arith, at-pre .0 .number, at-good .1 .1 .1 .0)
+
+shared-slice-read-w : tie.Need-shared-slice-read-w
+shared-slice-read-w c =
+    let at-pre = c .before .before .before .before .before .before .before .before .before .before .before .before .before .before .before .before .before .before .before .before .before .pre in
+    let at-good = c .before .before .before .before .before .before .before .before .before .before .before .before .before .before .before .before .before .before .before .before .before .good in
+    omega (arith, at-pre .0 .number, at-good .1 .1 .1 .0)
+
 change-requires : tie.Need-change-requires
 change-requires c κs =
     let at-if1 = c .before .before .before .before .before .before .if1 in
@@ -113,13 +131,13 @@ mul-put : tie.Need-mul-put
 mul-put c =
     let at-pre = c .before .before .before .before .before .before .before .before .before .before .before .before .before .before .before .before .before .before .before .before .before .before .before .before .before .before .before .before .before .before .before .pre in
     let at-good = c .before .before .before .before .before .before .before .before .before .before .before .before .before .before .before .before .before .before .before .before .before .before .before .before .before .before .before .before .before .before .before .good in
-    omega (arith, at-pre .1, at-good .1 .1 .1 .1 .1 .1 .1 .1 .1 .0)
+    omega (arith, at-pre .1, at-good .1 .1 .1 .1 .1 .1 .1 .1 .1 .1 .0)
 
 part-put-end : tie.Need-part-put-end
 part-put-end c =
     let at-pre = c .before .before .before .before .before .before .before .before .before .before .before .before .before .before .before .before .before .before .before .before .before .before .before .before .before .before .before .before .before .before .before .pre in
     let at-good = c .before .before .before .before .before .before .before .before .before .before .before .before .before .before .before .before .before .before .before .before .before .before .before .before .before .before .before .before .before .before .before .good in
-    omega (arith, at-pre .1, at-good .1 .1 .1 .1 .1 .1 .1 .1 .1 .0)
+    omega (arith, at-pre .1, at-good .1 .1 .1 .1 .1 .1 .1 .1 .1 .1 .0)
 
 put-requires : tie.Need-put-requires
 put-requires c κs =
@@ -129,17 +147,22 @@ put-requires c κs =
 same-length : tie.Need-same-length
 same-length c =
     let at-change = c .before .before .before .before .before .before .before .before .before .before .change in
-    at-change .kept .1 .1 .1 .1 .1 .1 .1 .0
+    at-change .kept .1 .1 .1 .1 .1 .1 .1 .1 .0
 
 same-length-2 : tie.Need-same-length-2
 same-length-2 c =
     let at-change = c .before .before .before .before .before .before .before .before .before .before .change in
-    at-change .kept .1 .1 .1 .1 .1 .1 .1 .1 .0
+    at-change .kept .1 .1 .1 .1 .1 .1 .1 .1 .1 .0
 
 same-length-3 : tie.Need-same-length-3
 same-length-3 c =
     let at-change = c .before .before .before .before .before .before .before .before .before .before .change in
-    at-change .kept .1 .1 .1 .1 .1 .1 .1 .1 .1 .0
+    at-change .kept .1 .1 .1 .1 .1 .1 .1 .1 .1 .1 .0
+
+same-length-4 : tie.Need-same-length-4
+same-length-4 c =
+    let at-change = c .before .before .before .before .before .before .before .before .before .before .change in
+    at-change .kept .1 .1 .1 .1 .1 .1 .1 .1 .1 .1 .1 .0
 
 returns : tie.Need-returns
 returns c =
@@ -148,13 +171,13 @@ returns c =
     let at-places-at = c .before .before .before .before .before .before .before .before .before .before .before .before .before .before .before .before .before .before .before .places-at in
     let at-change = c .before .before .before .before .before .before .before .before .before .before .change in
     let at-if1 = c .before .before .before .before .before .before .before .before .before .before .before .before .before .before .before .before .before .if1 in
-    turned-change (at-args .kinds .now) (at-args .words .now) (at-args .numbers .now) (at-args .width) (at-args .k) (at-args .book .count) (record { columns = columnsOf (at-args .xs .now) (at-args .ys .now); sums = at-args .sums .now; results = at-args .results .now; outputs = (record { scratch = at-args .scratch .now; coefficients = at-args .coefficients .now; errors = at-args .errors .now; pruned = at-args .pruned .now; lower = at-args .lower .now; upper = at-args .upper .now; outliers = at-args .outliers .now }) }) _ _ (at-settings-at .ensures) (at-places-at .ensures) (at-change .result) _ (c .before .before .put .ensures) (c .before .before .put .kept .1 .0) _ _ (at-if1 .taken) (at-change .ensures)
+    turned-change (at-args .kinds .now) (at-args .words .now) (at-args .numbers .now) (at-args .width) (at-args .k) (at-args .book .count) (record { columns = columnsOf (at-args .xs .now) (at-args .ys .now) (at-args .ws .now); sums = at-args .sums .now; results = at-args .results .now; outputs = (record { scratch = at-args .scratch .now; coefficients = at-args .coefficients .now; errors = at-args .errors .now; pruned = at-args .pruned .now; lower = at-args .lower .now; upper = at-args .upper .now; outliers = at-args .outliers .now }) }) _ _ (at-settings-at .ensures) (at-places-at .ensures) (at-change .result) _ (c .before .before .put .ensures) (c .before .before .put .kept .1 .0) _ _ (at-if1 .taken) (at-change .ensures)
 
 mul-report-at : tie.Need-mul-report-at
 mul-report-at c =
     let at-pre = c .before .before .before .before .before .before .before .before .before .before .before .before .before .before .before .before .before .before .pre in
     let at-good = c .before .before .before .before .before .before .before .before .before .before .before .before .before .before .before .before .before .before .good in
-    omega (arith, at-pre .2 .scratch, at-good .1 .1 .1 .1 .1 .1 .1 .1 .1 .1 .0)
+    omega (arith, at-pre .2 .scratch, at-good .1 .1 .1 .1 .1 .1 .1 .1 .1 .1 .1 .0)
 
 report-at-requires : tie.Need-report-at-requires
 report-at-requires c κs =
@@ -167,21 +190,18 @@ mul-put-2 : tie.Need-mul-put-2
 mul-put-2 c =
     let at-pre = c .before .before .before .before .before .before .before .before .before .before .before .before .before .before .before .before .before .before .before .before .before .before .before .before .before .before .before .before .before .before .before .before .before .before .before .before .before .before .before .before .before .before .before .pre in
     let at-good = c .before .before .before .before .before .before .before .before .before .before .before .before .before .before .before .before .before .before .before .before .before .before .before .before .before .before .before .before .before .before .before .before .before .before .before .before .before .before .before .before .before .before .before .good in
-    omega (arith, at-pre .1, at-good .1 .1 .1 .1 .1 .1 .1 .1 .1 .0)
+    omega (arith, at-pre .1, at-good .1 .1 .1 .1 .1 .1 .1 .1 .1 .1 .0)
 
 part-put-end-2 : tie.Need-part-put-end-2
 part-put-end-2 c =
     let at-pre = c .before .before .before .before .before .before .before .before .before .before .before .before .before .before .before .before .before .before .before .before .before .before .before .before .before .before .before .before .before .before .before .before .before .before .before .before .before .before .before .before .before .before .before .pre in
     let at-good = c .before .before .before .before .before .before .before .before .before .before .before .before .before .before .before .before .before .before .before .before .before .before .before .before .before .before .before .before .before .before .before .before .before .before .before .before .before .before .before .before .before .before .before .good in
-    omega (arith, at-pre .1, at-good .1 .1 .1 .1 .1 .1 .1 .1 .1 .0)
+    omega (arith, at-pre .1, at-good .1 .1 .1 .1 .1 .1 .1 .1 .1 .1 .0)
 
 put-requires-2 : tie.Need-put-requires-2
 put-requires-2 c κs =
     let at-pre = c .before .before .before .before .before .before .before .before .before .before .before .before .before .before .before .before .before .before .before .before .before .before .before .before .before .before .before .before .before .before .before .before .before .before .before .before .before .before .before .before .before .before .before .before .pre in
     simp (length-take, length-drop) (omega (arith, at-pre .1))
-
-same-length-5 : tie.Need-same-length-5
-same-length-5 c = refl
 
 same-length-6 : tie.Need-same-length-6
 same-length-6 c = refl
@@ -189,40 +209,46 @@ same-length-6 c = refl
 same-length-7 : tie.Need-same-length-7
 same-length-7 c = refl
 
-same-length-9 : tie.Need-same-length-9
-same-length-9 c =
-    let at-report-at = c .before .before .before .before .before .before .before .before .before .before .before .before .before .before .before .before .before .before .report-at in
-    at-report-at .kept .1 .1 .1 .1 .1 .1 .1 .0
+same-length-8 : tie.Need-same-length-8
+same-length-8 c = refl
 
-same-length-10 : tie.Need-same-length-10
-same-length-10 c =
-    let at-report-at = c .before .before .before .before .before .before .before .before .before .before .before .before .before .before .before .before .before .before .report-at in
-    at-report-at .kept .1 .1 .1 .1 .1 .1 .1 .1 .0
+same-length-9 : tie.Need-same-length-9
+same-length-9 c = refl
 
 same-length-11 : tie.Need-same-length-11
 same-length-11 c =
     let at-report-at = c .before .before .before .before .before .before .before .before .before .before .before .before .before .before .before .before .before .before .report-at in
-    at-report-at .kept .1 .1 .1 .1 .1 .1 .1 .1 .1 .0
+    at-report-at .kept .1 .1 .1 .1 .1 .1 .1 .1 .0
 
 same-length-12 : tie.Need-same-length-12
 same-length-12 c =
     let at-report-at = c .before .before .before .before .before .before .before .before .before .before .before .before .before .before .before .before .before .before .report-at in
-    at-report-at .kept .1 .1 .1 .1 .1 .1 .1 .1 .1 .1 .0
+    at-report-at .kept .1 .1 .1 .1 .1 .1 .1 .1 .1 .0
 
 same-length-13 : tie.Need-same-length-13
 same-length-13 c =
     let at-report-at = c .before .before .before .before .before .before .before .before .before .before .before .before .before .before .before .before .before .before .report-at in
-    at-report-at .kept .1 .1 .1 .1 .1 .1 .1 .1 .1 .1 .1 .0
+    at-report-at .kept .1 .1 .1 .1 .1 .1 .1 .1 .1 .1 .0
 
 same-length-14 : tie.Need-same-length-14
 same-length-14 c =
     let at-report-at = c .before .before .before .before .before .before .before .before .before .before .before .before .before .before .before .before .before .before .report-at in
-    at-report-at .kept .1 .1 .1 .1 .1 .1 .1 .1 .1 .1 .1 .1 .0
+    at-report-at .kept .1 .1 .1 .1 .1 .1 .1 .1 .1 .1 .1 .0
 
 same-length-15 : tie.Need-same-length-15
 same-length-15 c =
     let at-report-at = c .before .before .before .before .before .before .before .before .before .before .before .before .before .before .before .before .before .before .report-at in
+    at-report-at .kept .1 .1 .1 .1 .1 .1 .1 .1 .1 .1 .1 .1 .0
+
+same-length-16 : tie.Need-same-length-16
+same-length-16 c =
+    let at-report-at = c .before .before .before .before .before .before .before .before .before .before .before .before .before .before .before .before .before .before .report-at in
     at-report-at .kept .1 .1 .1 .1 .1 .1 .1 .1 .1 .1 .1 .1 .1 .0
+
+same-length-17 : tie.Need-same-length-17
+same-length-17 c =
+    let at-report-at = c .before .before .before .before .before .before .before .before .before .before .before .before .before .before .before .before .before .before .report-at in
+    at-report-at .kept .1 .1 .1 .1 .1 .1 .1 .1 .1 .1 .1 .1 .1 .1 .0
 
 returns-2 : tie.Need-returns-2
 returns-2 c =
@@ -231,7 +257,7 @@ returns-2 c =
     let at-places-at = c .before .before .before .before .before .before .before .before .before .before .before .before .before .before .before .before .before .before .before .before .before .before .before .before .before .before .before .before .before .before .before .places-at in
     let at-report-at = c .before .before .before .before .before .before .before .before .before .before .before .before .before .before .before .before .before .before .report-at in
     let at-if1 = c .before .before .before .before .before .before .before .before .before .before .before .before .before .before .before .before .before .before .before .before .before .before .before .before .before .before .before .before .before .if1 in
-    turned-report (at-args .kinds .now) (at-args .words .now) (at-args .numbers .now) (at-args .width) (at-args .k) (at-args .book .count) (record { columns = columnsOf (at-args .xs .now) (at-args .ys .now); sums = at-args .sums .now; results = at-args .results .now; outputs = (record { scratch = at-args .scratch .now; coefficients = at-args .coefficients .now; errors = at-args .errors .now; pruned = at-args .pruned .now; lower = at-args .lower .now; upper = at-args .upper .now; outliers = at-args .outliers .now }) }) _ _ (at-settings-at .ensures) (at-places-at .ensures) (at-report-at .result) _ (c .before .before .put2 .ensures) (c .before .before .put2 .kept .1 .0) _ (at-if1 .left) (at-report-at .ensures)
+    turned-report (at-args .kinds .now) (at-args .words .now) (at-args .numbers .now) (at-args .width) (at-args .k) (at-args .book .count) (record { columns = columnsOf (at-args .xs .now) (at-args .ys .now) (at-args .ws .now); sums = at-args .sums .now; results = at-args .results .now; outputs = (record { scratch = at-args .scratch .now; coefficients = at-args .coefficients .now; errors = at-args .errors .now; pruned = at-args .pruned .now; lower = at-args .lower .now; upper = at-args .upper .now; outliers = at-args .outliers .now }) }) _ _ (at-settings-at .ensures) (at-places-at .ensures) (at-report-at .result) _ (c .before .before .put2 .ensures) (c .before .before .put2 .kept .1 .0) _ (at-if1 .left) (at-report-at .ensures)
 
 pub turn-spec : {M : Type 1} → statement M
 turn-spec =
