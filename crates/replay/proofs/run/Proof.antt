@@ -25,11 +25,11 @@ loop-holds c = none _ _ _ _ _ _
 
 turn-requires : tie.Need-turn-requires Inv-loop μ-loop
 turn-requires c κs =
-    let at-loop = c .before .before .before .before .before .before .before .before .before .before .before .before .loop in
-    let at-args = c .before .before .before .before .before .before .before .before .before .before .before .before .before .before .before .before .before .before .before .before .before .before .before .before .before .before .before .before .before .before .before .before .args in
-    let at-open = c .before .before .before .before .before .before .before .before .before .before .before .before .before .before .before .before .«open» in
-    let at-pre = c .before .before .before .before .before .before .before .before .before .before .before .before .before .before .before .before .before .before .before .before .before .before .before .before .before .before .before .before .before .before .before .before .pre in
-    let at-loop-test = c .before .before .before .before .before .before .before .before .before .before .before .loop-test in
+    let at-loop = c .before .before .before .before .before .before .before .before .before .before .before .before .before .loop in
+    let at-args = c .before .before .before .before .before .before .before .before .before .before .before .before .before .before .before .before .before .before .before .before .before .before .before .before .before .before .before .before .before .before .before .before .before .before .args in
+    let at-open = c .before .before .before .before .before .before .before .before .before .before .before .before .before .before .before .before .before .«open» in
+    let at-pre = c .before .before .before .before .before .before .before .before .before .before .before .before .before .before .before .before .before .before .before .before .before .before .before .before .before .before .before .before .before .before .before .before .before .before .pre in
+    let at-loop-test = c .before .before .before .before .before .before .before .before .before .before .before .before .loop-test in
     let m : Memory = (record { columns = columnsOf (at-loop .xs) (at-loop .ys) (at-loop .ws); sums = at-loop .sums; results = at-loop .results; outputs = (record { scratch = at-loop .scratch; coefficients = at-loop .coefficients; errors = at-loop .errors; pruned = at-loop .pruned; lower = at-loop .lower; upper = at-loop .upper; outliers = at-loop .outliers }) }) in
     let h = still-formed (at-args .kinds .now) (at-args .words .now) (at-args .numbers .now) (at-args .width) (record { columns = columnsOf (at-args .xs .now) (at-args .ys .now) (at-args .ws .now); sums = at-args .sums .now; results = at-args .results .now; outputs = (record { scratch = at-args .scratch .now; coefficients = at-args .coefficients .now; errors = at-args .errors .now; pruned = at-args .pruned .now; lower = at-args .lower .now; upper = at-args .upper .now; outliers = at-args .outliers .now }) }) _ m (at-open .kept .0) (at-loop .inv .same) (at-pre) in
     let q : at-loop .k < callCount (at-args .kinds .now) = omega (arith, at-loop-test .taken) in
@@ -37,21 +37,21 @@ turn-requires c κs =
 
 add-k : tie.Need-add-k Inv-loop μ-loop
 add-k c =
-    let at-loop-test = c .before .before .before .before .before .before .before .before .before .before .before .before .before .before .before .before .before .before .before .before .before .before .before .before .before .before .before .before .before .before .before .before .before .before .loop-test in
-    let at-good = c .before .before .before .before .before .before .before .before .before .before .before .before .before .before .before .before .before .before .before .before .before .before .before .before .before .before .before .before .before .before .before .before .before .before .before .before .before .before .before .before .before .before .before .before .before .before .before .before .before .before .before .before .before .before .before .good in
+    let at-loop-test = c .before .before .before .before .before .before .before .before .before .before .before .before .before .before .before .before .before .before .before .before .before .before .before .before .before .before .before .before .before .before .before .before .before .before .before .before .before .loop-test in
+    let at-good = c .before .before .before .before .before .before .before .before .before .before .before .before .before .before .before .before .before .before .before .before .before .before .before .before .before .before .before .before .before .before .before .before .before .before .before .before .before .before .before .before .before .before .before .before .before .before .before .before .before .before .before .before .before .before .before .before .before .before .before .good in
     omega (arith, at-loop-test .taken, at-good .0)
 
 loop-less : tie.Need-loop-less Inv-loop μ-loop
 loop-less c =
-    let at-loop-test = c .before .before .before .before .before .before .before .before .before .before .before .before .before .before .before .before .before .before .before .before .before .before .before .before .before .before .before .before .before .before .before .before .before .before .loop-test in
+    let at-loop-test = c .before .before .before .before .before .before .before .before .before .before .before .before .before .before .before .before .before .before .before .before .before .before .before .before .before .before .before .before .before .before .before .before .before .before .before .before .before .loop-test in
     omega (arith, at-loop-test .taken)
 
 loop-again : tie.Need-loop-again Inv-loop μ-loop
 loop-again c =
-    let at-loop = c .before .before .before .before .before .before .before .before .before .before .before .before .before .before .before .before .before .before .before .before .before .before .before .before .before .before .before .before .before .before .before .before .before .before .before .loop in
-    let at-args = c .before .before .before .before .before .before .before .before .before .before .before .before .before .before .before .before .before .before .before .before .before .before .before .before .before .before .before .before .before .before .before .before .before .before .before .before .before .before .before .before .before .before .before .before .before .before .before .before .before .before .before .before .before .before .before .args in
-    let at-loop-test = c .before .before .before .before .before .before .before .before .before .before .before .before .before .before .before .before .before .before .before .before .before .before .before .before .before .before .before .before .before .before .before .before .before .before .loop-test in
-    let at-turn = c .before .before .before .before .before .before .before .before .before .before .before .before .before .before .before .before .before .before .before .before .before .before .turn in
+    let at-loop = c .before .before .before .before .before .before .before .before .before .before .before .before .before .before .before .before .before .before .before .before .before .before .before .before .before .before .before .before .before .before .before .before .before .before .before .before .before .before .loop in
+    let at-args = c .before .before .before .before .before .before .before .before .before .before .before .before .before .before .before .before .before .before .before .before .before .before .before .before .before .before .before .before .before .before .before .before .before .before .before .before .before .before .before .before .before .before .before .before .before .before .before .before .before .before .before .before .before .before .before .before .before .before .before .args in
+    let at-loop-test = c .before .before .before .before .before .before .before .before .before .before .before .before .before .before .before .before .before .before .before .before .before .before .before .before .before .before .before .before .before .before .before .before .before .before .before .before .before .loop-test in
+    let at-turn = c .before .before .before .before .before .before .before .before .before .before .before .before .before .before .before .before .before .before .before .before .before .before .before .before .turn in
     let q : at-loop .k < callCount (at-args .kinds .now) = omega (arith, at-loop-test .taken) in
     more (at-args .kinds .now) (at-args .words .now) (at-args .numbers .now) (at-args .width) _ _ (at-loop .count) (record { columns = columnsOf (at-loop .xs) (at-loop .ys) (at-loop .ws); sums = at-loop .sums; results = at-loop .results; outputs = (record { scratch = at-loop .scratch; coefficients = at-loop .coefficients; errors = at-loop .errors; pruned = at-loop .pruned; lower = at-loop .lower; upper = at-loop .upper; outliers = at-loop .outliers }) }) (at-loop .k) (at-loop .inv) q _ _ (at-turn .ensures) (record { columns = elim [ ofX ↦ at-turn .kept .1 .1 .1 .1 .1 .1 .0 | ofY ↦ at-turn .kept .1 .1 .1 .1 .1 .1 .1 .0 | ofW ↦ at-turn .kept .1 .1 .1 .1 .1 .1 .1 .1 .0 ]; sums = at-turn .kept .1 .1 .1 .1 .1 .1 .1 .1 .1 .0; results = at-turn .kept .1 .1 .1 .1 .1 .1 .1 .1 .1 .1 .0; outputs = λ i. record { scratch = at-turn .kept .1 .1 .1 .1 .1 .1 .1 .1 .1 .1 .1 .0 i; coefficients = at-turn .kept .1 .1 .1 .1 .1 .1 .1 .1 .1 .1 .1 .1 .0 i; errors = at-turn .kept .1 .1 .1 .1 .1 .1 .1 .1 .1 .1 .1 .1 .1 .0 i; pruned = at-turn .kept .1 .1 .1 .1 .1 .1 .1 .1 .1 .1 .1 .1 .1 .1 .0 i; lower = at-turn .kept .1 .1 .1 .1 .1 .1 .1 .1 .1 .1 .1 .1 .1 .1 .1 .0 i; upper = at-turn .kept .1 .1 .1 .1 .1 .1 .1 .1 .1 .1 .1 .1 .1 .1 .1 .1 .0 i; outliers = at-turn .kept .1 .1 .1 .1 .1 .1 .1 .1 .1 .1 .1 .1 .1 .1 .1 .1 .1 .0 i } })
 
@@ -95,9 +95,9 @@ same-length-12 c = ap (λ (p : Places). p .outliers) (c .before .loop .inv .same
 
 returns : tie.Need-returns Inv-loop μ-loop
 returns c =
-    let at-args = c .before .before .before .before .before .before .before .before .before .before .before .before .before .before .before .before .before .before .before .before .before .args in
+    let at-args = c .before .before .before .before .before .before .before .before .before .before .before .before .before .before .before .before .before .before .before .before .before .before .args in
     let at-open = c .before .before .before .before .before .«open» in
-    let at-pre = c .before .before .before .before .before .before .before .before .before .before .before .before .before .before .before .before .before .before .before .before .before .pre in
+    let at-pre = c .before .before .before .before .before .before .before .before .before .before .before .before .before .before .before .before .before .before .before .before .before .before .pre in
     let m : Memory = (record { columns = columnsOf (at-args .xs .now) (at-args .ys .now) (at-args .ws .now); sums = at-args .sums .now; results = at-args .results .now; outputs = (record { scratch = at-args .scratch .now; coefficients = at-args .coefficients .now; errors = at-args .errors .now; pruned = at-args .pruned .now; lower = at-args .lower .now; upper = at-args .upper .now; outliers = at-args .outliers .now }) }) in
     all (at-args .kinds .now) (at-args .words .now) (at-args .numbers .now) (at-args .width) m (at-open .result) _ (at-open .ensures) _ (ap (λ z. z .count) (c .before .before .record-change .ensures)) _ (record { columns = columnsOf (c .before .loop .xs) (c .before .loop .ys) (c .before .loop .ws); sums = c .before .loop .sums; results = c .before .loop .results; outputs = (record { scratch = c .before .loop .scratch; coefficients = c .before .loop .coefficients; errors = c .before .loop .errors; pruned = c .before .loop .pruned; lower = c .before .loop .lower; upper = c .before .loop .upper; outliers = c .before .loop .outliers }) }) (c .before .loop .k) (c .before .loop .inv) (omega (arith, c .before .loop .inv .upto, c .loop-test .left)) (sums-room (at-args .kinds .now) (at-args .words .now) (at-args .numbers .now) (at-args .width) (buffersIn m) (at-pre))
 
@@ -125,4 +125,5 @@ run-spec =
     same-length-9
     same-length-10
     same-length-11
+    same-length-12
     returns)
