@@ -352,7 +352,7 @@ mod tests {
     use super::*;
 
     fn samples_of(pairs: &[(f64, f64)]) -> Vec<Sample> {
-        pairs.iter().map(|&(x, y)| Sample { x, y }).collect()
+        pairs.iter().map(|&(x, y)| Sample::unweighted(x, y)).collect()
     }
 
     const T11_SETTINGS: Settings = Settings {
@@ -393,6 +393,20 @@ mod tests {
     fn ten_samples_in_three_folds() {
         assert_eq!(fold_ranges(10, 3), vec![0..3, 3..6, 6..10]);
         assert_eq!(fold_ranges(4, 4), vec![0..1, 1..2, 2..3, 3..4]);
+    }
+
+    /// Degree 0 over each half: the other half's weighted mean, and scores that see no weight.
+    #[test]
+    fn folds_are_weighted() {
+        let y_and_weight = [(0.0, 1.0), (3.0, 2.0), (2.0, 1.0), (2.0, 4.0), (3.0, 4.0), (7.0, 1.0)];
+        let samples = y_and_weight.map(|(y, weight)| Sample { x: 0.0, y, weight });
+        let scores = validation_scores(&samples, 2, 0, Criterion::Aic);
+        // By 8 / 4 and by 27 / 9.
+        let second = score(Criterion::Aic, &[0.0, 1.0, 5.0], 1);
+        let first = score(Criterion::Aic, &[-3.0, 0.0, -1.0], 1);
+        assert_eq!(scores, [Some((first + second) / 2.0)]);
+        let unweighted = samples.map(|sample| Sample { weight: 1.0, ..sample });
+        assert_ne!(scores, validation_scores(&unweighted, 2, 0, Criterion::Aic));
     }
 
     #[test]

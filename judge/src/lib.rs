@@ -24,11 +24,19 @@ pub mod solve;
 pub mod statistics;
 pub mod sums;
 
-/// A sample: finite x and y.
+/// A sample: finite x and y, and a weight (document 02, E5).
 #[derive(Debug, Clone, Copy, PartialEq)]
 pub struct Sample {
     pub x: f64,
     pub y: f64,
+    pub weight: f64,
+}
+
+impl Sample {
+    /// Of weight 1, which version 1 of a frame, a written line and document 01's cases mean.
+    pub const fn unweighted(x: f64, y: f64) -> Self {
+        Self { x, y, weight: 1.0 }
+    }
 }
 
 /// k is degree + 1; a degree is never taken for a coefficient count.

@@ -84,13 +84,13 @@ mod tests {
 
     #[test]
     fn t10_line_through_three() {
-        let samples = [(0.0, 1.0), (1.0, 3.0), (2.0, 5.0)].map(|(x, y)| Sample { x, y });
+        let samples = [(0.0, 1.0), (1.0, 3.0), (2.0, 5.0)].map(|(x, y)| Sample::unweighted(x, y));
         assert_eq!(solve(&folded_afresh(&samples), 2), Some(vec![1.0, 2.0]));
     }
 
     #[test]
     fn equal_x_has_no_line() {
-        let samples = [(2.0, 1.0), (2.0, 5.0)].map(|(x, y)| Sample { x, y });
+        let samples = [(2.0, 1.0), (2.0, 5.0)].map(|(x, y)| Sample::unweighted(x, y));
         assert_eq!(solve(&folded_afresh(&samples), 2), None);
         assert_eq!(solve(&folded_afresh(&samples), 1), Some(vec![3.0]));
     }

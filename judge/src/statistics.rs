@@ -125,7 +125,7 @@ pub fn with_t(df: usize, t: f64) -> Vec<Sample> {
         _ if i % 2 == 0 => 1.0,
         _ => -1.0,
     };
-    (0..n).map(|i| Sample { x: i as f64, y: t * error + turn(i) }).collect()
+    (0..n).map(|i| Sample::unweighted(i as f64, t * error + turn(i))).collect()
 }
 
 /// The largest whole r with r to the given power at most n.

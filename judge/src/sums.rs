@@ -1,4 +1,5 @@
-//! Document 01, "Book, columns, sums": the 272 sums, and the fitted value.
+//! Document 01, "Book, columns, sums": the 272 sums, each product with the weight of its sample
+//! (document 02, E5); and the fitted value, which sees no weight.
 
 use crate::numbers::power;
 use crate::Sample;
@@ -21,27 +22,27 @@ pub fn powers(x: f64) -> [f64; TERMS] {
     row
 }
 
-/// Adds xⁱ × xʲ to each A[i][j].
-fn add_to_a(sums: &mut [f64], x: f64) {
-    let row = powers(x);
+/// Adds (xⁱ × xʲ) × w to each A[i][j].
+fn add_to_a(sums: &mut [f64], sample: Sample) {
+    let row = powers(sample.x);
     for i in 0..TERMS {
         for j in 0..TERMS {
-            sums[TERMS * i + j] += row[i] * row[j];
+            sums[TERMS * i + j] += (row[i] * row[j]) * sample.weight;
         }
     }
 }
 
-/// Adds xⁱ × y to each g[i].
+/// Adds (xⁱ × y) × w to each g[i].
 fn add_to_g(sums: &mut [f64], sample: Sample) {
     let row = powers(sample.x);
     for i in 0..TERMS {
-        sums[G + i] += row[i] * sample.y;
+        sums[G + i] += (row[i] * sample.y) * sample.weight;
     }
 }
 
 /// An add adds its products to what stands there.
 pub fn add(sums: &mut [f64], sample: Sample) {
-    add_to_a(sums, sample.x);
+    add_to_a(sums, sample);
     add_to_g(sums, sample);
 }
 

@@ -3,7 +3,7 @@
 
 use judge::book::{self, Memory, ReportAnswer, ReportMemory};
 use judge::fit::{Band, Criterion, PruningRule, Settings};
-use judge::frame::encode;
+use judge::frame::{encode, encode_weighted};
 use judge::numbers::bits;
 use judge::statistics::{Confidence, DegreeBound, Tolerance};
 use judge::sums::{folded_afresh, PLACES, TERMS};
@@ -23,11 +23,24 @@ const AIC_1: Settings = Settings {
     pruning: PruningRule::Positive,
 };
 
+/// The columns and the sums of a book.
+macro_rules! memory {
+    ($book:ident) => {
+        Memory {
+            x: &mut $book.x,
+            y: &mut $book.y,
+            weight: &mut $book.weight,
+            sums: &mut $book.sums,
+        }
+    };
+}
+
 /// A book with memory of its own.
 struct Book {
     count: usize,
     x: Vec<f64>,
     y: Vec<f64>,
+    weight: Vec<f64>,
     sums: Vec<f64>,
     scratch: Vec<f64>,
     coefficients: Vec<f64>,
@@ -45,6 +58,7 @@ impl Book {
             count: 0,
             x: vec![MARK; capacity],
             y: vec![MARK; capacity],
+            weight: vec![MARK; capacity],
             sums: vec![MARK; PLACES + 1],
             scratch: vec![MARK; capacity + 1],
             coefficients: vec![MARK; TERMS + 1],
@@ -62,7 +76,7 @@ impl Book {
     }
 
     fn memory(&mut self) -> Memory<'_> {
-        Memory { x: &mut self.x, y: &mut self.y, sums: &mut self.sums }
+        memory!(self)
     }
 
     /// The answer; a new count is kept.
@@ -72,8 +86,12 @@ impl Book {
     }
 
     fn add(&mut self, x: f64, y: f64) -> Result<usize, u8> {
+        self.add_weighted(Sample::unweighted(x, y))
+    }
+
+    fn add_weighted(&mut self, sample: Sample) -> Result<usize, u8> {
         let count = self.count;
-        let answer = book::add(count, &mut self.memory(), x, y);
+        let answer = book::add(count, &mut self.memory(), sample);
         self.keep(answer)
     }
 
@@ -101,12 +119,12 @@ impl Book {
     }
 
     fn fit(&mut self, degree: usize) -> Result<usize, u8> {
-        let memory = Memory { x: &mut self.x, y: &mut self.y, sums: &mut self.sums };
+        let memory = memory!(self);
         book::fit(self.count, &memory, degree, &mut self.scratch, &mut self.coefficients)
     }
 
     fn report(&mut self, settings: Settings) -> Result<ReportAnswer, u8> {
-        let memory = Memory { x: &mut self.x, y: &mut self.y, sums: &mut self.sums };
+        let memory = memory!(self);
         let mut out = ReportMemory {
             coefficients: &mut self.coefficients,
             errors: &mut self.errors,
@@ -119,20 +137,20 @@ impl Book {
     }
 
     fn validate(&mut self, folds: usize, bound: usize) -> Result<usize, u8> {
-        let memory = Memory { x: &mut self.x, y: &mut self.y, sums: &mut self.sums };
+        let memory = memory!(self);
         let by = (DegreeBound::Custom(bound), Criterion::Aic);
         let (scratch, coefficients) = (&mut self.scratch, &mut self.coefficients);
         book::validate(self.count, &memory, folds, by, scratch, coefficients)
     }
 
     fn band(&mut self, x: f64, degree: usize) -> Result<Band, u8> {
-        let memory = Memory { x: &mut self.x, y: &mut self.y, sums: &mut self.sums };
+        let memory = memory!(self);
         let (confidence, tolerance) = (Confidence::P95, Tolerance::None);
         book::band(self.count, &memory, (x, degree), confidence, tolerance, &mut self.scratch)
     }
 
     fn is_folded(&self, samples: &[(f64, f64)]) -> bool {
-        let samples: Vec<Sample> = samples.iter().map(|&(x, y)| Sample { x, y }).collect();
+        let samples: Vec<Sample> = samples.iter().map(|&(x, y)| Sample::unweighted(x, y)).collect();
         self.sums[..PLACES] == folded_afresh(&samples) && self.sums[PLACES] == MARK
     }
 }
@@ -192,15 +210,15 @@ fn withdraw_moves_down_and_folds() {
 
 #[test]
 fn frame_is_that_many_adds() {
-    let samples = LINE.map(|(x, y)| Sample { x, y });
+    let samples = LINE.map(|(x, y)| Sample::unweighted(x, y));
     let mut book = Book::new(3, &[]);
     assert_eq!(book.add_frame(&encode(&[])), Ok(0));
     assert_eq!(book.add_frame(&encode(&samples)), Ok(3));
     assert!(book.is_folded(&LINE));
     assert_eq!(book.add_frame(&encode(&samples)), Err(5));
-    assert_eq!(book.add_frame(&encode(&[Sample { x: NAN, y: 0.0 }])), Err(4));
-    let mut wrong = encode(&[Sample { x: NAN, y: 0.0 }]);
-    wrong[2] = 2;
+    assert_eq!(book.add_frame(&encode(&[Sample::unweighted(NAN, 0.0)])), Err(4));
+    let mut wrong = encode(&[Sample::unweighted(NAN, 0.0)]);
+    wrong[2] = 3;
     assert_eq!(book.add_frame(&wrong), Err(3));
     wrong.push(0);
     assert_eq!(book.add_frame(&wrong), Err(2));
@@ -280,10 +298,10 @@ fn many_lines() {
 
 #[test]
 fn reader_hands_out_and_ends() {
-    let bytes = encode(&[Sample { x: 1.0, y: NAN }]);
+    let bytes = encode(&[Sample::unweighted(1.0, NAN)]);
     let mut reader = book::reader(&bytes).unwrap();
     let sample = reader.next_sample().unwrap();
-    assert!(sample.x == 1.0 && sample.y.is_nan());
+    assert!(sample.x == 1.0 && sample.y.is_nan() && sample.weight == 1.0);
     assert_eq!(reader.next_sample(), None);
     assert_eq!(book::reader(&bytes[1..]).err(), Some(2));
     assert_eq!(book::reader(&[0, 1, 0]).err(), Some(3));
@@ -514,11 +532,186 @@ fn count_above_4096() {
     let mut book = Book::new(4100, &[]);
     book.count = 4096;
     assert_eq!(book.add(0.0, 0.0), Err(5));
-    assert_eq!(book.add_frame(&encode(&[Sample { x: 0.0, y: 0.0 }])), Err(5));
+    assert_eq!(book.add_frame(&encode(&[Sample::unweighted(0.0, 0.0)])), Err(5));
     book.sums[0] = 4096.0;
     assert_eq!(book.fit(0), Ok(0));
     book.count = 4097;
     assert_eq!(book.add(0.0, 0.0), Err(1));
     assert_eq!(book.fit(0), Err(1));
     assert_eq!(book.withdraw(4096), Err(1));
+}
+
+/// A sample of the given weight.
+fn weighing(x: f64, y: f64, weight: f64) -> Sample {
+    Sample { x, y, weight }
+}
+
+/// All powers of 1 are 1: A is the sum of the weights, g that of the weighted y's.
+#[test]
+fn sums_of_weighted_samples() {
+    let mut book = Book::new(3, &[]);
+    assert_eq!(book.add_weighted(weighing(1.0, 2.0, 3.0)), Ok(1));
+    assert_eq!(book.sums[..256], [3.0; 256]);
+    assert_eq!(book.sums[256..], [[6.0; 16].as_slice(), &[MARK]].concat());
+    assert_eq!(book.add_weighted(weighing(1.0, 2.0, 3.0)), Ok(2));
+    assert_eq!(book.sums[..256], [6.0; 256]);
+    assert_eq!(book.add_weighted(weighing(2.0, 3.0, 0.5)), Ok(3));
+    assert_eq!((book.sums[0], book.sums[1], book.sums[17]), (6.5, 7.0, 8.0));
+    assert_eq!((book.sums[255], book.sums[256], book.sums[257]), (536870918.0, 13.5, 15.0));
+    assert_eq!(book.weight, [3.0, 3.0, 0.5]);
+}
+
+/// First the two factors, whose product is 0 here, then the weight.
+#[test]
+fn grouping_of_a_product() {
+    let mut book = Book::new(1, &[]);
+    assert_eq!(book.add_weighted(weighing(1e-200, 1e-200, 1e300)), Ok(1));
+    assert_eq!((book.sums[0], book.sums[1], book.sums[17]), (1e300, 1e-200 * 1e300, 0.0));
+    assert_eq!((book.sums[256], book.sums[257]), (1e-200 * 1e300, 0.0));
+}
+
+/// 4 where a weight is not finite, 15 where it is not above zero, in this order and before 5.
+#[test]
+fn weights_are_refused_in_order() {
+    let mut book = Book::new(1, &[]);
+    let weights = [
+        (0.0, 15),
+        (-0.0, 15),
+        (-5e-324, 15),
+        (-1.0, 15),
+        (-f64::MAX, 15),
+        (NAN, 4),
+        (INFINITY, 4),
+        (-INFINITY, 4),
+    ];
+    for full in [false, true] {
+        for (weight, number) in weights {
+            let sample = weighing(1.0, 2.0, weight);
+            assert_eq!(book.add_weighted(sample), Err(number));
+            assert_eq!(book.add_frame(&encode_weighted(&[sample])), Err(number));
+            assert_eq!(book.add_weighted(weighing(NAN, 2.0, weight)), Err(4));
+            assert_eq!(book.add_weighted(weighing(1.0, INFINITY, weight)), Err(4));
+        }
+        assert_eq!(book.count, usize::from(full));
+        // The least weight of all passes.
+        let least = weighing(1.0, 2.0, 5e-324);
+        assert_eq!(book.add_weighted(least), if full { Err(5) } else { Ok(1) });
+    }
+    assert_eq!((book.weight[0], book.sums[0]), (5e-324, 5e-324));
+    book.sums.truncate(PLACES - 1);
+    assert_eq!(book.add_weighted(weighing(NAN, 2.0, 0.0)), Err(1));
+}
+
+/// All samples of a frame by 4, then all by 15; 5 comes later, and 2 and 3 come first.
+#[test]
+fn frames_with_weights() {
+    let [right, heavy] = [weighing(1.0, 2.0, 3.0), weighing(2.0, 3.0, 0.5)];
+    let [zero, bad] = [weighing(1.0, 2.0, 0.0), weighing(NAN, 2.0, 3.0)];
+    let mut book = Book::new(2, &[]);
+    assert_eq!(book.add_frame(&encode_weighted(&[])), Ok(0));
+    assert_eq!(book.add_frame(&encode_weighted(&[zero, bad])), Err(4));
+    assert_eq!(book.add_frame(&encode_weighted(&[bad, zero])), Err(4));
+    assert_eq!(book.add_frame(&encode_weighted(&[right, right, zero])), Err(15));
+    assert_eq!(book.add_frame(&encode_weighted(&[zero, right, right])), Err(15));
+    assert_eq!(book.add_frame(&encode_weighted(&[right, right, right])), Err(5));
+    // A third version has no weights: 24 bytes are 2, 48 are 3.
+    let mut third = encode_weighted(&[zero]);
+    third[2] = 3;
+    assert_eq!(book.add_frame(&third), Err(2));
+    let mut third = encode_weighted(&[zero, bad]);
+    third[2] = 3;
+    assert_eq!(book.add_frame(&third), Err(3));
+    // A frame of version 1 with the bytes of one of version 2, and the other way round.
+    let mut first = encode_weighted(&[right, heavy]);
+    first[2] = 1;
+    assert_eq!(book.add_frame(&first), Err(5));
+    let mut second = encode(&[right]);
+    second[2] = 2;
+    assert_eq!(book.add_frame(&second), Err(2));
+
+    assert_eq!((book.count, book.weight[0]), (0, MARK));
+    assert_eq!(book.add_frame(&encode_weighted(&[right])), Ok(1));
+    assert_eq!(book.add_frame(&encode(&[heavy])), Ok(2));
+    assert_eq!((&book.weight[..], book.sums[0]), (&[3.0, 1.0][..], 4.0));
+}
+
+/// A correction keeps the weight and judges none; a withdrawal moves it with its sample.
+#[test]
+fn changes_of_weighted_samples() {
+    let mut book = Book::new(3, &[]);
+    for sample in [weighing(1.0, 2.0, 3.0), weighing(2.0, 3.0, 0.5), weighing(3.0, 1.0, 2.0)] {
+        book.add_weighted(sample).unwrap();
+    }
+    assert_eq!((book.sums[0], book.sums[1], book.sums[256]), (5.5, 10.0, 9.5));
+    assert_eq!(book.correct(1, 7.0), Ok(3));
+    assert_eq!((book.sums[1], book.sums[256], book.sums[257]), (10.0, 11.5, 19.0));
+    assert_eq!(book.weight, [3.0, 0.5, 2.0]);
+    assert_eq!(book.withdraw(0), Ok(2));
+    // The vacated last place keeps its value.
+    assert_eq!(book.weight, [0.5, 2.0, 2.0]);
+    assert_eq!((book.sums[0], book.sums[1], book.sums[256]), (2.5, 7.0, 5.5));
+    book.weight[0] = -1.0;
+    assert_eq!(book.correct(0, 7.0), Ok(2));
+    assert_eq!(book.sums[256], -5.0);
+    book.weight[1] = NAN;
+    assert_eq!(book.correct(0, 7.0), Ok(2));
+    assert!(book.sums[256].is_nan());
+    assert_eq!(book.withdraw(1), Ok(1));
+    assert_eq!((book.sums[0], book.sums[256]), (-1.0, -7.0));
+}
+
+/// The calls that read judge weights below the count by 4 alone.
+#[test]
+fn weights_below_the_count() {
+    let mut book = Book::new(4, &LINE);
+    book.weight[3] = NAN;
+    assert_eq!(book.fit(1), Ok(1));
+    for weight in [NAN, INFINITY, -INFINITY] {
+        book.weight[2] = weight;
+        assert_eq!(book.fit(usize::MAX), Err(4));
+        assert_eq!(book.report(AIC_1), Err(4));
+        assert_eq!(book.validate(0, 1), Err(4));
+        assert_eq!(book.band(9.0, 9), Err(4));
+    }
+    // One that is not above zero is read as it is; the sums are, too.
+    for weight in [0.0, -0.0, -1.0] {
+        book.weight[2] = weight;
+        assert_eq!(book.fit(1), Ok(1));
+        assert_eq!(book.report(AIC_1).map(|answer| answer.degree), Ok(0));
+        assert!(book.band(1.0, 1).is_ok());
+    }
+    assert_eq!(book.validate(3, 0), Ok(0));
+}
+
+/// Of (0, 1) and twice (0, 4): mean 3, residuals −2 and 1, which no weight touches; variance 5, and the
+/// inverse of the weights' sum.
+#[test]
+fn report_of_weighted_samples() {
+    let mut book = Book::new(2, &[(0.0, 1.0)]);
+    book.add_weighted(weighing(0.0, 4.0, 2.0)).unwrap();
+    let answer = book.report(AIC_1).unwrap();
+    assert_eq!((answer.degree, answer.solved, answer.outliers), (0, 1, 0));
+    let error = f64::sqrt(1.0 / 3.0 * 5.0);
+    assert_eq!((book.coefficients[0], book.errors[0]), (3.0, error));
+    assert_eq!(book.lower[..2], [3.0 - 1.959 * error; 2]);
+    assert_eq!(book.upper[..2], [3.0 + 1.959 * error; 2]);
+}
+
+/// The shortest of the three columns is the capacity.
+#[test]
+fn capacity_by_the_weights() {
+    let mut book = Book::new(3, &LINE[..2]);
+    book.weight.truncate(2);
+    assert_eq!(book.add(2.0, 5.0), Err(5));
+    assert_eq!(book.add_weighted(weighing(2.0, 5.0, 0.0)), Err(15));
+    assert_eq!(book.add_frame(&encode(&[Sample::unweighted(2.0, 5.0)])), Err(5));
+    assert_eq!(book.add_lines("2 5\n"), Err(5));
+    assert_eq!(book.fit(1), Ok(1));
+    book.weight.truncate(1);
+    assert_eq!(book.add_weighted(weighing(NAN, 5.0, 0.0)), Err(1));
+    assert_eq!(book.add_frame(&[]), Err(1));
+    assert_eq!(book.add_lines("x"), Err(1));
+    assert_eq!((book.correct(0, 1.0), book.withdraw(0)), (Err(1), Err(1)));
+    assert_eq!((book.fit(1), book.validate(2, 1)), (Err(1), Err(1)));
+    assert_eq!((book.report(AIC_1), book.band(0.0, 1)), (Err(1), Err(1)));
 }
