@@ -7,7 +7,8 @@
 //! `numbers`, `statistics`, `sums`, `solve`, `fit`, `frame` and `lines` are definitions over samples
 //! and sums; `refusals` says which number a call is refused by; `book` has the calls on lent memory;
 //! `ledger` is the plain list of samples that the book must agree with; `listing` is the program
-//! `stakebook`.
+//! `stakebook`. `two_column` is document 01's book of two columns, by its own words and with nothing of
+//! document 02 in it.
 
 // Places are named by index, as the document names them.
 #![allow(clippy::needless_range_loop)]
@@ -23,6 +24,7 @@ pub mod refusals;
 pub mod solve;
 pub mod statistics;
 pub mod sums;
+pub mod two_column;
 
 /// A sample: finite x and y, and a weight (document 02, E5).
 #[derive(Debug, Clone, Copy, PartialEq)]
