@@ -14,10 +14,12 @@
 //! };
 //!
 //! let mut book = Book::with_capacity(100);
-//! for i in 0..5 {
+//! for i in 0..4 {
 //!     book.add(f64::from(i), 1.0 + 2.0 * f64::from(i))?;
 //! }
-//! book.correct(4, 9.0)?;
+//! // A pit dug by two people counts twice.
+//! book.add_weighted(1.5, 3.5, 2.0)?;
+//! book.correct(4, 4.0)?;
 //! let fit = book.fit(1)?;
 //! assert_eq!(fit.coefficients(), [1.0, 2.0]);
 //!
@@ -31,6 +33,7 @@
 //! let report = book.report(settings)?;
 //! assert_eq!((report.degree, report.solved, report.outliers()), (1, 3, 0));
 //! assert_eq!(book.add(f64::NAN, 0.0), Err(Refusal::NotFinite));
+//! assert_eq!(book.add_weighted(5.0, 11.0, 0.0), Err(Refusal::WeightNotAboveZero));
 //! assert_eq!(book.len(), 5);
 //! # Ok::<(), Refusal>(())
 //! ```
@@ -55,6 +58,7 @@ pub struct Book {
     count: usize,
     xs: Vec<f64>,
     ys: Vec<f64>,
+    ws: Vec<f64>,
     sums: [f64; SUMS],
     scratch: Vec<f64>,
     coefficients: [f64; TERMS],
@@ -144,6 +148,7 @@ impl Book {
             count: 0,
             xs: vec![0.0; room],
             ys: vec![0.0; room],
+            ws: vec![0.0; room],
             sums: [0.0; SUMS],
             scratch: vec![0.0; room],
             coefficients: [0.0; TERMS],
@@ -187,6 +192,11 @@ impl Book {
         &self.ys[..self.count]
     }
 
+    /// The weights of the samples.
+    pub fn ws(&self) -> &[f64] {
+        &self.ws[..self.count]
+    }
+
     /// The 272 sums: A by rows, then g.
     pub fn sums(&self) -> &[f64] {
         &self.sums
@@ -197,36 +207,52 @@ impl Book {
         Ok(())
     }
 
-    /// One sample at the end. Refused by [`Refusal::NotFinite`] and [`Refusal::Full`].
+    /// One sample of weight 1 at the end. Refused by [`Refusal::NotFinite`] and [`Refusal::Full`].
     pub fn add(&mut self, x: f64, y: f64) -> Result<(), Refusal> {
-        let answer = lend!(stakebook_add(self.count, x, y; self.xs, self.ys, self.sums));
+        self.add_weighted(x, y, 1.0)
+    }
+
+    /// One sample at the end, which pulls the curve as much as its weight says. Refused by
+    /// [`Refusal::NotFinite`], [`Refusal::WeightNotAboveZero`] and [`Refusal::Full`].
+    ///
+    /// Residuals, scores, the variance and tolerances don't see the weight. Errors and bands see it
+    /// in the sums alone, so that its size counts: four times all weights leave the curve where it
+    /// is and halve its errors. Take 1 for a plain sample.
+    pub fn add_weighted(&mut self, x: f64, y: f64, weight: f64) -> Result<(), Refusal> {
+        let answer =
+            lend!(stakebook_add(self.count, x, y, weight; self.xs, self.ys, self.ws, self.sums));
         self.changed(answer)
     }
 
-    /// Sample `i` gets a new y. Refused by [`Refusal::NotFinite`] and [`Refusal::NoSuchSample`].
+    /// Sample `i` gets a new y and keeps its weight. Refused by [`Refusal::NotFinite`] and
+    /// [`Refusal::NoSuchSample`].
     pub fn correct(&mut self, i: usize, y: f64) -> Result<(), Refusal> {
-        let answer = lend!(stakebook_correct(self.count, i, y; self.xs, self.ys, self.sums));
+        let answer =
+            lend!(stakebook_correct(self.count, i, y; self.xs, self.ys, self.ws, self.sums));
         self.changed(answer)
     }
 
-    /// Sample `i` goes, and later ones move down one. Refused by [`Refusal::NoSuchSample`].
+    /// Sample `i` goes, and later ones move down one, each with its weight. Refused by
+    /// [`Refusal::NoSuchSample`].
     pub fn withdraw(&mut self, i: usize) -> Result<(), Refusal> {
-        let answer = lend!(stakebook_withdraw(self.count, i; self.xs, self.ys, self.sums));
+        let answer = lend!(stakebook_withdraw(self.count, i; self.xs, self.ys, self.ws, self.sums));
         self.changed(answer)
     }
 
-    /// All samples of a frame at the end, or none. Refused by [`Refusal::FrameLength`],
-    /// [`Refusal::FrameVersion`], [`Refusal::NotFinite`] and [`Refusal::Full`].
+    /// All samples of a frame at the end, or none: of version 1, with weight 1, or of version 2, which
+    /// has the weights. Refused by [`Refusal::FrameLength`], [`Refusal::FrameVersion`],
+    /// [`Refusal::NotFinite`], [`Refusal::WeightNotAboveZero`] and [`Refusal::Full`].
     pub fn add_frame(&mut self, frame: &[u8]) -> Result<(), Refusal> {
         let answer = lend!(stakebook_add_frame(
             self.count, frame.as_ptr(), frame.len();
-            self.xs, self.ys, self.sums
+            self.xs, self.ys, self.ws, self.sums
         ));
         self.changed(answer)
     }
 
-    /// All samples of a text at the end, or none: readings as written in the field book, one sample a
-    /// line. Refused by [`Refusal::MalformedLine`], [`Refusal::TooManyDigits`] and [`Refusal::Full`].
+    /// All samples of a text at the end with weight 1, or none: readings as written in the field book,
+    /// one sample a line. Refused by [`Refusal::MalformedLine`], [`Refusal::TooManyDigits`] and
+    /// [`Refusal::Full`].
     ///
     /// A line is x, one space, y and a newline, the last one too. A reading is an optional minus,
     /// digits, and optionally a point with a digit on either side, so that `.5`, `5.`, `+1` and `1e3`
@@ -242,7 +268,7 @@ impl Book {
     pub fn add_lines(&mut self, text: &[u8]) -> Result<(), Refusal> {
         let answer = lend!(stakebook_add_lines(
             self.count, text.as_ptr(), text.len();
-            self.xs, self.ys, self.sums
+            self.xs, self.ys, self.ws, self.sums
         ));
         self.changed(answer)
     }
@@ -259,7 +285,7 @@ impl Book {
     pub fn fit(&mut self, degree: usize) -> Result<Fit, Refusal> {
         let answer = lend!(stakebook_fit(
             self.count, degree;
-            self.xs, self.ys, self.sums, self.scratch, self.coefficients
+            self.xs, self.ys, self.ws, self.sums, self.scratch, self.coefficients
         ));
         self.fitted(answer)
     }
@@ -278,7 +304,7 @@ impl Book {
         let (bound, most) = bound.numbers();
         let answer = lend!(stakebook_validate(
             self.count, folds, bound, most, criterion.number();
-            self.xs, self.ys, self.sums, self.scratch, self.coefficients
+            self.xs, self.ys, self.ws, self.sums, self.scratch, self.coefficients
         ));
         self.fitted(answer)
     }
@@ -298,7 +324,7 @@ impl Book {
         let mut numbers = [0.0; 3];
         let answer = lend!(stakebook_band(
             self.count, x, degree, confidence, score, tolerance, value;
-            self.xs, self.ys, self.sums, self.scratch, numbers
+            self.xs, self.ys, self.ws, self.sums, self.scratch, numbers
         ));
         judged(answer)?;
         let [value, lower, upper] = numbers;
@@ -328,7 +354,7 @@ impl Book {
         let values = [score, value];
         let answer = lend!(stakebook_report_by(
             self.count, words.as_ptr(), words.len(), values.as_ptr(), values.len();
-            self.xs, self.ys, self.sums, self.scratch, self.coefficients, self.errors,
+            self.xs, self.ys, self.ws, self.sums, self.scratch, self.coefficients, self.errors,
             self.pruned, self.lower, self.upper, self.outliers
         ));
         let answer = judged(answer)?;

@@ -1,14 +1,14 @@
 //! Why a call was refused.
 
-/// The fourteen refusals, by number. They are checked in this order, but 13 and 14 after 3. A refused
-/// call changes no sample and writes no result.
+/// The fifteen refusals, by number. They are checked in this order, but 13 and 14 after 3, and 15
+/// after 4. A refused call changes no sample and writes no result.
 #[derive(Debug, Clone, Copy, PartialEq, Eq)]
 pub enum Refusal {
     /// 1: a lent memory is too short, or the count is above capacity.
     Memory = 1,
     /// 2: a frame's length is wrong.
     FrameLength,
-    /// 3: a frame's version is not 1.
+    /// 3: a frame's version is neither 1 nor 2.
     FrameVersion,
     /// 4: a given number is not finite.
     NotFinite,
@@ -32,17 +32,19 @@ pub enum Refusal {
     MalformedLine,
     /// 14: a reading has more than 15 digits, leading zeros dropped, or more than 22 after the point.
     TooManyDigits,
+    /// 15: a weight that is being added is not above zero.
+    WeightNotAboveZero,
 }
 
 impl Refusal {
-    /// Its number, 1 to 14.
+    /// Its number, 1 to 15.
     pub fn number(self) -> u8 {
         self as u8
     }
 
     /// The refusal of a number; none for 0.
     pub(crate) fn of(number: u8) -> Option<Refusal> {
-        const ALL: [Refusal; 14] = [
+        const ALL: [Refusal; 15] = [
             Refusal::Memory,
             Refusal::FrameLength,
             Refusal::FrameVersion,
@@ -57,6 +59,7 @@ impl Refusal {
             Refusal::NoCovariance,
             Refusal::MalformedLine,
             Refusal::TooManyDigits,
+            Refusal::WeightNotAboveZero,
         ];
         (number != 0).then(|| ALL[usize::from(number) - 1])
     }
@@ -67,7 +70,7 @@ impl std::fmt::Display for Refusal {
         f.write_str(match self {
             Refusal::Memory => "the memory is too short",
             Refusal::FrameLength => "the frame's length is wrong",
-            Refusal::FrameVersion => "the frame's version is not 1",
+            Refusal::FrameVersion => "the frame's version is neither 1 nor 2",
             Refusal::NotFinite => "a number is not finite",
             Refusal::Full => "the book is full",
             Refusal::NoSuchSample => "there is no sample of this index",
@@ -79,6 +82,7 @@ impl std::fmt::Display for Refusal {
             Refusal::NoCovariance => "the covariance can't be worked out",
             Refusal::MalformedLine => "a line is not two readings with one space between them",
             Refusal::TooManyDigits => "a reading has too many digits",
+            Refusal::WeightNotAboveZero => "a weight is not above zero",
         })
     }
 }
@@ -93,10 +97,10 @@ mod tests {
     #[test]
     fn by_number() {
         assert_eq!(Refusal::of(0), None);
-        let all: Vec<Refusal> = (1..=14).filter_map(Refusal::of).collect();
-        assert!(all.iter().map(|refusal| refusal.number()).eq(1..=14));
+        let all: Vec<Refusal> = (1..=15).filter_map(Refusal::of).collect();
+        assert!(all.iter().map(|refusal| refusal.number()).eq(1..=15));
         let words: std::collections::BTreeSet<String> =
             all.iter().map(Refusal::to_string).collect();
-        assert_eq!(words.len(), 14);
+        assert_eq!(words.len(), 15);
     }
 }

@@ -47,6 +47,53 @@ fn a_fit_and_a_report() {
     assert_eq!((band.value, band.lower, band.upper), (3.0, 2.5, 3.5));
 }
 
+/// Each sample counts as much as its weight, and keeps it when it is corrected or moves down.
+#[test]
+fn weights() {
+    let mut book = book_of(&[(0.0, 1.0)]);
+    assert_eq!(book.add_weighted(1.0, 3.0, 2.0), Ok(()));
+    assert_eq!(book.add_weighted(2.0, 5.0, 0.25), Ok(()));
+    assert_eq!(book.ws(), [1.0, 2.0, 0.25]);
+    // The first row of A, and g: (x^0 x^j) w and (x^0 y) w.
+    assert_eq!((&book.sums()[..3], book.sums()[256]), (&[3.25, 2.5, 3.0][..], 8.25));
+    assert_eq!(book.correct(1, 4.0), Ok(()));
+    assert_eq!((book.ws(), book.sums()[256]), (&[1.0, 2.0, 0.25][..], 10.25));
+    assert_eq!(book.withdraw(0), Ok(()));
+    assert_eq!((book.ws(), book.sums()[0]), (&[2.0, 0.25][..], 2.25));
+}
+
+/// The mean by weights, and errors that see the size of the weights.
+#[test]
+fn weights_pull_the_curve() {
+    let weighted = |weights: [f64; 2]| {
+        let mut book = Book::with_capacity(2);
+        book.add_weighted(0.0, 2.0, weights[0]).expect("a sample that is added");
+        book.add_weighted(1.0, 6.0, weights[1]).expect("a sample that is added");
+        let constant = Settings { bound: DegreeBound::Custom(0), ..SETTINGS };
+        let report = book.report(constant).expect("a degree is chosen");
+        (report.coefficients[0], report.errors[0])
+    };
+    let (mean, error) = weighted([1.0, 3.0]);
+    assert_eq!(mean, 5.0);
+    assert_eq!(weighted([4.0, 12.0]), (mean, error / 2.0));
+}
+
+#[test]
+fn weights_that_are_refused() {
+    let mut book = Book::with_capacity(1);
+    for weight in [0.0, -0.0, -1.0] {
+        assert_eq!(book.add_weighted(0.0, 1.0, weight), Err(Refusal::WeightNotAboveZero));
+        assert_eq!(book.add_weighted(0.0, f64::NAN, weight), Err(Refusal::NotFinite));
+    }
+    for weight in [f64::NAN, f64::INFINITY, f64::NEG_INFINITY] {
+        assert_eq!(book.add_weighted(0.0, 1.0, weight), Err(Refusal::NotFinite));
+    }
+    assert_eq!(book.add_weighted(0.0, 1.0, f64::from_bits(1)), Ok(()));
+    assert_eq!(book.add_weighted(0.0, 1.0, 0.0), Err(Refusal::WeightNotAboveZero));
+    assert_eq!(book.add_weighted(0.0, 1.0, 1.0), Err(Refusal::Full));
+    assert_eq!(Refusal::WeightNotAboveZero.number(), 15);
+}
+
 /// A negative term faces the test by size alone.
 #[test]
 fn pruning_by_either_rule() {
@@ -75,8 +122,27 @@ fn a_frame_is_its_samples() {
     assert_eq!(book.add_frame(&frame), Err(Refusal::Full));
     assert_eq!(book.add_frame(&frame[..3]), Err(Refusal::FrameLength));
     assert_eq!(book.add_frame(&[]), Err(Refusal::FrameLength));
-    assert_eq!(book.add_frame(&[0, 1, 2]), Err(Refusal::FrameVersion));
-    assert_eq!(book.len(), 2);
+    assert_eq!(book.add_frame(&[0, 1, 3]), Err(Refusal::FrameVersion));
+    assert_eq!((book.len(), book.ws()), (2, &[1.0, 1.0][..]));
+}
+
+#[test]
+fn a_frame_with_weights() {
+    let framed = |weight: f64| {
+        let mut frame = vec![0, 25, 2];
+        for number in [2.0, 5.0, weight] {
+            frame.extend(f64::to_be_bytes(number));
+        }
+        frame
+    };
+    let mut book = Book::with_capacity(1);
+    assert_eq!(book.add_frame(&[0, 1, 2]), Ok(()));
+    assert_eq!(book.add_frame(&framed(0.0)), Err(Refusal::WeightNotAboveZero));
+    assert_eq!(book.add_frame(&framed(f64::NAN)), Err(Refusal::NotFinite));
+    assert_eq!(book.add_frame(&framed(1.0)[..19]), Err(Refusal::FrameLength));
+    assert_eq!(book.add_frame(&framed(0.5)), Ok(()));
+    assert_eq!((book.xs(), book.ys(), book.ws()), (&[2.0][..], &[5.0][..], &[0.5][..]));
+    assert_eq!(book.add_frame(&framed(1.0)), Err(Refusal::Full));
 }
 
 #[test]
