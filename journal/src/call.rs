@@ -79,7 +79,9 @@ impl fmt::Display for Answer {
             Answer::Samples(samples) => {
                 write!(f, "samples")?;
                 for sample in samples {
-                    write!(f, " {} {}", float_field(sample.x), float_field(sample.y))?;
+                    for number in [sample.x, sample.y, sample.weight] {
+                        write!(f, " {}", float_field(number))?;
+                    }
                 }
                 Ok(())
             }

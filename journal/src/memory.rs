@@ -8,6 +8,7 @@ use judge::sums::{PLACES, TERMS};
 pub enum Name {
     Xs,
     Ys,
+    Ws,
     Sums,
     Scratch,
     Coefficients,
@@ -19,9 +20,10 @@ pub enum Name {
 }
 
 /// All names, with their words.
-pub const NAMES: [(Name, &str); 10] = [
+pub const NAMES: [(Name, &str); 11] = [
     (Name::Xs, "xs"),
     (Name::Ys, "ys"),
+    (Name::Ws, "ws"),
     (Name::Sums, "sums"),
     (Name::Scratch, "scratch"),
     (Name::Coefficients, "coefficients"),
@@ -36,6 +38,7 @@ pub const NAMES: [(Name, &str); 10] = [
 pub const LENT: Lengths = Lengths {
     x: MOST_SAMPLES,
     y: MOST_SAMPLES,
+    weight: MOST_SAMPLES,
     sums: PLACES,
     scratch: MOST_SAMPLES,
     coefficients: TERMS,
@@ -51,6 +54,7 @@ pub const LENT: Lengths = Lengths {
 pub struct Memory {
     pub x: Vec<f64>,
     pub y: Vec<f64>,
+    pub weight: Vec<f64>,
     pub sums: Vec<f64>,
     pub scratch: Vec<f64>,
     pub coefficients: Vec<f64>,
@@ -65,6 +69,7 @@ pub struct Memory {
 pub struct Lent<'a> {
     pub x: &'a mut [f64],
     pub y: &'a mut [f64],
+    pub weight: &'a mut [f64],
     pub sums: &'a mut [f64],
     pub scratch: &'a mut [f64],
     pub coefficients: &'a mut [f64],
@@ -95,6 +100,7 @@ impl Name {
         match self {
             Name::Xs => &mut lengths.x,
             Name::Ys => &mut lengths.y,
+            Name::Ws => &mut lengths.weight,
             Name::Sums => &mut lengths.sums,
             Name::Scratch => &mut lengths.scratch,
             Name::Coefficients => &mut lengths.coefficients,
@@ -115,6 +121,7 @@ impl Memory {
         Self {
             x: floats(),
             y: floats(),
+            weight: floats(),
             sums: floats(),
             scratch: floats(),
             coefficients: floats(),
@@ -131,6 +138,7 @@ impl Memory {
         Lent {
             x: &mut self.x[..lengths.x],
             y: &mut self.y[..lengths.y],
+            weight: &mut self.weight[..lengths.weight],
             sums: &mut self.sums[..lengths.sums],
             scratch: &mut self.scratch[..lengths.scratch],
             coefficients: &mut self.coefficients[..lengths.coefficients],
@@ -146,6 +154,7 @@ impl Memory {
         match name {
             Name::Xs => Places::Floats(&self.x),
             Name::Ys => Places::Floats(&self.y),
+            Name::Ws => Places::Floats(&self.weight),
             Name::Sums => Places::Floats(&self.sums),
             Name::Scratch => Places::Floats(&self.scratch),
             Name::Coefficients => Places::Floats(&self.coefficients),
@@ -162,6 +171,7 @@ impl Memory {
         Some(match name {
             Name::Xs => &mut self.x,
             Name::Ys => &mut self.y,
+            Name::Ws => &mut self.weight,
             Name::Sums => &mut self.sums,
             Name::Scratch => &mut self.scratch,
             Name::Coefficients => &mut self.coefficients,

@@ -112,6 +112,8 @@ macro_rules! book_read {
                 $lent.x.len(),
                 $lent.y.as_ptr(),
                 $lent.y.len(),
+                $lent.weight.as_ptr(),
+                $lent.weight.len(),
                 $lent.sums.as_ptr(),
                 $lent.sums.len(),
                 $lent.scratch.as_mut_ptr(),
@@ -134,6 +136,8 @@ macro_rules! book_changed {
                 $lent.x.len(),
                 $lent.y.as_mut_ptr(),
                 $lent.y.len(),
+                $lent.weight.as_mut_ptr(),
+                $lent.weight.len(),
                 $lent.sums.as_mut_ptr(),
                 $lent.sums.len(),
             )
@@ -166,26 +170,27 @@ fn band_into(
     answer
 }
 
-/// What is read at an offset into so many places: two are written and none past them, none at the end
+/// What is read at an offset into so many places: three are written and none past them, none at the end
 /// or where it is refused.
-fn read_into(places: usize, frame: &[u8], at: usize) -> (u64, [f64; 3]) {
-    let mut numbers = [UNWRITTEN; 3];
+fn read_into(places: usize, frame: &[u8], at: usize) -> (u64, [f64; 4]) {
+    let mut numbers = [UNWRITTEN; 4];
     // SAFETY: the slices are the caller's, initialised and apart.
     let packed = unsafe {
         sys::stakebook_next(frame.as_ptr(), frame.len(), at, numbers.as_mut_ptr(), places)
     };
-    let written = if sys::refusal(packed) == 0 && packed != 0 { 2 } else { 0 };
+    let written = if sys::refusal(packed) == 0 && packed != 0 { 3 } else { 0 };
     assert!(numbers[written..].iter().all(|&number| number == UNWRITTEN), "{numbers:?}");
     (packed, numbers)
 }
 
 /// The sample at an offset, with the offset behind it; none at the end.
 fn sample_at(frame: &[u8], at: usize) -> Option<(Sample, usize)> {
-    let (short, _) = read_into(1, frame, at);
-    assert!(short == 1 << 56, "one place for a sample: {short:#x}");
-    let (behind, [x, y, _]) = read_into(2, frame, at);
-    assert!(behind == 0 || behind == at as u64 + 16, "behind {at}: {behind:#x}");
-    (behind != 0).then_some((Sample { x, y }, behind as usize))
+    let (short, _) = read_into(2, frame, at);
+    assert!(short == 1 << 56, "two places for a sample: {short:#x}");
+    let (behind, [x, y, weight, _]) = read_into(3, frame, at);
+    let bytes = if frame[2] == 2 { 24 } else { 16 };
+    assert!(behind == 0 || behind == at as u64 + bytes, "behind {at}: {behind:#x}");
+    (behind != 0).then_some((Sample { x, y, weight }, behind as usize))
 }
 
 impl Calls for Port {
@@ -197,7 +202,8 @@ impl Calls for Port {
     }
 
     fn add(&self, count: usize, lent: Lent, sample: Sample) -> Answer {
-        book(book_changed!(sys::stakebook_add, lent, (count, sample.x, sample.y)))
+        let Sample { x, y, weight } = sample;
+        book(book_changed!(sys::stakebook_add, lent, (count, x, y, weight)))
     }
 
     fn correct(&self, count: usize, lent: Lent, index: usize, y: f64) -> Answer {

@@ -3,6 +3,7 @@
 use judge::fit::{PruningRule, Settings};
 use judge::refusals::Lengths;
 use judge::sums::PLACES;
+use judge::Sample;
 use stakebook::sys;
 
 use crate::call::{Answer, Call};
@@ -12,7 +13,7 @@ use crate::port::{bound_numbers, confidence_numbers, criterion_number, tolerance
 /// Kinds, words, numbers and results of a call.
 const KINDS: usize = 5;
 const WORDS: usize = 9;
-const NUMBERS: usize = 4;
+const NUMBERS: usize = 5;
 const RESULTS: usize = 5;
 
 /// Calls as records, and what they are lent. The columns and the sums are the book's; of all other
@@ -43,15 +44,16 @@ impl Buffers {
     /// A further record, with room for its results; false for a call that no record holds. What the
     /// call ignores is never 0.
     pub fn push(&mut self, call: &Call, lent: &Lengths) -> bool {
-        let (kind, index, x, y) = match *call {
-            Call::Add(sample) => (0, usize::MAX, sample.x, sample.y),
-            Call::Correct { index, y } => (1, index, f64::NAN, y),
-            Call::Withdraw { index } => (2, index, 5.0, f64::INFINITY),
+        const IGNORED: Sample = Sample { x: 2.0, y: 3.0, weight: -4.0 };
+        let (kind, index, sample) = match *call {
+            Call::Add(sample) => (0, usize::MAX, sample),
+            Call::Correct { index, y } => (1, index, Sample { x: f64::NAN, y, weight: f64::NAN }),
+            Call::Withdraw { index } => (2, index, Sample { y: f64::INFINITY, ..IGNORED }),
             // 4 is a report that prunes by size; any other number above 2 one with polyfit's rule.
-            Call::Report(settings) if settings.pruning == PruningRule::Size => (4, 1, 2.0, 3.0),
-            Call::Report(_) if self.calls() % 3 == 0 => (5, 1, 2.0, 3.0),
-            Call::Report(_) if self.calls() % 3 == 1 => (u32::MAX, 1, 2.0, 3.0),
-            Call::Report(_) => (3, 1, 2.0, 3.0),
+            Call::Report(settings) if settings.pruning == PruningRule::Size => (4, 1, IGNORED),
+            Call::Report(_) if self.calls() % 3 == 0 => (5, 1, IGNORED),
+            Call::Report(_) if self.calls() % 3 == 1 => (u32::MAX, 1, IGNORED),
+            Call::Report(_) => (3, 1, IGNORED),
             _ => return false,
         };
         let (kinds, most, score, value) = match call {
@@ -62,7 +64,7 @@ impl Buffers {
         self.kinds.extend(kinds);
         self.words.extend([index, most, lent.scratch, lent.coefficients, lent.errors]);
         self.words.extend([lent.pruned, lent.lower, lent.upper, lent.outlier]);
-        self.numbers.extend([x, y, score, value]);
+        self.numbers.extend([sample.x, sample.y, sample.weight, score, value]);
         self.results.extend([usize::MAX; RESULTS]);
         true
     }
@@ -73,6 +75,7 @@ impl Buffers {
         Lent {
             x: &mut self.memory.x[..self.lengths.x],
             y: &mut self.memory.y[..self.lengths.y],
+            weight: &mut self.memory.weight[..self.lengths.weight],
             sums: &mut self.memory.sums[..self.lengths.sums],
             scratch: &mut self.memory.scratch[at..at + lent.scratch],
             coefficients: &mut self.memory.coefficients[at..at + lent.coefficients],
@@ -138,6 +141,8 @@ impl Buffers {
                 lent.x.len(),
                 lent.y.as_mut_ptr(),
                 lent.y.len(),
+                lent.weight.as_mut_ptr(),
+                lent.weight.len(),
                 lent.sums.as_mut_ptr(),
                 lent.sums.len(),
                 results.as_mut_ptr(),

@@ -96,7 +96,9 @@ fn request(fields: &mut Fields) -> Read<Request> {
 fn call(word: &[u8], fields: &mut Fields) -> Read<Call> {
     Ok(match word {
         b"open" => Call::Open,
-        b"add" => Call::Add(Sample { x: fields.float()?, y: fields.float()? }),
+        b"add" => {
+            Call::Add(Sample { x: fields.float()?, y: fields.float()?, weight: fields.weight()? })
+        }
         b"correct" => Call::Correct { index: fields.number()?, y: fields.float()? },
         b"withdraw" => Call::Withdraw { index: fields.number()? },
         b"frame" => Call::AddFrame(fields.bytes()?),
@@ -208,6 +210,14 @@ impl<'a> Fields<'a> {
             return self.malformed(Message::NotAFloat);
         }
         Ok(one_value(digits.iter().fold(0, |pattern, digit| pattern << 4 | u64::from(*digit))))
+    }
+
+    /// No field at all is weight 1.
+    fn weight(&mut self) -> Read<f64> {
+        if self.rest.is_none() {
+            return Ok(1.0);
+        }
+        self.float()
     }
 
     /// An even number of hexadecimal digits; no field at all is no bytes.
@@ -338,6 +348,15 @@ fn tolerance_fields(tolerance: Tolerance) -> String {
     format!("{word} {}", float_field(value))
 }
 
+/// The space and the field of a weight; 1 has none.
+fn weight_field(weight: f64) -> String {
+    if weight == 1.0 {
+        String::new()
+    } else {
+        format!(" {}", float_field(weight))
+    }
+}
+
 /// The space and the field of a rule; polyfit's has none.
 fn pruning_field(rule: PruningRule) -> &'static str {
     match rule {
@@ -376,7 +395,10 @@ impl fmt::Display for Call {
     fn fmt(&self, f: &mut fmt::Formatter<'_>) -> fmt::Result {
         match self {
             Call::Open => write!(f, "open"),
-            Call::Add(Sample { x, y }) => write!(f, "add {} {}", float_field(*x), float_field(*y)),
+            Call::Add(Sample { x, y, weight }) => {
+                let weight = weight_field(*weight);
+                write!(f, "add {} {}{weight}", float_field(*x), float_field(*y))
+            }
             Call::Correct { index, y } => write!(f, "correct {index} {}", float_field(*y)),
             Call::Withdraw { index } => write!(f, "withdraw {index}"),
             Call::AddFrame(bytes) => write!(f, "frame{}", bytes_field(bytes)),
@@ -471,6 +493,16 @@ mod tests {
             ("add 3FF000000000000", "field 2: not a float"),
             ("add 3FF00000000000000", "field 2: not a float"),
             ("add 3ff000000000000g", "field 2: not a float"),
+            (&format!("add {ONE}"), "field 3: missing"),
+            (&format!("add {ONE} {ONE}"), "fits"),
+            (&format!("add {ONE} {ONE} "), "field 4: not a float"),
+            (&format!("add {ONE} {ONE} 2"), "field 4: not a float"),
+            (&format!("add {ONE} {ONE} {ONE}"), "fits"),
+            (&format!("add {ONE} {ONE} {ONE} {ONE}"), "field 5: one too many"),
+            ("lent ws 4200", "fits"),
+            ("show ws 0 4200", "fits"),
+            (&format!("put ws 4199 {ONE}"), "fits"),
+            ("put weights 0", "field 2: not a name"),
             ("frame", "fits"),
             ("frame ", "field 2: not hexadecimal"),
             ("frame 0", "field 2: not hexadecimal"),
@@ -523,12 +555,21 @@ mod tests {
 
     #[test]
     fn one_nan_is_read() {
-        let line = "add fff0000000000001 FFF0000000000000";
+        let line = "add fff0000000000001 FFF0000000000000 7FF4000000000000";
         let sample = match read(line.as_bytes()) {
             Ok(Some(Request::Call(Call::Add(sample)))) => sample,
             other => panic!("{other:?}"),
         };
         assert_eq!((sample.x.to_bits(), sample.y), (judge::numbers::NAN_BITS, f64::NEG_INFINITY));
+        assert_eq!(sample.weight.to_bits(), judge::numbers::NAN_BITS);
+    }
+
+    #[test]
+    fn weight_1_or_nothing() {
+        let nothing = format!("add {ONE} {ONE}");
+        let one = format!("{nothing} {ONE}");
+        assert_eq!(read(one.as_bytes()), read(nothing.as_bytes()));
+        assert_eq!(read(one.as_bytes()).unwrap().unwrap().to_string(), nothing);
     }
 
     /// What is written is read as the same.
@@ -541,6 +582,9 @@ mod tests {
             "show errors 0 16".to_string(),
             "open".to_string(),
             format!("add {ONE} 8000000000000000"),
+            format!("add {ONE} {ONE} 0000000000000001"),
+            format!("add {ONE} {ONE} 7FF8000000000000"),
+            "lent ws 5".to_string(),
             format!("correct 12 {ONE}"),
             "withdraw 0".to_string(),
             "frame".to_string(),

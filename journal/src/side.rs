@@ -86,7 +86,7 @@ fn answer<T>(result: Result<T, u8>, of: impl Fn(T) -> Answer) -> Answer {
 /// The book's own part of what is lent.
 macro_rules! memory {
     ($lent:ident) => {
-        book::Memory { x: $lent.x, y: $lent.y, sums: $lent.sums }
+        book::Memory { x: $lent.x, y: $lent.y, weight: $lent.weight, sums: $lent.sums }
     };
 }
 
@@ -98,7 +98,7 @@ impl Calls for Judge {
     }
 
     fn add(&self, count: usize, lent: Lent, sample: Sample) -> Answer {
-        answer(book::add(count, &mut memory!(lent), sample.x, sample.y), Answer::Book)
+        answer(book::add(count, &mut memory!(lent), sample), Answer::Book)
     }
 
     fn correct(&self, count: usize, lent: Lent, index: usize, y: f64) -> Answer {

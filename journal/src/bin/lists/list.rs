@@ -29,7 +29,7 @@ pub fn up_to(degree: usize) -> Settings {
 }
 
 pub fn samples_of(pairs: &[(f64, f64)]) -> Vec<Sample> {
-    pairs.iter().map(|&(x, y)| Sample { x, y }).collect()
+    pairs.iter().map(|&(x, y)| Sample::unweighted(x, y)).collect()
 }
 
 /// x = 0, 1, 2, .. with the given y's.
@@ -69,7 +69,7 @@ impl List {
     }
 
     pub fn add(&mut self, x: f64, y: f64) {
-        self.call(Call::Add(Sample { x, y }));
+        self.call(Call::Add(Sample::unweighted(x, y)));
     }
 
     /// A book just opened with these samples.
@@ -167,7 +167,10 @@ impl List {
 
     /// All memory lent as at the beginning.
     pub fn lend_all(&mut self) {
-        for name in [Name::Xs, Name::Ys, Name::Scratch, Name::Lower, Name::Upper, Name::Outliers] {
+        for name in [Name::Xs, Name::Ys, Name::Ws] {
+            self.lent(name, 4096);
+        }
+        for name in [Name::Scratch, Name::Lower, Name::Upper, Name::Outliers] {
             self.lent(name, 4096);
         }
         self.lent(Name::Sums, PLACES);
