@@ -577,8 +577,9 @@ fn columns(list: &mut List) {
     list.lend_all();
 
     list.head("columns: at most 4,096 samples, also in longer columns");
-    list.lent(Name::Xs, 4200);
-    list.lent(Name::Ys, 4200);
+    for name in [Name::Xs, Name::Ys, Name::Ws] {
+        list.lent(name, 4200);
+    }
     list.ask(Request::Count(4096));
     list.add(1.0, 1.0);
     list.call(Call::Withdraw { index: 4095 });

@@ -349,8 +349,9 @@ fn room(list: &mut List) {
 
     list.head("room: 4,097 lines pass it, 4,096 fill the book, also in longer columns");
     for columns in [4096, 4200] {
-        list.lent(Name::Xs, columns);
-        list.lent(Name::Ys, columns);
+        for name in [Name::Xs, Name::Ys, Name::Ws] {
+            list.lent(name, columns);
+        }
         list.call(Call::Open);
         list.written(&text(4097));
         list.written(&text(4096));

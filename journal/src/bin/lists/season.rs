@@ -137,7 +137,7 @@ fn malformed(list: &mut List) {
         "add ".to_string(),
         format!("add {one}"),
         format!("add  {one}"),
-        format!("add {one} {one} {one}"),
+        format!("add {one} {one} {one} {one}"),
         format!("add {one} 3FF000000000000"),
         format!("add {one} 3FF00000000000000"),
         format!("add {one} 3FF000000000000G"),
@@ -270,7 +270,7 @@ fn refused_frames(list: &mut List) {
     list.head("refused by 2, 3, 4 and 5: frames, with one thing wrong and with several");
     let right = encode(&samples_of(&[(7.0, 8.0)]));
     let not_finite = encode(&samples_of(&[(7.0, NAN)]));
-    let version = |frame: &[u8]| [&frame[..2], &[2], &frame[3..]].concat();
+    let version = |frame: &[u8]| [&frame[..2], &[3], &frame[3..]].concat();
     let longer = |frame: &[u8]| [frame, &[0]].concat();
     let frames = [
         vec![],
@@ -278,7 +278,7 @@ fn refused_frames(list: &mut List) {
         vec![0, 1],
         vec![0, 0, 1],
         vec![0, 2, 1, 0],
-        vec![0, 1, 2],
+        vec![0, 1, 3],
         right[..right.len() - 1].to_vec(),
         longer(&right),
         longer(&version(&right)),
