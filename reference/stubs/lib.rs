@@ -12,4 +12,6 @@ mod fit;
 mod polynomial;
 
 pub use fit::*;
+// Not in the text: the weights of patch 6.
+pub use nalgebra::with_weights;
 pub use polynomial::*;

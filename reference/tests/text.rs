@@ -68,7 +68,7 @@ fn compiled_text_is_the_text_with_the_diffs() {
     let compiled = Path::new(env!("OUT_DIR")).join("polyfit");
     let mut diffs = BTreeSet::new();
     files_below(&here().join("patches"), &mut diffs);
-    assert_eq!(diffs.len(), 5);
+    assert_eq!(diffs.len(), 6);
     let mut patched = BTreeMap::new();
     for diff in diffs {
         let patch = patch::parse(&fs::read_to_string(diff).unwrap()).unwrap();

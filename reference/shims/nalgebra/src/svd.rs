@@ -27,7 +27,8 @@ impl<T: RealField> SVD<T> {
         Some(Self::new(matrix))
     }
 
-    /// Least squares by the normal equations: XᵀX and Xᵀb, sample by sample from +0, eliminated.
+    /// Least squares by the normal equations: XᵀX and Xᵀb, sample by sample from +0 and with the weights of
+    /// the rows of X, eliminated.
     pub fn solve(&self, b: &DVector<T>, _epsilon: T) -> Result<DVector<T>, &'static str> {
         let transposed = self.matrix.transpose();
         eliminate(&transposed * &self.matrix, &transposed * b)
