@@ -6,6 +6,7 @@ use judge::statistics::{Confidence, DegreeBound, Tolerance};
 use judge::Sample;
 
 use crate::random::Random;
+use crate::weights;
 
 /// One in so many arguments is not finite.
 const RARE: usize = 60;
@@ -146,14 +147,15 @@ pub fn reading(random: &mut Random, samples: &[Sample]) -> Call {
 
 /// Bytes that are nearly a frame of the samples.
 pub fn wrong_frame(random: &mut Random, samples: &[Sample]) -> Vec<u8> {
-    let mut bytes = judge::frame::encode(samples);
-    match random.below(6) {
+    let mut bytes = weights::frame_of(random, samples);
+    match random.below(7) {
         0 => bytes.truncate(random.below(bytes.len())),
         1 => bytes.push(random.next() as u8),
         2 => bytes[random.below(2)] ^= 1 << random.below(8),
         3 => bytes[2] = random.next() as u8,
+        5 => bytes[2] = random.pick(&[0, 1, 2, 3]),
         4 => {
-            let end = bytes.len() - random.below(17).min(bytes.len() - 3);
+            let end = bytes.len() - random.below(25).min(bytes.len() - 3);
             bytes.truncate(end);
             let length = (bytes.len() - 2) as u16;
             bytes[..2].copy_from_slice(&length.to_be_bytes());

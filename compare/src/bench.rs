@@ -22,12 +22,13 @@ const FOLDS: usize = 10;
 /// How long a call is repeated.
 const SPAN: Duration = Duration::from_millis(300);
 
-/// x even in [−1, 1], y a smooth curve with a small ripple.
+/// x even in [−1, 1], y a smooth curve with a small ripple, the weight 1, 2 or 3.
 fn samples(count: usize) -> Vec<Sample> {
     let at = |i: usize| {
         let x = -1.0 + 2.0 * i as f64 / (count - 1) as f64;
         let ripple = ((i * 7919) % 101) as f64 / 101.0 - 0.5;
-        Sample { x, y: 350.0 + 120.0 * x - 40.0 * x * x + 9.0 * x * x * x + ripple }
+        let y = 350.0 + 120.0 * x - 40.0 * x * x + 9.0 * x * x * x + ripple;
+        Sample { x, y, weight: (1 + i % 3) as f64 }
     };
     (0..count).map(at).collect()
 }
@@ -37,6 +38,7 @@ fn memory_of(samples: &[Sample]) -> Memory {
     Memory {
         x: samples.iter().map(|sample| sample.x).collect(),
         y: samples.iter().map(|sample| sample.y).collect(),
+        weight: samples.iter().map(|sample| sample.weight).collect(),
         sums: judge::sums::folded_afresh(samples),
         scratch: vec![0.0; count],
         coefficients: vec![0.0; 16],
@@ -52,6 +54,7 @@ fn lent(memory: &mut Memory) -> Lent<'_> {
     Lent {
         x: &mut memory.x,
         y: &mut memory.y,
+        weight: &mut memory.weight,
         sums: &mut memory.sums,
         scratch: &mut memory.scratch,
         coefficients: &mut memory.coefficients,
@@ -153,7 +156,8 @@ fn powers_once(x: f64) -> [f64; 16] {
     p
 }
 
-/// The sums folded afresh in plain Rust, each sample's powers worked out once: what a withdrawal is held against.
+/// The sums folded afresh in plain Rust without weights, each sample's powers worked out once: what a withdrawal, which
+/// has weights, is held against.
 fn plain_fold(samples: &[Sample]) -> [f64; 272] {
     let mut sums = [0.0; 272];
     for sample in samples {
@@ -184,7 +188,7 @@ fn fold_in_c(xs: &[f64], ys: &[f64]) -> [f64; 272] {
 /// What is said below the table.
 #[derive(Default)]
 struct Further {
-    /// A withdrawal by a plain fold in Rust and by one in C, for each count.
+    /// A weighted withdrawal by an unweighted plain fold in Rust and by one in C, for each count.
     withdrawals: Vec<[f64; 2]>,
     /// The port's reports with the highest bound, for each count that allows it.
     reports: Vec<(usize, f64)>,
@@ -256,7 +260,7 @@ fn print_lines(port: &dyn Side) {
         let rate = |time: f64| text.len() as f64 / 1e3 / time;
         let call = Call::AddLines(text.clone().into_bytes());
         let parser = rate(best(|| drop(black_box(parsed(black_box(&text))))));
-        let room = [Sample { x: 0.0, y: 0.0 }; LINES];
+        let room = [Sample::unweighted(0.0, 0.0); LINES];
         for (what, room) in [("judged", &room[..0]), ("judged and added", &room[..])] {
             let ported = rate(by_side(port, &call, 0, room));
             let plain = rate(by_side(&Judge, &call, 0, room));
@@ -280,7 +284,7 @@ pub fn run(port: &dyn Side) {
     }
     println!();
     for (count, [rust, c]) in COUNTS.iter().zip(further.withdrawals) {
-        println!("A withdrawal of {count} by a plain fold with powers once: {rust:.2} in Rust, {c:.2} in C");
+        println!("A weighted withdrawal of {count} by an unweighted plain fold with powers once: {rust:.2} in Rust, {c:.2} in C");
     }
     for pair in further.reports.windows(2) {
         let ((few, before), (many, after)) = (pair[0], pair[1]);
@@ -309,10 +313,11 @@ mod tests {
         }
     }
 
-    /// The plain folds have the bits of document 01's, so that what is timed is the same sums.
+    /// The plain folds have the bits of document 01's, so that what is timed is the same sums but for the weights.
     #[test]
     fn plain_fold_is_a_fold() {
         let samples = samples(100);
+        let samples: Vec<Sample> = samples.iter().map(|s| Sample::unweighted(s.x, s.y)).collect();
         let bits = |sums: &[f64]| sums.iter().map(|sum| sum.to_bits()).collect::<Vec<_>>();
         let folded = bits(&judge::sums::folded_afresh(&samples));
         assert_eq!(bits(&plain_fold(&samples)), folded);

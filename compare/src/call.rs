@@ -9,6 +9,7 @@ use judge::Sample;
 pub enum Poke {
     X { at: usize, value: f64 },
     Y { at: usize, value: f64 },
+    Weight { at: usize, value: f64 },
     Sums { at: usize, value: f64 },
 }
 

@@ -17,6 +17,7 @@ use crate::call::name;
 use crate::lines;
 use crate::replay;
 use crate::run::passes_nine;
+use crate::weights;
 
 /// One call, and what came of it.
 pub struct Seen<'a> {
@@ -43,10 +44,10 @@ pub struct Coverage {
 /// What each call may answer, besides being let through, in checking order.
 const REFUSALS: [(&str, &[u8]); 11] = [
     ("open", &[1]),
-    ("add", &[1, 4, 5]),
+    ("add", &[1, 4, 15, 5]),
     ("correct", &[1, 4, 6]),
     ("withdraw", &[1, 6]),
-    ("add_frame", &[1, 2, 3, 4, 5]),
+    ("add_frame", &[1, 2, 3, 4, 15, 5]),
     ("add_lines", &[1, 13, 14, 5]),
     ("fit", &[1, 4, 7, 8, 10]),
     ("report", &[1, 4, 7, 8, 11, 12]),
@@ -56,8 +57,9 @@ const REFUSALS: [(&str, &[u8]); 11] = [
 ];
 
 /// Pairs that cannot both hold: without samples no column value is below the count, and a bound is
-/// then 0.
-const IMPOSSIBLE_PAIRS: [(&str, u8, u8); 2] = [("fit", 4, 7), ("report", 7, 8)];
+/// then 0; a frame of neither version has no weights.
+const IMPOSSIBLE_PAIRS: [(&str, u8, u8); 3] =
+    [("fit", 4, 7), ("report", 7, 8), ("add_frame", 3, 15)];
 
 /// Calls that read the fit, each with the refusals that polyfit can speak of.
 const BY_REFERENCE: [(&str, &[u8]); 4] =
@@ -97,7 +99,7 @@ const LENGTHS: [(&str, &[&str]); 8] = [
 ];
 
 /// Everything else that must happen.
-const EVENTS: [&str; 63] = [
+const EVENTS: [&str; 64] = [
     "report: 11 with no degree solved",
     "report: 11 with degrees solved",
     "report: degree 0 unsolved, a higher one chosen",
@@ -158,6 +160,7 @@ const EVENTS: [&str; 63] = [
     "count: 4,096 in longer columns",
     "replay: a change answered",
     "replay: a change refused",
+    "replay: a change refused by 15",
     "replay: a report answered",
     "replay: a report refused",
     "replay: a report by size answered",
@@ -188,6 +191,7 @@ impl Coverage {
         keys.extend(COUNTS.map(|n| format!("samples: {n}")));
         keys.extend(EVENTS.map(String::from));
         keys.extend(lines::EVENTS.map(String::from));
+        keys.extend(weights::events());
         keys.extend((0..replay::WAYS).map(|way| format!("replay: too short in way {way}")));
         for (memory, calls) in LENGTHS {
             for call in calls {
@@ -241,6 +245,9 @@ impl Coverage {
                 self.note(event);
             }
         }
+        for event in weights::happened(seen) {
+            self.note(event);
+        }
         if passes_nine(&seen.answer) {
             self.note_reading(seen);
         }
@@ -255,6 +262,7 @@ impl Coverage {
         };
         let outcome = if let Answer::Refused(_) = answer { "refused" } else { "answered" };
         self.note(format!("replay: a {kind} {outcome}"));
+        self.note_if(*answer == Answer::Refused(15), "replay: a change refused by 15");
     }
 
     /// Buffers of a replay that are too short in this way.
@@ -304,9 +312,9 @@ impl Coverage {
     }
 
     fn note_counts(&mut self, seen: &Seen) {
-        let shorter = seen.lengths.x.min(seen.lengths.y);
-        self.note_if(seen.count > shorter, "count: above capacity");
-        let longer = shorter > 4096;
+        let shortest = seen.lengths.x.min(seen.lengths.y).min(seen.lengths.weight);
+        self.note_if(seen.count > shortest, "count: above capacity");
+        let longer = shortest > 4096;
         self.note_if(longer && seen.count > 4096, "count: above 4,096 in longer columns");
         self.note_if(longer && seen.count == 4096, "count: 4,096 in longer columns");
     }

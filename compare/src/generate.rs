@@ -14,6 +14,7 @@ use crate::call::{List, Poke, Step};
 use crate::lines;
 use crate::random::Random;
 use crate::samples::{self, Kind, Source};
+use crate::weights;
 
 /// A list in the making, with a ledger beside it to know the samples.
 struct Maker<'a> {
@@ -22,6 +23,7 @@ struct Maker<'a> {
     ledger: Ledger,
     x_length: usize,
     y_length: usize,
+    weight_length: usize,
     /// One call in so many gets a memory that is one place too short; 0 for none.
     short_one_in: usize,
 }
@@ -32,7 +34,7 @@ pub fn list(seed: u64, number: u64) -> List {
     let contents = random.next();
     let steps = match number % 64 {
         // Few, because 4,096 samples take long.
-        0 if number % 4096 == 64 => full(random),
+        0 if number % 4096 == 64 => full(random, 1 + (number / 4096 + 1) % 2),
         0 if number % 4096 == 1984 => full_of_lines(random),
         0..=5 => many_samples(random),
         6..=11 => interpolated(random),
@@ -46,6 +48,8 @@ pub fn list(seed: u64, number: u64) -> List {
         35 => beside_t_scores(random, 1 + (number / 64 % 31) as usize),
         36..=38 => written(random),
         39 => terms_of_either_sign(random),
+        40 | 41 => framed(random),
+        42 | 43 => weighed(random),
         _ => mixed(random),
     };
     List { contents, steps }
@@ -54,13 +58,12 @@ pub fn list(seed: u64, number: u64) -> List {
 impl<'a> Maker<'a> {
     fn new(random: &'a mut Random, capacity: usize) -> Self {
         let longer = random.pick(&[0, 0, 0, 1, 4]);
-        let (x_length, y_length) = match random.below(2) {
-            0 => (capacity, capacity + longer),
-            _ => (capacity + longer, capacity),
-        };
-        let ledger = Ledger::default();
+        let mut lengths = [capacity + longer; 3];
+        lengths[random.below(3)] = capacity;
+        let [x_length, y_length, weight_length] = lengths;
+        let (steps, ledger, short_one_in) = (Vec::new(), Ledger::default(), 0);
         let mut maker =
-            Self { random, steps: Vec::new(), ledger, x_length, y_length, short_one_in: 0 };
+            Self { random, steps, ledger, x_length, y_length, weight_length, short_one_in };
         maker.call(Call::Open);
         maker
     }
@@ -84,6 +87,7 @@ impl<'a> Maker<'a> {
             outlier: n + more(),
             x: self.x_length,
             y: self.y_length,
+            weight: self.weight_length,
         }
     }
 
@@ -104,7 +108,7 @@ impl<'a> Maker<'a> {
     fn follow(&mut self, lengths: &Lengths, call: &Call) {
         let _ = match call {
             Call::Open => self.ledger.open(lengths),
-            Call::Add(sample) => self.ledger.add(lengths, sample.x, sample.y),
+            Call::Add(sample) => self.ledger.add(lengths, *sample),
             Call::Correct { index, y } => self.ledger.correct(lengths, *index, *y),
             Call::Withdraw { index } => self.ledger.withdraw(lengths, *index),
             Call::AddFrame(bytes) => self.ledger.add_frame(lengths, bytes),
@@ -115,7 +119,8 @@ impl<'a> Maker<'a> {
 
     fn add_all(&mut self, samples: &[Sample]) {
         if samples.len() > 8 || self.random.one_in(2) {
-            self.call(Call::AddFrame(frame::encode(samples)));
+            let frame = weights::frame_of(self.random, samples);
+            self.call(Call::AddFrame(frame));
         } else {
             for &sample in samples {
                 self.call(Call::Add(sample));
@@ -138,7 +143,8 @@ impl<'a> Maker<'a> {
             7 | 8 => Call::Withdraw { index: index(random, n) },
             9 => {
                 let number = random.below(4);
-                Call::AddFrame(frame::encode(&source.take(random, number)))
+                let samples = source.take(random, number);
+                Call::AddFrame(weights::frame_of(random, &samples))
             }
             10 => {
                 let number = random.below(3);
@@ -148,7 +154,8 @@ impl<'a> Maker<'a> {
             }
             11 => {
                 let number = random.below(4);
-                Call::Reader(frame::encode(&source.take(random, number)))
+                let samples = source.take(random, number);
+                Call::Reader(weights::frame_of(random, &samples))
             }
             12 => {
                 let number = random.below(4);
@@ -172,12 +179,13 @@ fn index(random: &mut Random, n: usize) -> usize {
     }
 }
 
-/// The next sample, rarely with a part that is not finite.
+/// The next sample, rarely with a part that is not finite or a weight that is not above zero.
 fn spoil_sample(random: &mut Random, source: &mut Source) -> Sample {
     let sample = source.next(random);
     match random.below(50) {
         0 => Sample { x: arguments::not_finite(random), ..sample },
         1 => Sample { y: arguments::not_finite(random), ..sample },
+        2 => Sample { weight: weights::wrong(random), ..sample },
         _ => sample,
     }
 }
@@ -242,6 +250,76 @@ fn written(random: &mut Random) -> Vec<Step> {
         if n > 0 && maker.random.one_in(3) {
             let index = maker.random.below(n);
             maker.call(Call::Withdraw { index });
+        }
+    }
+    maker.steps
+}
+
+/// Frames of both versions and of none, with right and wrong lengths and weights.
+fn framed(random: &mut Random) -> Vec<Step> {
+    let capacity = random.pick(&[0, 1, 2, 4, 8, 12]);
+    let mut source = Source::new(random, capacity);
+    let mut maker = Maker::new(random, capacity);
+    maker.short_one_in = 40;
+    for _ in 0..maker.random.between(4, 10) {
+        let number = maker.random.below(5);
+        let mut samples = source.take(maker.random, number);
+        let bytes = match maker.random.below(4) {
+            0 => weights::frame_of(maker.random, &samples),
+            1 => weights::any_frame(maker.random),
+            _ => {
+                weights::spoil(maker.random, &mut samples);
+                frame::encode_weighted(&samples)
+            }
+        };
+        let call = maker.random.pick(&[Call::AddFrame, Call::AddFrame, Call::Reader])(bytes);
+        maker.call(call);
+        if maker.random.one_in(4) {
+            maker.read();
+        }
+    }
+    maker.steps
+}
+
+/// Wrong weights in adds, and weights that someone else writes: whoever reads judges them by 4 alone, a
+/// correction or a withdrawal not at all, and whatever is folded afresh takes them as they are.
+fn weighed(random: &mut Random) -> Vec<Step> {
+    let n = random.between(2, 9);
+    let kind = random.pick(&[Kind::SmallWhole, Kind::Density, Kind::EvenGrid, Kind::Unit]);
+    let mut source = Source::of_kind(random, kind, n);
+    let first = source.take(random, n);
+    let spare = random.pick(&[0, 1, 2]);
+    let mut maker = Maker::new(random, n + spare);
+    maker.add_all(&first);
+    for _ in 0..4 {
+        let mut sample = source.next(maker.random);
+        sample.weight = weights::wrong(maker.random);
+        maker.call(Call::Add(sample));
+        let count = maker.samples().len();
+        let (at, value) = match maker.random.below(4) {
+            0 => (maker.random.below(count + 1), arguments::not_finite(maker.random)),
+            1 => (count, arguments::not_finite(maker.random)),
+            _ => (maker.random.below(count + 1), weights::not_above_zero(maker.random)),
+        };
+        let poke = vec![Poke::Weight { at, value }];
+        let index = maker.random.below(count.max(1));
+        let y = source.next(maker.random).y;
+        let call = match maker.random.below(3) {
+            0 => Call::Withdraw { index },
+            1 => Call::Correct { index, y },
+            _ => arguments::reading(maker.random, &maker.ledger.samples),
+        };
+        maker.step(poke, call);
+        for _ in 0..2 {
+            maker.read();
+        }
+        if let (true, 1..) = (maker.random.one_in(2), maker.samples().len()) {
+            // A weight that is not finite is overwritten, so that readings pass again.
+            let at = maker.random.below(maker.samples().len());
+            let value = maker.random.pick(&[1.0, 2.0, 0.5]);
+            let call = Call::Withdraw { index: maker.samples().len() - 1 };
+            maker.step(vec![Poke::Weight { at, value }], call);
+            maker.read();
         }
     }
     maker.steps
@@ -323,7 +401,7 @@ fn terms_of_either_sign(random: &mut Random) -> Vec<Step> {
         ];
         for (xs, ys, degree, pokes) in lists {
             maker.call(Call::Open);
-            let of = |(&x, &y): (&f64, &f64)| Sample { x, y: sign * y };
+            let of = |(&x, &y): (&f64, &f64)| Sample::unweighted(x, sign * y);
             maker.add_all(&xs.iter().zip(ys).map(of).collect::<Vec<_>>());
             let (bound, confidence) = (DegreeBound::Custom(degree), Confidence::P95);
             for pruning in [PruningRule::Positive, PruningRule::Size] {
@@ -416,7 +494,7 @@ fn sums_pokes(places: &[(usize, f64)]) -> Vec<Poke> {
 fn line(maker: &mut Maker, n: usize) {
     for i in 0..n {
         let x = i as f64;
-        maker.call(Call::Add(Sample { x, y: 1.0 + 2.0 * x }));
+        maker.call(Call::Add(Sample::unweighted(x, 1.0 + 2.0 * x)));
     }
 }
 
@@ -503,15 +581,16 @@ fn refused_open(maker: &mut Maker) {
 fn column_poke(random: &mut Random, n: usize) -> Poke {
     // One past the count now and then, which no call may look at.
     let (at, value) = (random.below(n + 1), arguments::not_finite(random));
-    match random.below(2) {
+    match random.below(3) {
         0 => Poke::X { at, value },
-        _ => Poke::Y { at, value },
+        1 => Poke::Y { at, value },
+        _ => Poke::Weight { at, value },
     }
 }
 
 /// A count above capacity for the last call.
 fn spoil_count(maker: &mut Maker) {
-    let capacity = maker.x_length.min(maker.y_length);
+    let capacity = maker.x_length.min(maker.y_length).min(maker.weight_length);
     let count = capacity + maker.random.pick(&[1, 2, 4096, usize::MAX - 4096]);
     if let Some(step) = maker.steps.last_mut() {
         step.count = Some(count);
@@ -523,7 +602,10 @@ fn spoiled_call(random: &mut Random, source: &mut Source, samples: &[Sample]) ->
     let bad = arguments::not_finite(random);
     let or_bad = |random: &mut Random, value: f64| if random.one_in(2) { bad } else { value };
     match random.below(10) {
-        0 => Call::Add(Sample { x: or_bad(random, 1.0), y: or_bad(random, 2.0) }),
+        0 => {
+            let weight = random.pick(&[1.0, 2.0, bad, 0.0, -0.0, -1.0]);
+            Call::Add(Sample { x: or_bad(random, 1.0), y: or_bad(random, 2.0), weight })
+        }
         1 => Call::Correct { index: n + random.below(2), y: or_bad(random, 1.0) },
         2 => Call::Withdraw { index: n + random.below(2) },
         3 => Call::AddFrame(spoiled_frame(random, source)),
@@ -564,12 +646,12 @@ fn spoiled_settings(random: &mut Random, bad: f64) -> Settings {
 fn spoiled_frame(random: &mut Random, source: &mut Source) -> Vec<u8> {
     let number = random.below(4);
     let mut samples = source.take(random, number);
-    if let (Some(sample), true) = (samples.first_mut(), random.one_in(2)) {
-        sample.y = arguments::not_finite(random);
-    }
-    let mut bytes = frame::encode(&samples);
     if random.one_in(2) {
-        bytes[2] = random.pick(&[0, 2, 255]);
+        weights::spoil(random, &mut samples);
+    }
+    let mut bytes = weights::frame_of(random, &samples);
+    if random.one_in(2) {
+        bytes[2] = random.pick(&[0, 1, 2, 3, 255]);
     }
     if random.one_in(2) {
         bytes.push(0);
@@ -580,10 +662,10 @@ fn spoiled_frame(random: &mut Random, source: &mut Source) -> Vec<u8> {
 /// Columns longer than a book's 4,096, and counts about that.
 fn long_columns(random: &mut Random) -> Vec<Step> {
     let mut maker = Maker::new(random, 4100);
-    let sample = Sample { x: 1.0, y: 2.0 };
+    let sample = Sample { x: 1.0, y: 2.0, weight: 3.0 };
     let calls = [
         Call::Add(sample),
-        Call::AddFrame(frame::encode(&[sample])),
+        Call::AddFrame(frame::encode_weighted(&[sample])),
         Call::AddLines(b"1 2\n".to_vec()),
         Call::Correct { index: 0, y: 1.0 },
         Call::Withdraw { index: 4095 },
@@ -600,17 +682,22 @@ fn long_columns(random: &mut Random) -> Vec<Step> {
     maker.steps
 }
 
-/// A full book of 4,096 samples.
-fn full(random: &mut Random) -> Vec<Step> {
+/// A full book of 4,096 samples, by frames of the version, each with as many samples as it can hold.
+fn full(random: &mut Random, version: u64) -> Vec<Step> {
     let kind = random.pick(&[Kind::EvenGrid, Kind::Density, Kind::Unit, Kind::Offset]);
     let mut source = Source::of_kind(random, kind, 4096);
     let samples = source.take(random, 4096);
     let spare = random.pick(&[0, 3]);
     let mut maker = Maker::new(random, 4096 + spare);
-    maker.call(Call::AddFrame(frame::encode(&samples[..4095])));
+    if version == 1 {
+        maker.call(Call::AddFrame(frame::encode(&samples[..4095])));
+    } else {
+        maker.call(Call::AddFrame(frame::encode_weighted(&samples[..2730])));
+        maker.call(Call::AddFrame(frame::encode_weighted(&samples[2730..4095])));
+    }
     maker.call(Call::Add(samples[4095]));
     maker.call(Call::Add(samples[0]));
-    maker.call(Call::AddFrame(frame::encode(&samples[..1])));
+    maker.call(Call::AddFrame(frame::encode_weighted(&samples[..1])));
     let bounds = [DegreeBound::Relaxed, DegreeBound::Conservative, DegreeBound::Custom(2)];
     let bound = maker.random.pick(&bounds);
     let settings = Settings { bound, ..arguments::settings(maker.random) };

@@ -159,7 +159,7 @@ mod tests {
         let cubic = |x: f64| 350.0 + 120.0 * x - 40.0 * x * x + 9.0 * x * x * x;
         let samples: Vec<Sample> = (0..50)
             .map(|i| -1.0 + f64::from(i) / 25.0)
-            .map(|x| Sample { x, y: cubic(x) })
+            .map(|x| Sample::unweighted(x, cubic(x)))
             .collect();
         let found = fit(&samples, 3).unwrap().coefficients;
         for (have, want) in found.iter().zip([350.0, 120.0, -40.0, 9.0]) {

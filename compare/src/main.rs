@@ -27,6 +27,7 @@ mod shrink;
 #[cfg(test)]
 mod tests;
 mod text;
+mod weights;
 
 use std::process::ExitCode;
 use std::time::Instant;

@@ -34,6 +34,7 @@ pub fn filled(list: &List) -> Memory {
     let lengths = Lengths {
         x: longest(|l| l.x),
         y: longest(|l| l.y),
+        weight: longest(|l| l.weight),
         sums: longest(|l| l.sums),
         scratch: longest(|l| l.scratch),
         coefficients: longest(|l| l.coefficients),
@@ -52,6 +53,7 @@ pub fn filled_for(contents: u64, lengths: &Lengths) -> Memory {
     Memory {
         x: numbers(random, lengths.x),
         y: numbers(random, lengths.y),
+        weight: numbers(random, lengths.weight),
         sums: numbers(random, lengths.sums),
         scratch: numbers(random, lengths.scratch),
         coefficients: numbers(random, lengths.coefficients),
@@ -67,6 +69,7 @@ pub fn poke(memory: &mut Memory, poke: Poke) {
     let (places, at, value) = match poke {
         Poke::X { at, value } => (&mut memory.x, at, value),
         Poke::Y { at, value } => (&mut memory.y, at, value),
+        Poke::Weight { at, value } => (&mut memory.weight, at, value),
         Poke::Sums { at, value } => (&mut memory.sums, at, value),
     };
     if let Some(place) = places.get_mut(at) {
@@ -76,10 +79,11 @@ pub fn poke(memory: &mut Memory, poke: Poke) {
 
 /// The samples below the count, as far as the lent columns reach.
 pub fn samples(memory: &Memory, lengths: &Lengths, count: usize) -> Vec<Sample> {
-    if count > lengths.x.min(lengths.y) {
+    if count > lengths.x.min(lengths.y).min(lengths.weight) {
         return Vec::new();
     }
-    (0..count).map(|i| Sample { x: memory.x[i], y: memory.y[i] }).collect()
+    let sample = |i| Sample { x: memory.x[i], y: memory.y[i], weight: memory.weight[i] };
+    (0..count).map(sample).collect()
 }
 
 /// The first place where the two differ, NaNs as one value.

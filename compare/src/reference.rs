@@ -1,5 +1,5 @@
 //! polyfit itself. It folds its own sums, so it can be asked about calls on a ledger's sums that
-//! pass refusals 1 to 9, and answers them or refuses by 10, 11 or 12.
+//! pass refusals 1 to 9, 13 to 15 among them, and answers them or refuses by 10, 11 or 12.
 
 use polyfit::error::Error;
 use polyfit::score::{Aic, Bic, ModelScoreProvider};
@@ -13,6 +13,11 @@ use judge::Sample;
 type Data = Vec<(f64, f64)>;
 type Fit<'a> = MonomialFit<'a, f64>;
 type Covariance<'a> = CurveFitCovariance<'a, 'a, MonomialBasis<f64>, f64>;
+
+/// Makes a call with the samples' weights, which polyfit's pairs have no place for (patch 6).
+fn weighted<R>(samples: &[Sample], call: impl FnOnce() -> R) -> R {
+    polyfit::with_weights(samples.iter().map(|sample| sample.weight).collect(), call)
+}
 
 fn data_of(samples: &[Sample]) -> Data {
     samples.iter().map(|sample| (sample.x, sample.y)).collect()
@@ -71,7 +76,7 @@ fn covariance_of<'a>(fit: &'a Fit<'a>) -> Result<Covariance<'a>, u8> {
 /// `CurveFit::new`.
 pub fn fit(samples: &[Sample], degree: usize) -> Result<Vec<f64>, u8> {
     let data = data_of(samples);
-    let fit = fit_of(&data, degree)?;
+    let fit = weighted(samples, || fit_of(&data, degree))?;
     Ok(fit.coefficients().to_vec())
 }
 
@@ -86,17 +91,17 @@ pub fn scores(samples: &[Sample], bound: DegreeBound, criterion: Criterion) -> V
             Criterion::Bic => fit.model_score(&Bic),
         })
     };
-    (0..=bound).map(score_of).collect()
+    weighted(samples, || (0..=bound).map(score_of).collect())
 }
 
 /// `CurveFit::new_auto`, `covariance`, `solution_confidence`, `outliers`, `prune_insignificant`, by
 /// size the one of the patch. The number of solved degrees is not in polyfit; it is counted by
 /// `scores`.
 pub fn report(samples: &[Sample], settings: Settings) -> Result<Report, u8> {
-    match settings.criterion {
+    weighted(samples, || match settings.criterion {
         Criterion::Aic => report_by(&Aic, samples, settings),
         Criterion::Bic => report_by(&Bic, samples, settings),
-    }
+    })
 }
 
 fn report_by(
@@ -164,10 +169,10 @@ pub fn validate(
 ) -> Result<(usize, Vec<f64>), u8> {
     let data = data_of(samples);
     let (slice, bound) = (data.as_slice(), bound_of(bound));
-    let fit = match criterion {
+    let fit = weighted(samples, || match criterion {
         Criterion::Aic => Fit::new_kfold_cross_validated(slice, folds, bound, &Aic),
         Criterion::Bic => Fit::new_kfold_cross_validated(slice, folds, bound, &Bic),
-    };
+    });
     let fit = fit.map_err(|e| number_of(&e, 10))?;
     Ok((fit.degree(), fit.coefficients().to_vec()))
 }
@@ -180,8 +185,8 @@ pub fn band(
     tolerance: Tolerance,
 ) -> Result<Band, u8> {
     let data = data_of(samples);
-    let fit = fit_of(&data, degree)?;
-    let covariance = covariance_of(&fit)?;
+    let fit = weighted(samples, || fit_of(&data, degree))?;
+    let covariance = weighted(samples, || covariance_of(&fit))?;
     covariance
         .confidence_band(x, confidence_of(confidence), tolerance_of(tolerance))
         .map(|band| band_of(&band))

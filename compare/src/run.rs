@@ -26,6 +26,7 @@ struct LedgerState {
     ledger: Ledger,
     x: Vec<f64>,
     y: Vec<f64>,
+    weight: Vec<f64>,
 }
 
 struct Run<'a> {
@@ -121,7 +122,8 @@ impl Run<'_> {
     fn check_ledger(&mut self, step: &Step, answer: &Answer) -> Result<(), String> {
         if step.call == Call::Open && *answer == Answer::Book(0) {
             let (x, y) = (self.memory.x.clone(), self.memory.y.clone());
-            self.ledger_state = Some(LedgerState { ledger: Ledger::default(), x, y });
+            let (ledger, weight) = (Ledger::default(), self.memory.weight.clone());
+            self.ledger_state = Some(LedgerState { ledger, x, y, weight });
         }
         match &mut self.ledger_state {
             Some(ledger_state) => ledger_state.follow(step, answer, &self.memory),
@@ -136,7 +138,7 @@ impl LedgerState {
         let ledger = &mut self.ledger;
         let result = match &step.call {
             Call::Open => ledger.open(lengths),
-            Call::Add(sample) => ledger.add(lengths, sample.x, sample.y),
+            Call::Add(sample) => ledger.add(lengths, *sample),
             Call::Correct { index, y } => ledger.correct(lengths, *index, *y),
             Call::Withdraw { index } => ledger.withdraw(lengths, *index),
             Call::AddFrame(frame) => ledger.add_frame(lengths, frame),
@@ -159,10 +161,12 @@ impl LedgerState {
         for (i, sample) in self.ledger.samples.iter().enumerate() {
             self.x[i] = sample.x;
             self.y[i] = sample.y;
+            self.weight[i] = sample.weight;
         }
         let pairs = [
             ("ledger's x", &self.x[..], &memory.x[..]),
             ("ledger's y", &self.y[..], &memory.y[..]),
+            ("ledger's weights", &self.weight[..], &memory.weight[..]),
             ("ledger's sums", &self.ledger.sums()[..], &memory.sums[..PLACES]),
         ];
         let difference = pairs.iter().find_map(|(name, a, b)| first_difference(name, a, b));
@@ -206,7 +210,9 @@ fn same_answer(a: &Answer, b: &Answer) -> bool {
                 && same_number(*upper, *upper2)
         }
         (Answer::Samples(a), Answer::Samples(b)) => {
-            let same = |(a, b): (&Sample, &Sample)| same_number(a.x, b.x) && same_number(a.y, b.y);
+            let same = |(a, b): (&Sample, &Sample)| {
+                same_number(a.x, b.x) && same_number(a.y, b.y) && same_number(a.weight, b.weight)
+            };
             a.len() == b.len() && a.iter().zip(b).all(same)
         }
         _ => a == b,
@@ -374,13 +380,15 @@ fn copy_book_places(
     expected: &mut Memory,
     after: &Memory,
 ) {
+    // A weight is written where an x is.
     let (x, y, sums) = match call {
         Call::Open => (0..0, 0..0, 0..PLACES),
         Call::Correct { index, .. } => (0..0, *index..*index + 1, PLACES - TERMS..PLACES),
         Call::Withdraw { index } => (*index..new_count, *index..new_count, 0..PLACES),
         _ => (count..new_count, count..new_count, 0..PLACES),
     };
-    expected.x[x.clone()].copy_from_slice(&after.x[x]);
+    expected.x[x.clone()].copy_from_slice(&after.x[x.clone()]);
+    expected.weight[x.clone()].copy_from_slice(&after.weight[x]);
     expected.y[y.clone()].copy_from_slice(&after.y[y]);
     expected.sums[sums.clone()].copy_from_slice(&after.sums[sums]);
 }

@@ -7,6 +7,7 @@ use judge::sums::folded_afresh;
 use judge::Sample;
 
 use crate::random::Random;
+use crate::weights;
 
 /// The kinds of samples.
 #[derive(Debug, Clone, Copy, PartialEq)]
@@ -64,6 +65,7 @@ const KINDS: [Kind; 15] = [
 /// Makes samples of one kind, one after another.
 pub struct Source {
     kind: Kind,
+    weights: weights::Kind,
     /// Coefficients of a polynomial that some kinds follow.
     curve: [f64; 4],
     middle: f64,
@@ -86,7 +88,8 @@ impl Source {
         }
         let exponent = random.between(0, 24) as i32 - 12;
         let (middle, width) = (random.within(-30.0, 30.0), power_of_two(exponent));
-        Self { kind, curve, middle, width, n, made: 0 }
+        let weights = weights::Kind::pick(random);
+        Self { kind, weights, curve, middle, width, n, made: 0 }
     }
 
     fn on_curve(&self, x: f64) -> f64 {
@@ -130,7 +133,7 @@ impl Source {
             }
             Kind::Unit => (random.within(-1.0, 1.0), random.within(-1.0, 1.0)),
         };
-        Sample { x, y }
+        Sample { x, y, weight: self.weights.next(random) }
     }
 
     pub fn take(&mut self, random: &mut Random, n: usize) -> Vec<Sample> {
@@ -185,7 +188,7 @@ pub fn overflowing_mean(random: &mut Random) -> Vec<Sample> {
     let unit = random.sign() * power_of_two(1020);
     let x = random.sign() * 0.75;
     let pairs = [(-x, 15.0), (0.0, -15.0), (x, -6.0)];
-    pairs.iter().map(|&(x, y)| Sample { x, y: y * unit }).collect()
+    pairs.iter().map(|&(x, y)| Sample::unweighted(x, y * unit)).collect()
 }
 
 /// Seeds from which `at_pivot_edge` finds samples; about one in a hundred does.
@@ -211,7 +214,7 @@ fn at_pivot_edge(random: &mut Random) -> Option<(Vec<Sample>, usize)> {
         .collect();
     let ys: Vec<f64> = (0..n).map(|_| random.within(-1.0, 1.0)).collect();
     let shifted = |offset: f64| -> Vec<Sample> {
-        spread.iter().zip(&ys).map(|(x, &y)| Sample { x: x + offset, y }).collect()
+        spread.iter().zip(&ys).map(|(x, &y)| Sample::unweighted(x + offset, y)).collect()
     };
     let holds = |offset: f64| solve(&folded_afresh(&shifted(offset)), k).is_some();
     let (mut low, mut high) = (0.0, 64.0);

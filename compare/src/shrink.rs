@@ -83,7 +83,9 @@ fn simpler_numbers(v: f64) -> Vec<f64> {
 fn simpler_samples(sample: Sample) -> Vec<Sample> {
     let with_x = simpler_numbers(sample.x).into_iter().map(|x| Sample { x, ..sample });
     let with_y = simpler_numbers(sample.y).into_iter().map(|y| Sample { y, ..sample });
-    with_x.chain(with_y).collect()
+    let with_weight = simpler_numbers(sample.weight);
+    let with_weight = with_weight.into_iter().map(|weight| Sample { weight, ..sample });
+    with_x.chain(with_y).chain(with_weight).collect()
 }
 
 fn simpler_calls(call: &Call) -> Vec<Call> {
@@ -131,15 +133,16 @@ fn simpler_frames(bytes: &[u8]) -> Vec<Vec<u8>> {
         return Vec::new();
     }
     let samples = frame::samples(bytes);
+    let encode = if bytes[2] == 2 { frame::encode_weighted } else { frame::encode };
     let mut frames = Vec::new();
     for at in 0..samples.len() {
         let mut fewer = samples.clone();
         fewer.remove(at);
-        frames.push(frame::encode(&fewer));
+        frames.push(encode(&fewer));
         for simpler in simpler_samples(samples[at]) {
             let mut changed = samples.clone();
             changed[at] = simpler;
-            frames.push(frame::encode(&changed));
+            frames.push(encode(&changed));
         }
     }
     frames

@@ -21,6 +21,7 @@ fn again<'a>(lent: &'a mut Lent<'_>) -> Lent<'a> {
     Lent {
         x: lent.x,
         y: lent.y,
+        weight: lent.weight,
         sums: lent.sums,
         scratch: lent.scratch,
         coefficients: lent.coefficients,
@@ -118,6 +119,61 @@ fn withdrawal_by_subtraction() {
     });
     // Shrinking does not lower an index, so the adds below it stay.
     assert!(list.steps.len() <= 6, "{list:?}");
+}
+
+#[test]
+fn weight_kept_in_its_place_by_a_withdrawal() {
+    let list = found(|call, count, lent, _, answer| {
+        if let (Call::Withdraw { index }, Answer::Book(_)) = (call, &answer) {
+            // Only where the last sample but one goes: its weight stays, and the last one's is lost.
+            if *index + 2 == count {
+                lent.weight[*index] += 1.0;
+            }
+        }
+        answer
+    });
+    assert!(list.steps.len() <= 4, "{list:?}");
+}
+
+#[test]
+fn weight_1_after_a_correction() {
+    let list = found(|call, _, lent, _, answer| {
+        if let (Call::Correct { index, .. }, Answer::Book(_)) = (call, &answer) {
+            lent.weight[*index] = 1.0;
+        }
+        answer
+    });
+    assert!(list.steps.len() <= 3, "{list:?}");
+}
+
+#[test]
+fn not_above_zero_before_not_finite() {
+    let list = found(|call, _, _, _, answer| match (call, &answer) {
+        (Call::Add(sample), Answer::Refused(4)) if sample.weight <= 0.0 => Answer::Refused(15),
+        _ => answer,
+    });
+    assert_eq!(list.steps.len(), 1, "{list:?}");
+    // The first sample that is wrong decides, where all are due to be judged by 4 first.
+    let list = found(|call, _, _, _, answer| match (call, &answer) {
+        (Call::AddFrame(bytes), Answer::Refused(4)) => {
+            let zero = |sample: &judge::Sample| sample.weight <= 0.0 && sample.weight.is_finite();
+            let first = judge::frame::samples(bytes).first().map_or(false, zero);
+            Answer::Refused(if first { 15 } else { 4 })
+        }
+        _ => answer,
+    });
+    assert_eq!(list.steps.len(), 1, "{list:?}");
+}
+
+#[test]
+fn version_2_counted_by_16() {
+    let list = found(|call, _, _, _, answer| match (call, &answer) {
+        (Call::AddFrame(bytes), Answer::Refused(2)) if bytes.len() % 16 == 3 && bytes[2] == 2 => {
+            Answer::Refused(3)
+        }
+        _ => answer,
+    });
+    assert_eq!(list.steps.len(), 1, "{list:?}");
 }
 
 #[test]

@@ -84,6 +84,7 @@ impl Writer {
             let (name, index, value) = match poke {
                 Poke::X { at, value } => (Name::Xs, at, value),
                 Poke::Y { at, value } => (Name::Ys, at, value),
+                Poke::Weight { at, value } => (Name::Ws, at, value),
                 Poke::Sums { at, value } => (Name::Sums, at, value),
             };
             self.ask(Request::Put { name, index, value });
@@ -144,6 +145,7 @@ impl Writer {
             let rows = self.rows();
             self.show(Name::Xs, rows);
             self.show(Name::Ys, rows);
+            self.show(Name::Ws, rows);
             self.show(Name::Sums, PLACES + 1);
         }
     }
@@ -181,7 +183,8 @@ pub fn list_of(text: &[u8]) -> List {
 }
 
 fn zeros() -> Vec<Poke> {
-    let zeros = |at| [Name::Xs, Name::Ys, Name::Sums].map(|name| poke_of(name, at, 0.0));
+    let names = [Name::Xs, Name::Ys, Name::Ws, Name::Sums];
+    let zeros = |at| names.map(|name| poke_of(name, at, 0.0));
     (0..MEMORY).flat_map(zeros).flatten().collect()
 }
 
@@ -189,6 +192,7 @@ fn poke_of(name: Name, at: usize, value: f64) -> Option<Poke> {
     match name {
         Name::Xs => Some(Poke::X { at, value }),
         Name::Ys => Some(Poke::Y { at, value }),
+        Name::Ws => Some(Poke::Weight { at, value }),
         Name::Sums => Some(Poke::Sums { at, value }),
         _ => None,
     }
