@@ -1,5 +1,5 @@
 //! The lists of tests/ at the top of the repository: their answers are the judge's and the proved
-//! library's, and the lists of edges and of lines meet the edges that their comments name.
+//! library's, and the lists of edges, of lines and of weights meet the edges that their comments name.
 
 use std::path::PathBuf;
 use std::process::Command;
@@ -9,7 +9,7 @@ use journal::{run, Call, Journal, Judge, Port, Request, Side};
 use judge::fit::{self, Criterion};
 use judge::numbers::NAN_BITS;
 use judge::statistics::{huber_loss, median_absolute_deviation, HUBER_CONST};
-use judge::sums::folded_afresh;
+use judge::sums::{folded_afresh, powers, TERMS};
 use judge::Sample;
 
 const NEGATIVE_ZERO: u64 = 1 << 63;
@@ -27,7 +27,7 @@ fn printed(side: &dyn Side, name: &str) -> String {
 }
 
 fn check_answers(side: &dyn Side) {
-    for name in ["edges", "season", "lines", "fixed"] {
+    for name in ["edges", "season", "lines", "weights", "fixed"] {
         let answers = String::from_utf8(file(&format!("{name}.answers"))).unwrap();
         let printed = printed(side, name);
         for (number, (kept, new)) in answers.lines().zip(printed.lines()).enumerate() {
@@ -49,7 +49,7 @@ fn answers_are_the_librarys() {
 
 #[test]
 fn lists_are_as_made() {
-    for name in ["edges", "season", "lines"] {
+    for name in ["edges", "season", "lines", "weights"] {
         let made = Command::new(env!("CARGO_BIN_EXE_lists")).arg(name).output().unwrap();
         assert!(made.stdout == file(&format!("{name}.calls")), "{name}.calls");
     }
@@ -666,6 +666,307 @@ fn fields_of_lines() {
     ];
     let expected = expected.map(|(line, message)| (line.to_string(), message.to_string()));
     assert_eq!(messages, expected);
+}
+
+/// A part of the list of weights.
+fn weights(comment: &str) -> Edge {
+    part("weights.calls", comment)
+}
+
+/// The numbers of refusals, 0 for what was let through.
+fn numbers(answers: &[&str]) -> Vec<u32> {
+    let number = |answer: &&str| match answer.strip_prefix("refused ") {
+        Some(number) => number.parse().unwrap(),
+        None => 0,
+    };
+    answers.iter().map(number).collect()
+}
+
+#[test]
+fn weight_1_in_every_way() {
+    let added = weights("weight 1: by an add without");
+    assert_eq!(added.shown("ws")[0][..2], bits_of(&[1.0, 1.0]));
+    for way in ["an add with weight 1", "a frame of version 1", "a frame of version 2", "lines"] {
+        let other = weights(&format!("weight 1: by {way}"));
+        for name in ["xs", "ys", "ws"] {
+            assert_eq!(other.shown(name)[0][..2], added.shown(name)[0][..2], "{way}: {name}");
+        }
+        for name in ["sums", "coefficients", "errors", "pruned", "lower", "upper", "outliers"] {
+            assert_eq!(other.shown(name)[0], added.shown(name)[0], "{way}: {name}");
+        }
+        assert_eq!(other.of("report"), added.of("report"), "{way}");
+    }
+}
+
+/// The sums of a single sample, or of several, if the weight were multiplied into one factor first.
+fn grouped_otherwise(samples: &[Sample]) -> Vec<f64> {
+    let mut sums = vec![0.0; TERMS * TERMS + TERMS];
+    for sample in samples {
+        let row = powers(sample.x);
+        for i in 0..TERMS {
+            for j in 0..TERMS {
+                sums[TERMS * i + j] += row[i] * (row[j] * sample.weight);
+            }
+            sums[TERMS * TERMS + i] += row[i] * (sample.y * sample.weight);
+        }
+    }
+    sums
+}
+
+#[test]
+fn kinds_of_weights() {
+    let each = weights("kinds: one sample of each weight");
+    assert_eq!(each.of("add"), ["book 1"; 13]);
+    for ((ws, sums), sample) in each.shown("ws").iter().zip(each.shown("sums")).zip(each.samples())
+    {
+        assert_eq!((ws[0], sums[0]), (sample.weight.to_bits(), sample.weight.to_bits()));
+    }
+
+    let rounded = weights("kinds: the product of the powers first");
+    let (right, other) = (&rounded.shown("sums")[0], grouped_otherwise(&rounded.samples()));
+    assert_eq!(*right, bits_of(&folded_afresh(&rounded.samples())));
+    let differ = |places: std::ops::Range<usize>| right[places.clone()] != bits_of(&other[places]);
+    assert!(differ(0..256) && differ(256..272));
+
+    let (over, under) = (weights("kinds: it overflows"), weights("kinds: it underflows"));
+    for (edge, end) in [(over, f64::INFINITY), (under, 0.0)] {
+        let (sums, other) = (&edge.shown("sums")[0], grouped_otherwise(&edge.samples()));
+        for place in [17, 257] {
+            assert_eq!(sums[place], end.to_bits());
+            assert!(other[place].is_normal());
+        }
+    }
+}
+
+#[test]
+fn scales_of_weights() {
+    let four = weights("scales: four times");
+    let (terms, errors) = (four.shown("coefficients"), four.shown("errors"));
+    assert!(four.of("report").iter().all(|answer| answer.starts_with("report 1 ")));
+    assert_eq!(terms[0], terms[1]);
+    for j in 0..2 {
+        assert_eq!(f64::from_bits(errors[0][j]) / 2.0, f64::from_bits(errors[1][j]));
+    }
+    let two = weights("scales: a sample of weight 2");
+    assert_eq!(two.shown("sums")[0], two.shown("sums")[1]);
+    assert_eq!(two.shown("coefficients")[0], two.shown("coefficients")[1]);
+    assert!(two.shown("errors")[0] != two.shown("errors")[1]);
+}
+
+/// Ways to let a weight into a score: by the residual, by its root, by the loss, and by the loss over
+/// all weights.
+const WEIGHTED_SCORES: usize = 4;
+
+/// The score of some samples by a curve, with the weights let in.
+fn weighted_score(way: usize, samples: &[Sample], terms: &[f64], criterion: Criterion) -> f64 {
+    let residuals = fit::residuals(samples, terms);
+    let times = |weight: fn(f64) -> f64| -> Vec<f64> {
+        residuals.iter().zip(samples).map(|(r, sample)| r * weight(sample.weight)).collect()
+    };
+    let all: f64 = samples.iter().map(|sample| sample.weight).sum();
+    let losses = fit::losses(&residuals);
+    let total: f64 = losses.iter().zip(samples).map(|(loss, s)| loss * s.weight).sum();
+    let (n, k) = (samples.len() as f64, terms.len() as f64);
+    let mean = match way {
+        0 => return fit::score(criterion, &times(|weight| weight), terms.len()),
+        1 => return fit::score(criterion, &times(f64::sqrt), terms.len()),
+        2 => total / n,
+        _ => total / all,
+    };
+    // The score of these losses is that of the plain ones with another mean.
+    let plain = losses.iter().sum::<f64>() / n;
+    let logarithm = |mean: f64| n * mean.max(f64::EPSILON).ln();
+    fit::score(criterion, &residuals, k as usize) - logarithm(plain) + logarithm(mean)
+}
+
+fn at_weight_1(samples: &[Sample]) -> Vec<Sample> {
+    samples.iter().map(|sample| Sample::unweighted(sample.x, sample.y)).collect()
+}
+
+#[test]
+fn scores_see_no_weight() {
+    let edge = weights("unweighted: scores");
+    let samples = edge.samples();
+    assert!(edge.of("report").iter().all(|answer| answer.starts_with("report 1 3 ")));
+    for criterion in CRITERIA {
+        let plain = at_weight_1(&samples);
+        let unweighted = fit::scores(&plain, &folded_afresh(&plain), 2, criterion);
+        assert!(fit::chosen(&unweighted) != Some(1));
+        let sums = folded_afresh(&samples);
+        for way in 0..WEIGHTED_SCORES {
+            let score_of = |degree| {
+                let terms = fit::solved(&samples, &sums, degree)?;
+                Some(weighted_score(way, &samples, &terms, criterion))
+            };
+            let scores: Vec<Option<f64>> = (0..=2).map(score_of).collect();
+            assert!(fit::chosen(&scores) != Some(1), "{way}: {scores:?}");
+        }
+    }
+}
+
+#[test]
+fn folds_see_weights_in_sums_alone() {
+    let edge = weights("unweighted: in folds");
+    let samples = edge.samples();
+    assert_eq!(edge.of("validate"), ["fit 2", "fit 2"]);
+    let folds = fit::fold_ranges(samples.len(), 3);
+    for criterion in CRITERIA {
+        let unweighted = fit::scores_over(&folds, &at_weight_1(&samples), 2, criterion);
+        assert!(fit::chosen(&unweighted) != Some(2));
+        for way in 0..WEIGHTED_SCORES {
+            let mean_of = |degree| {
+                let score = |own: &std::ops::Range<usize>| {
+                    let others = [&samples[..own.start], &samples[own.end..]].concat();
+                    let terms = fit::solved(&samples, &folded_afresh(&others), degree)?;
+                    Some(weighted_score(way, &samples[own.clone()], &terms, criterion))
+                };
+                let solved: Vec<f64> = folds.iter().filter_map(score).collect();
+                (!solved.is_empty()).then(|| solved.iter().sum::<f64>() / solved.len() as f64)
+            };
+            let scores: Vec<Option<f64>> = (0..=2).map(mean_of).collect();
+            assert!(fit::chosen(&scores) != Some(2), "{way}: {scores:?}");
+        }
+    }
+}
+
+#[test]
+fn frames_of_both_versions() {
+    let two = weights("frames: of version 2");
+    assert_eq!(two.of("frame"), ["book 0", "book 1", "book 3"]);
+    let by_adds = weights("frames: the same by single adds");
+    for name in ["xs", "ys", "ws"] {
+        assert_eq!(two.shown(name)[0][..3], by_adds.shown(name)[0][..3], "{name}");
+    }
+    assert_eq!(two.shown("sums"), by_adds.shown("sums"));
+    let least = f64::from_bits(1);
+    assert_eq!(two.shown("ws")[0][..3], bits_of(&[3.0, 0.5, least]));
+    let both = weights("frames: of version 1 behind");
+    assert_eq!(both.of("frame"), ["book 4", "book 7", "book 9"]);
+    assert_eq!(both.shown("ws")[0][3..9], bits_of(&[1.0, 1.0, 1.0, 1.0, 3.0, 1.0]));
+
+    // By version 0, 1, 2, 3 and 255: 0, 8, 16, 24, 32, 40, 48, 72 and 96 bytes.
+    let lengths = weights("lengths: by 24");
+    let by_16 = [3, 2, 3, 2, 3, 2, 3, 2, 3];
+    let version_1 = by_16.map(|number| if number == 3 { 0 } else { number });
+    let version_2 = [0, 2, 2, 0, 2, 2, 0, 0, 0];
+    let expected = [by_16, version_1, version_2, by_16, by_16].concat();
+    assert_eq!(numbers(&lengths.of("frame")), expected);
+    assert_eq!(numbers(&weights("lengths: one that does not").of("frame")), [2; 7]);
+
+    let longest = weights("longest: ");
+    assert_eq!(longest.of("frame"), ["book 2730", "refused 5", "book 4096"]);
+    assert_eq!(numbers(&longest.of("add")), [5, 15]);
+}
+
+#[test]
+fn weights_are_kept_and_moved() {
+    let corrected = weights("corrections: the weight is kept");
+    assert_eq!(corrected.shown("ws")[0][..3], bits_of(&[2.0, 0.5, 4.0]));
+    let sums = &corrected.shown("sums")[0];
+    assert_eq!(
+        (sums[0], sums[255], sums[272]),
+        (77.0f64.to_bits(), NEGATIVE_ZERO, 79.0f64.to_bits())
+    );
+    // 1 × 2 + 4 × 0.5 + 5 × 4, and the same with x.
+    assert_eq!(sums[256..258], bits_of(&[24.0, 42.0]));
+    let unjudged = weights("corrections: no weight is judged");
+    assert_eq!(numbers(&unjudged.of("correct")), [0, 0, 0, 0, 0, 0, 0, 0, 4, 6]);
+
+    let gone = weights("withdrawals: weights move");
+    assert_eq!(gone.shown("ws")[0][..5], bits_of(&[2.0, 4.0, 0.125, 16.0, 16.0]));
+    assert_eq!(gone.shown("sums")[0][0], 22.125f64.to_bits());
+    let more = weights("withdrawals: the last one");
+    assert_eq!(more.shown("ws")[0][..5], bits_of(&[4.0, 0.125, 0.125, 16.0, 16.0]));
+    assert_eq!(more.shown("ws")[1][..5], bits_of(&[4.0, 0.125, 9.0, 16.0, 16.0]));
+    let leaves = weights("withdrawals: no weight is judged");
+    assert_eq!(leaves.of("fit"), ["refused 4", "refused 4", "fit 0"]);
+    assert_eq!(leaves.of("withdraw"), ["book 2", "book 1"]);
+}
+
+#[test]
+fn refusal_15_after_4_and_before_5() {
+    let adds = weights("refused adds: ");
+    let numbered = numbers(&adds.of("add"));
+    // The book's own sample; on full sums; on short ones; and with room.
+    let full = [4, 4, 4, 4, 4, 4, 4, 15, 15, 15, 15, 15, 5, 5];
+    assert_eq!((numbered[0], &numbered[1..15]), (0, &full[..]));
+    assert_eq!((&numbered[15..29], &numbered[29..]), (&[1; 14][..], &[15, 0][..]));
+
+    let frames = weights("refused frames: ");
+    let numbered = numbers(&frames.of("frame"));
+    let full = [4, 4, 4, 4, 4, 4, 4, 4, 15, 15, 15, 15, 5, 2, 2, 3, 3];
+    assert_eq!((&numbered[..17], &numbered[17..34]), (&full[..], &[1; 17][..]));
+    assert_eq!(numbered[34..], [15, 0]);
+    for name in ["xs", "ys", "ws"] {
+        assert_eq!(frames.shown(name)[0][0], frames.shown(name)[1][0]);
+    }
+    assert_eq!(frames.shown("ws")[1][..2], bits_of(&[2.0, 4.0]));
+    assert_eq!(frames.shown("sums")[0], bits_of(&[2.0, 0.0]));
+}
+
+#[test]
+fn the_shortest_of_three_columns() {
+    for name in ["xs", "ys", "ws"] {
+        let edge = weights(&format!("columns: {name} is the shortest"));
+        assert_eq!(numbers(&edge.of("add")), [0, 0, 5, 1, 5], "{name}");
+        assert_eq!(numbers(&edge.of("frame")), [5, 5, 0, 1], "{name}");
+        assert_eq!(numbers(&edge.of("lines")), [5, 1], "{name}");
+        assert_eq!(numbers(&edge.of("fit")), [0, 1], "{name}");
+        for call in ["correct", "withdraw", "report", "validate", "band"] {
+            assert!(edge.of(call).iter().all(|answer| *answer == "refused 1"), "{name}: {call}");
+        }
+    }
+    assert_eq!(numbers(&weights("columns: at most").of("add")), [5, 0, 1]);
+}
+
+#[test]
+fn weights_in_the_column() {
+    let reads = weights("reads: a weight below");
+    for call in ["fit", "report", "band"] {
+        assert_eq!(numbers(&reads.of(call)), [4, 4, 1, 1].repeat(3), "{call}");
+    }
+    // By both criteria.
+    assert_eq!(numbers(&reads.of("validate")), [4, 4, 4, 4, 1, 1, 1, 1].repeat(3));
+    let nobodys = weights("reads: at the count");
+    for call in ["fit", "report", "validate", "band"] {
+        assert!(nobodys.of(call).iter().all(|answer| !answer.starts_with("refused")), "{call}");
+    }
+    let read = weights("as they are: weights of 0");
+    for call in ["report", "validate", "band", "correct", "withdraw", "fit"] {
+        assert!(read.of(call).iter().all(|answer| !answer.starts_with("refused")), "{call}");
+    }
+    for (ws, weight) in read.shown("ws").iter().zip([0.0f64, -0.0, -0.25]) {
+        assert_eq!(ws[2], weight.to_bits());
+    }
+    let zeros = weights("as they are: columns put by hand");
+    assert_eq!(numbers(&zeros.of("fit")), [10, 0]);
+    assert!(zeros.shown("sums")[0].iter().all(|sum| *sum << 1 == 0));
+}
+
+#[test]
+fn fields_of_weights() {
+    let part = weights("fields: ");
+    let messages: Vec<&str> = part
+        .0
+        .iter()
+        .filter_map(|(_, printed)| Some(printed.strip_prefix("line ")?.split_once(": ")?.1))
+        .collect();
+    let expected = [
+        "field 4: not a float",
+        "field 4: not a float",
+        "field 4: not a float",
+        "field 5: one too many",
+        "field 5: one too many",
+        "field 2: not a name",
+        "field 4: missing",
+        "field 3: too large",
+        "field 3: too large",
+        "field 2: not a name",
+        "field 4: too large",
+        "field 2: not a name",
+    ];
+    assert_eq!(messages, expected);
+    assert_eq!(part.shown("ws")[0], [0.75f64.to_bits(), NAN_BITS]);
 }
 
 #[test]

@@ -217,7 +217,7 @@ impl Book {
     ///
     /// Residuals, scores, the variance and tolerances don't see the weight. Errors and bands see it
     /// in the sums alone, so that its size counts: four times all weights leave the curve where it
-    /// is and halve its errors. Take 1 for a plain sample.
+    /// is and halve its errors, as long as they are large beside 2⁻⁵². Take 1 for a plain sample.
     pub fn add_weighted(&mut self, x: f64, y: f64, weight: f64) -> Result<(), Refusal> {
         let answer =
             lend!(stakebook_add(self.count, x, y, weight; self.xs, self.ys, self.ws, self.sums));

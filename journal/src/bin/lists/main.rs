@@ -3,11 +3,13 @@
 //! `lists edges`: the edges of document 01, each headed by a comment that names it.
 //! `lists season`: a season of a field group, with every malformed line and document 01's refusals.
 //! `lists lines`: readings as written in the field book, document 02's E1.
+//! `lists weights`: weighted samples, document 02's E5.
 
 mod edges;
 mod lines;
 mod list;
 mod season;
+mod weights;
 
 use std::process::ExitCode;
 
@@ -16,8 +18,9 @@ fn main() -> ExitCode {
         Some("edges") => edges::edges(),
         Some("season") => season::season(),
         Some("lines") => lines::lines(),
+        Some("weights") => weights::weights(),
         _ => {
-            eprintln!("lists edges, lists season, or lists lines");
+            eprintln!("lists edges, lists season, lists lines, or lists weights");
             return ExitCode::FAILURE;
         }
     };
