@@ -17,6 +17,7 @@ use crate::call::name;
 use crate::lines;
 use crate::replay;
 use crate::run::passes_nine;
+use crate::two_column;
 use crate::weights;
 
 /// One call, and what came of it.
@@ -192,6 +193,12 @@ impl Coverage {
         keys.extend(EVENTS.map(String::from));
         keys.extend(lines::EVENTS.map(String::from));
         keys.extend(weights::events());
+        keys.extend(two_column::EVENTS.map(String::from));
+        for (call, numbers) in two_column::REFUSALS {
+            keys.push(format!("two columns: {call} answered"));
+            let refused = |number| format!("two columns: {call} refused by {number}");
+            keys.extend(numbers.iter().map(refused));
+        }
         keys.extend((0..replay::WAYS).map(|way| format!("replay: too short in way {way}")));
         for (memory, calls) in LENGTHS {
             for call in calls {
@@ -263,6 +270,20 @@ impl Coverage {
         let outcome = if let Answer::Refused(_) = answer { "refused" } else { "answered" };
         self.note(format!("replay: a {kind} {outcome}"));
         self.note_if(*answer == Answer::Refused(15), "replay: a change refused by 15");
+    }
+
+    /// A call on a book of two columns; whether it was a frame of version 2, and whether the book is now
+    /// above what the weight column would hold.
+    pub fn note_two_column(&mut self, call: &str, answer: &Answer, version_2: bool, past: bool) {
+        let outcome = match answer {
+            Answer::Refused(number) => format!("refused by {number}"),
+            _ => "answered".to_string(),
+        };
+        self.note(format!("two columns: {call} {outcome}"));
+        if version_2 {
+            self.note(format!("two columns: a frame of version 2 {outcome}"));
+        }
+        self.note_if(past, "two columns: room past the weight column used");
     }
 
     /// Buffers of a replay that are too short in this way.

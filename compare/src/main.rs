@@ -27,6 +27,7 @@ mod shrink;
 #[cfg(test)]
 mod tests;
 mod text;
+mod two_column;
 mod weights;
 
 use std::process::ExitCode;

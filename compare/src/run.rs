@@ -1,5 +1,6 @@
 //! Runs a list of calls: the judge on its own memory, and beside it the plain ledger, polyfit, and
-//! every other side on memory of its own; then its calls as one replay. Ends at the first difference.
+//! every other side on memory of its own; then its calls as one replay, and its changes on a book of two
+//! columns. Ends at the first difference.
 
 use journal::{Answer, Buffers, Call, Judge, Memory, Side};
 use judge::book::answer_of;
@@ -12,7 +13,7 @@ use judge::Sample;
 use crate::call::{conditions, List, Step};
 use crate::coverage::{Coverage, Seen};
 use crate::memory::{difference, filled, first_difference, poke, samples};
-use crate::{lines, reference, replay};
+use crate::{lines, reference, replay, two_column};
 
 /// Where two sides differ.
 #[derive(Debug, Clone)]
@@ -46,7 +47,9 @@ pub fn run(list: &List, others: &[&dyn Side], coverage: &mut Coverage) -> Result
         run.step(step, coverage).map_err(|what| Difference { step: at, what })?;
     }
     let past = list.steps.len();
-    replay::check(list, Buffers::replay, coverage).map_err(|what| Difference { step: past, what })
+    let at_end = |what| Difference { step: past, what };
+    replay::check(list, Buffers::replay, coverage).map_err(at_end)?;
+    two_column::check(list, two_column::port, coverage).map_err(at_end)
 }
 
 impl Run<'_> {

@@ -10,6 +10,7 @@ use crate::replay::{self, Replays};
 use crate::run::run;
 use crate::shrink::shrink;
 use crate::text;
+use crate::two_column;
 
 /// What a faulty side does after the judge's call: it may change the memory and the answer.
 type Fault = fn(&Call, usize, &mut Lent, &[f64], Answer) -> Answer;
@@ -256,6 +257,40 @@ fn faults_of_a_replay() {
     }));
     // Buffers that are too short are not told.
     assert!(found(|buffers| buffers.replay().or(Some(0))));
+}
+
+#[test]
+fn faults_of_two_columns() {
+    let found = |calls: two_column::Calls| {
+        let fails = |number| {
+            let list = generate::list(7, number);
+            two_column::check(&list, calls, &mut Coverage::default()).is_err()
+        };
+        (1..400).any(fails)
+    };
+    assert!(!found(two_column::port));
+    // A frame of version 2 is let through.
+    assert!(found(|call, count, lent| match call {
+        Call::AddFrame(frame) if frame.get(2) == Some(&2) => {
+            let read = judge::frame::samples(frame);
+            two_column::port(&Call::AddFrame(judge::frame::encode(&read)), count, lent)
+        }
+        _ => two_column::port(call, count, lent),
+    }));
+    // A weight is judged.
+    assert!(found(|call, count, lent| match call {
+        Call::Add(sample) if sample.weight <= 0.0 => Some(Answer::Refused(15)),
+        _ => two_column::port(call, count, lent),
+    }));
+    // The vacated last place is cleared.
+    assert!(found(|call, count, lent| {
+        let (x, y, sums) = (&mut *lent.x, &mut *lent.y, &mut *lent.sums);
+        let answer = two_column::port(call, count, two_column::Lent { x, y, sums });
+        if let (Call::Withdraw { .. }, Some(Answer::Book(new))) = (call, &answer) {
+            lent.y[*new] = 0.0;
+        }
+        answer
+    }));
 }
 
 /// Every list is the same when made again, and so is its run.

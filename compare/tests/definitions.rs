@@ -5,6 +5,7 @@ use judge::statistics as ours;
 use judge::statistics::{Confidence, DegreeBound};
 use nalgebra::{ComplexField, RealField};
 use polyfit::statistics as theirs;
+use polyfit::{with_weights, MonomialFit};
 
 /// xorshift64 (Marsaglia), with a fixed seed.
 struct Random(u64);
@@ -124,6 +125,19 @@ fn power_and_maximum_of_the_shim() {
         assert_eq!(bits(maximum(v, w)), bits(RealField::max(v, w)));
         assert_eq!(bits(maximum(w, v)), bits(RealField::max(w, v)));
     }
+}
+
+/// The weights reach the sums of a call that is made with them, and of no other.
+#[test]
+fn weights_of_the_shim() {
+    let data = [(0.0, 1.0), (0.0, 4.0)];
+    let mean = || MonomialFit::new(&data[..], 0).unwrap().coefficients()[0];
+    assert_eq!(mean(), 2.5);
+    assert_eq!(with_weights(vec![1.0, 2.0], mean), 3.0);
+    assert_eq!(with_weights(vec![1.0, 2.0], || with_weights(vec![2.0, 1.0], mean)), 2.0);
+    assert_eq!(mean(), 2.5);
+    assert!(std::panic::catch_unwind(|| with_weights(vec![1.0], mean)).is_err());
+    assert_eq!(mean(), 2.5);
 }
 
 #[test]
