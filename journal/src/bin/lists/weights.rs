@@ -449,8 +449,8 @@ fn refused_frames(list: &mut List) {
         // 4, wherever it stands
         ("003102", pair(H_0, H_NAN)),
         ("003102", pair(H_NAN, H_0)),
-        ("003102", pair(H_LESS_1, H_INFINITE)),
-        ("003102", pair(H_LESS_INFINITE, H_1)),
+        ("003102", pair(H_1, H_INFINITE)),
+        ("003102", pair(H_NAN, H_1)),
         ("003102", pair(H_1, H_LESS_INFINITE)),
         ("003102", [H_1, H_2, H_0, H_NAN, H_2, H_1]),
         ("003102", [H_1, H_2, H_0, H_1, H_INFINITE, H_1]),
