@@ -32,6 +32,26 @@ FAULTS = [
     ("a last line without its newline", "lines.rs", 'line.strip_suffix(b"\\n")?;', 'line.strip_suffix(b"\\n").unwrap_or(line);'),
     ("14 before 13 within a line", "refusals.rs", "conditions.push((13, lines::malformed(line)));",
      "conditions.push((14, lines::too_many_digits(line))); conditions.push((13, lines::malformed(line)));"),
+    ("A: the weight into one factor first", "sums.rs", "(row[i] * row[j]) * sample.weight", "row[i] * (row[j] * sample.weight)"),
+    ("g: the weight into one factor first", "sums.rs", "(row[i] * sample.y) * sample.weight", "row[i] * (sample.y * sample.weight)"),
+    ("A without weights", "sums.rs", "(row[i] * row[j]) * sample.weight", "row[i] * row[j]"),
+    ("weights in the residuals", "fit.rs", "|sample| sample.y - fitted(coefficients, sample.x)", "|sample| (sample.y - fitted(coefficients, sample.x)) * sample.weight"),
+    ("a validation's folds without weights", "fit.rs", "sums_of_others.push(folded_afresh(&others));",
+     "let others: Vec<Sample> = others.iter().map(|s| Sample { weight: 1.0, ..*s }).collect(); sums_of_others.push(folded_afresh(&others));"),
+    ("15 before 4 in an add", "refusals.rs", "(4, any_not_finite(&[sample])),", "(15, any_not_above_zero(&[sample])), (4, any_not_finite(&[sample])),"),
+    ("15 before 4 in a frame", "refusals.rs", "(4, any_not_finite(&samples)),", "(15, any_not_above_zero(&samples)), (4, any_not_finite(&samples)),"),
+    ("0 let through", "refusals.rs", "sample.weight > 0.0", "sample.weight >= 0.0"),
+    ("subnormal weights refused", "refusals.rs", "sample.weight > 0.0", "sample.weight >= f64::MIN_POSITIVE"),
+    ("a weight not finite let through beside others", "refusals.rs", "is_finite(s.y) && is_finite(s.weight)", "is_finite(s.y) && (is_finite(s.weight) || samples.len() > 1)"),
+    ("a correction that resets the weight", "book.rs", "memory.y[index] = y;", "memory.y[index] = y; memory.weight[index] = 1.0;"),
+    ("a withdrawal that leaves the weights", "book.rs", "memory.put(i, sample);\n    }\n    sums::fold", "let weight = memory.weight[i]; memory.put(i, Sample { weight, ..sample });\n    }\n    sums::fold"),
+    ("version 2 counted by 16", "frame.rs", "length % bytes_a_sample(frame[2]) != 1", "length % UNWEIGHTED != 1"),
+    ("version 3 counted by 24", "frame.rs", "if version == 2 {", "if version >= 2 {"),
+    ("version 3 let through", "frame.rs", "frame[2] != 1 && frame[2] != 2", "frame[2] != 1 && frame[2] != 2 && frame[2] != 3"),
+    ("version 1 at weight 2", "frame.rs", "if frame[2] == 2 { number_at(frame, at + 16) } else { 1.0 }", "if frame[2] == 2 { number_at(frame, at + 16) } else { 2.0 }"),
+    ("capacity by two columns", "refusals.rs", "lengths.x.min(lengths.y).min(lengths.weight)", "lengths.x.min(lengths.y)"),
+    ("two columns: version 2 let through", "two_column.rs", "refuse_if(frame[2] != 1, 3)?;", "refuse_if(frame[2] != 1 && frame[2] != 2, 3)?;"),
+    ("two columns: a correction that folds A", "two_column.rs", "memory.sums[G..PLACES].fill(0.0);", "memory.sums[..PLACES].fill(0.0); for i in 0..count { memory.add_to_a(memory.x[i]); }"),
 ]
 
 
@@ -53,7 +73,9 @@ def main():
             start = time.monotonic()
             run = subprocess.run(["target-rust/release/compare", "--seed", "1", "--calls", calls], cwd=copy, capture_output=True, text=True)
             found = re.search(r"list (\d+): DIFFERENCE", run.stdout)
-            at = found.group(1) if found else "not found"
+            # A fault may also show where the comparison reads what the judge should have refused.
+            stopped = "a panic" if run.returncode not in (0, 1) else "not found"
+            at = found.group(1) if found else stopped
             print(f"| {name} | {at} | {time.monotonic() - start:.1f} |", flush=True)
             path.write_text(text)
 
