@@ -312,7 +312,7 @@ fn file(name: &str) -> Vec<u8> {
 
 /// Runs a text's calls, beside the ledger, polyfit and the port, and answers what never happened of what is
 /// asked for.
-fn missing_in(name: &str, asked: fn(&str) -> bool) -> Vec<String> {
+fn missing_in(name: &str, asked: impl Fn(&str) -> bool) -> Vec<String> {
     let mut coverage = Coverage::default();
     let outcome = run(&text::list_of(&file(name)), &[&Port], &mut coverage);
     assert!(outcome.is_ok(), "{name}: {outcome:?}");
@@ -323,11 +323,18 @@ fn missing_in(name: &str, asked: fn(&str) -> bool) -> Vec<String> {
 #[test]
 fn texts_are_judged() {
     missing_in("edges.calls", |_| false);
-    // Every refusal of every call but lines, and every pair in order. A text has no reader.
-    let missing = missing_in("season.calls", |key| {
+    // Every refusal of every call but lines, and every pair in order. A text has no reader. 15 is met with
+    // the weights.
+    let refusal = |key: &str| {
         let refusal = key.contains(" before ") || key.contains(": refused by ");
         let elsewhere = key.starts_with("reader") || key.starts_with("add_lines");
         refusal && !elsewhere && !key.contains("by polyfit")
+    };
+    let missing = missing_in("season.calls", |key| refusal(key) && !key.contains("15"));
+    assert!(missing.is_empty(), "{missing:?}");
+    let missing = missing_in("weights.calls", |key| {
+        let weights = key.starts_with("weights") || key.starts_with("frames: add_frame");
+        weights || refusal(key) && key.contains("15")
     });
     assert!(missing.is_empty(), "{missing:?}");
     // The same of lines, and all that must happen with them.
@@ -345,5 +352,5 @@ fn texts_are_judged() {
 
 #[test]
 fn fixed_list_is_as_made() {
-    assert!(text::write(34, 3000).as_bytes() == file("fixed.calls"));
+    assert!(text::write(5, 3000).as_bytes() == file("fixed.calls"));
 }
