@@ -1,5 +1,6 @@
 #!/usr/bin/env bash
-# The C interface: the static library, the C example against the judge's answers, and the Rust wrapper's tests.
+# The C interface: the static library, the C example against the judge's answers, checks in C of what no list of calls reaches (frames read sample by
+# sample, a replay, the calls of two columns), and the Rust wrapper's tests.
 set -euo pipefail
 cd "$(dirname "$0")/.."
 rt staticlib capi | tail -n 1
@@ -9,5 +10,6 @@ cargo run --release --quiet -p journal -- --judge < examples/c/season.calls | cm
 make --silent --always-make -C examples/c
 target/season | cmp - examples/c/season.answers
 echo "C example: as the judge"
+target/interface
 
 cargo test --release --quiet -p stakebook-rs

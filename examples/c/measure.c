@@ -12,13 +12,13 @@
 
 #define ROOM STAKEBOOK_MOST
 
-static double xs[ROOM], ys[ROOM], sums[STAKEBOOK_SUMS], scratch[ROOM], numbers[STAKEBOOK_BAND];
+static double xs[ROOM], ys[ROOM], ws[ROOM], sums[STAKEBOOK_SUMS], scratch[ROOM], numbers[STAKEBOOK_BAND], sample[STAKEBOOK_SAMPLE];
 static double coefficients[STAKEBOOK_TERMS], errors[STAKEBOOK_TERMS], lower[ROOM], upper[ROOM];
-static uint8_t pruned[STAKEBOOK_TERMS], outliers[ROOM], frame[3 + 16 * 4095], text[11 * ROOM];
+static uint8_t pruned[STAKEBOOK_TERMS], outliers[ROOM], frame[3 + 16 * 4095], weighted[3 + 24 * 2730], text[11 * ROOM];
 static size_t count;
 
 static uint64_t add(double x, double y) {
-    uint64_t answer = stakebook_add(count, x, y, xs, ROOM, ys, ROOM, sums, STAKEBOOK_SUMS);
+    uint64_t answer = stakebook_add(count, x, y, 1, xs, ROOM, ys, ROOM, ws, ROOM, sums, STAKEBOOK_SUMS);
     if (stakebook_refusal(answer) == 0) count = stakebook_count(answer);
     return answer;
 }
@@ -26,23 +26,26 @@ static uint64_t add(double x, double y) {
 static void opened(void) { count = stakebook_count(stakebook_open(sums, STAKEBOOK_SUMS)); }
 
 static uint64_t fit(size_t degree) {
-    return stakebook_fit(count, degree, xs, ROOM, ys, ROOM, sums, STAKEBOOK_SUMS, scratch, ROOM, coefficients, STAKEBOOK_TERMS);
+    return stakebook_fit(count, degree, xs, ROOM, ys, ROOM, ws, ROOM, sums, STAKEBOOK_SUMS, scratch, ROOM, coefficients, STAKEBOOK_TERMS);
 }
 
 static uint64_t validate(size_t folds, size_t most) {
-    return stakebook_validate(count, folds, STAKEBOOK_CUSTOM_DEGREE, most, STAKEBOOK_AIC, xs, ROOM, ys, ROOM, sums, STAKEBOOK_SUMS, scratch, ROOM,
+    return stakebook_validate(count, folds, STAKEBOOK_CUSTOM_DEGREE, most, STAKEBOOK_AIC, xs, ROOM, ys, ROOM, ws, ROOM, sums, STAKEBOOK_SUMS, scratch, ROOM,
                               coefficients, STAKEBOOK_TERMS);
 }
 
 static uint64_t band(size_t degree) {
-    return stakebook_band(count, xs[count / 2], degree, STAKEBOOK_P95, 0, STAKEBOOK_VARIANCE, 0.1, xs, ROOM, ys, ROOM, sums, STAKEBOOK_SUMS, scratch,
+    return stakebook_band(count, xs[count / 2], degree, STAKEBOOK_P95, 0, STAKEBOOK_VARIANCE, 0.1, xs, ROOM, ys, ROOM, ws, ROOM, sums, STAKEBOOK_SUMS, scratch,
                           ROOM, numbers, STAKEBOOK_BAND);
 }
 
+/* what a report is lent */
+#define LENT                                                                                                                                          \
+    xs, ROOM, ys, ROOM, ws, ROOM, sums, STAKEBOOK_SUMS, scratch, ROOM, coefficients, STAKEBOOK_TERMS, errors, STAKEBOOK_TERMS, pruned, STAKEBOOK_TERMS, \
+        lower, ROOM, upper, ROOM, outliers, ROOM
+
 static uint64_t report(uint32_t bound, size_t most, uint32_t tolerance, double value) {
-    return stakebook_report(count, bound, most, STAKEBOOK_AIC, STAKEBOOK_P95, 0, tolerance, value, xs, ROOM, ys, ROOM, sums, STAKEBOOK_SUMS,
-                            scratch, ROOM, coefficients, STAKEBOOK_TERMS, errors, STAKEBOOK_TERMS, pruned, STAKEBOOK_TERMS, lower, ROOM, upper, ROOM,
-                            outliers, ROOM);
+    return stakebook_report(count, bound, most, STAKEBOOK_AIC, STAKEBOOK_P95, 0, tolerance, value, LENT);
 }
 
 /* ---- readings */
@@ -111,16 +114,23 @@ static void show_unsolved(const char *name, size_t n, double first, double last)
 
 static void nothing(void) {}
 static void one_open(void) { stakebook_open(sums, STAKEBOOK_SUMS); }
-static void one_add(void) { stakebook_add(count - 1, 0.5, 1, xs, ROOM, ys, ROOM, sums, STAKEBOOK_SUMS); }
-static void one_correct(void) { stakebook_correct(count, 0, 1, xs, ROOM, ys, ROOM, sums, STAKEBOOK_SUMS); }
-static void one_withdraw(void) { stakebook_withdraw(count, 0, xs, ROOM, ys, ROOM, sums, STAKEBOOK_SUMS); }
-static void one_frame(void) { stakebook_add_frame(0, frame, sizeof frame, xs, ROOM, ys, ROOM, sums, STAKEBOOK_SUMS); }
-static void one_text(void) { stakebook_add_lines(0, text, sizeof text, xs, ROOM, ys, ROOM, sums, STAKEBOOK_SUMS); }
+static void one_add(void) { stakebook_add(count - 1, 0.5, 1, 0.3, xs, ROOM, ys, ROOM, ws, ROOM, sums, STAKEBOOK_SUMS); }
+static void one_correct(void) { stakebook_correct(count, 0, 1, xs, ROOM, ys, ROOM, ws, ROOM, sums, STAKEBOOK_SUMS); }
+static void two_column_withdraw(void) { stakebook_two_column_withdraw(count, 0, xs, ROOM, ys, ROOM, sums, STAKEBOOK_SUMS); }
+static void one_withdraw(void) { stakebook_withdraw(count, 0, xs, ROOM, ys, ROOM, ws, ROOM, sums, STAKEBOOK_SUMS); }
+static void one_frame(void) { stakebook_add_frame(0, frame, sizeof frame, xs, ROOM, ys, ROOM, ws, ROOM, sums, STAKEBOOK_SUMS); }
+static void one_weighted(void) { stakebook_add_frame(0, weighted, sizeof weighted, xs, ROOM, ys, ROOM, ws, ROOM, sums, STAKEBOOK_SUMS); }
+static void one_text(void) { stakebook_add_lines(0, text, sizeof text, xs, ROOM, ys, ROOM, ws, ROOM, sums, STAKEBOOK_SUMS); }
 static void one_fit(void) { fit(15); }
 static void one_band(void) { band(15); }
 static void one_report(void) { report(STAKEBOOK_CUSTOM_DEGREE, 15, STAKEBOOK_VARIANCE, 0.1); }
+static void one_report_by(void) {
+    static const uint32_t settings[] = {STAKEBOOK_CUSTOM_DEGREE, 15, STAKEBOOK_AIC, STAKEBOOK_P95, STAKEBOOK_VARIANCE, STAKEBOOK_BY_SIZE};
+    static const double values[] = {0, 0.1};
+    stakebook_report_by(count, settings, 6, values, 2, LENT);
+}
 static void one_reader(void) { stakebook_reader(frame, sizeof frame); }
-static void one_next(void) { stakebook_next(frame, sizeof frame, 3, numbers, STAKEBOOK_SAMPLE); }
+static void one_next(void) { stakebook_next(weighted, sizeof weighted, 3, sample, STAKEBOOK_SAMPLE); }
 static void ten_folds(void) { validate(10, 15); }
 static void all_folds_3(void) { validate(ROOM, 3); }
 static void all_folds_15(void) { validate(ROOM, 15); }
@@ -129,21 +139,25 @@ static void all_folds_15(void) { validate(ROOM, 15); }
 #define CALLS 17
 static uint32_t kinds[5 * CALLS];
 static size_t words[9 * CALLS], results[5 * CALLS];
-static double given[4 * CALLS], replayed_c[CALLS * CALLS], replayed_e[CALLS * CALLS];
+static double given[5 * CALLS], replayed_c[CALLS * CALLS], replayed_e[CALLS * CALLS];
 static uint8_t replayed_p[CALLS * CALLS];
 
 static void listed(void) {
-    for (size_t k = 0; k < 16; k++) given[4 * k] = given[4 * k + 1] = (double)k / 8 - 1;
+    for (size_t k = 0; k < 16; k++) {
+        given[5 * k] = given[5 * k + 1] = (double)k / 8 - 1;
+        given[5 * k + 2] = 1;
+    }
     const uint32_t kind[5] = {3, STAKEBOOK_CUSTOM_DEGREE, STAKEBOOK_AIC, STAKEBOOK_P95, STAKEBOOK_VARIANCE};
     memcpy(kinds + 5 * 16, kind, sizeof kind);
     const size_t word[9] = {0, 15, 16, 16, 16, 16, 16, 16, 16};
     memcpy(words + 9 * 16, word, sizeof word);
-    given[4 * 16 + 3] = 0.1;
+    given[5 * 16 + 4] = 0.1;
 }
 
 static void one_replay(void) {
-    stakebook_replay(kinds, 5 * CALLS, words, 9 * CALLS, given, 4 * CALLS, CALLS, xs, ROOM, ys, ROOM, sums, STAKEBOOK_SUMS, results, 5 * CALLS, scratch,
-                     ROOM, replayed_c, CALLS * CALLS, replayed_e, CALLS * CALLS, replayed_p, CALLS * CALLS, lower, ROOM, upper, ROOM, outliers, ROOM);
+    stakebook_replay(kinds, 5 * CALLS, words, 9 * CALLS, given, 5 * CALLS, CALLS, xs, ROOM, ys, ROOM, ws, ROOM, sums, STAKEBOOK_SUMS, results, 5 * CALLS,
+                     scratch, ROOM, replayed_c, CALLS * CALLS, replayed_e, CALLS * CALLS, replayed_p, CALLS * CALLS, lower, ROOM, upper, ROOM, outliers,
+                     ROOM);
 }
 
 #define STACK (1 << 20)
@@ -207,12 +221,16 @@ int main(void) {
     show_unsolved("elevation in m", 30, 2400, 3300);
     show_unsolved("from -1 to 1", 40, -1, 1);
 
-    /* a frame of 4,095 readings, all (1, 1) */
+    /* a frame of 4,095 readings, all (1, 1), and one of version 2 of 2,730, as many as its length can count, all of weight 1 */
     const uint8_t one[8] = {0x3F, 0xF0};
     frame[0] = (uint8_t)((sizeof frame - 2) >> 8);
     frame[1] = (uint8_t)((sizeof frame - 2) & 0xFF);
     frame[2] = 1;
     for (size_t i = 3; i < sizeof frame; i += 8) memcpy(frame + i, one, 8);
+    weighted[0] = (uint8_t)((sizeof weighted - 2) >> 8);
+    weighted[1] = (uint8_t)((sizeof weighted - 2) & 0xFF);
+    weighted[2] = 2;
+    for (size_t i = 3; i < sizeof weighted; i += 8) memcpy(weighted + i, one, 8);
     /* a text of 4,096 lines, all the same */
     for (size_t i = 0; i < sizeof text; i += 11) memcpy(text + i, "0.25 212.5\n", 11);
     puts("at n 4,096:");
@@ -220,11 +238,14 @@ int main(void) {
     show_cost("add", one_add, 100);
     show_cost("correct", one_correct, 100);
     show_cost("withdraw", one_withdraw, 100);
+    show_cost("withdraw from two columns", two_column_withdraw, 100);
     show_cost("add_frame", one_frame, 100);
+    show_cost("add_frame of version 2 with 2,730 samples", one_weighted, 100);
     show_cost("add_lines", one_text, 100);
     show_cost("fit of degree 15", one_fit, 100);
     show_cost("band of degree 15", one_band, 100);
     show_cost("report up to degree 15", one_report, 100);
+    show_cost("report_by up to degree 15", one_report_by, 100);
     show_cost("reader", one_reader, 100);
     show_cost("next", one_next, 100);
     listed();

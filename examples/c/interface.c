@@ -1,0 +1,294 @@
+/* Checks of the C interface that no list of calls reaches: a frame read sample by sample, a replay beside its single calls, and the calls of two
+ * columns beside those of three at weight 1. What is expected is worked out by hand here, or is what the other calls leave. It prints what fails, and
+ * ends with 1 if anything does. */
+#include <math.h>
+#include <stdio.h>
+#include <string.h>
+
+#include "stakebook.h"
+
+#define ROOM 4
+
+static int checks, failures;
+
+#define CHECK(condition)                                                            \
+    do {                                                                            \
+        checks++;                                                                   \
+        if (!(condition)) failures++, printf("line %d: %s\n", __LINE__, #condition); \
+    } while (0)
+
+/* a book of three columns or of two, and what a report writes */
+struct book {
+    size_t count;
+    double xs[ROOM], ys[ROOM], ws[ROOM], sums[STAKEBOOK_SUMS], scratch[ROOM];
+    double coefficients[STAKEBOOK_TERMS], errors[STAKEBOOK_TERMS], lower[ROOM], upper[ROOM];
+    uint8_t pruned[STAKEBOOK_TERMS], outliers[ROOM];
+};
+
+/* the number of the refusal; the count is kept where there is one */
+static unsigned changed(struct book *book, uint64_t answer) {
+    if (stakebook_refusal(answer) == 0) book->count = stakebook_count(answer);
+    return stakebook_refusal(answer);
+}
+
+static unsigned opened(struct book *book) { return changed(book, stakebook_open(book->sums, STAKEBOOK_SUMS)); }
+
+static unsigned add(struct book *book, double x, double y, double weight) {
+    return changed(book, stakebook_add(book->count, x, y, weight, book->xs, ROOM, book->ys, ROOM, book->ws, ROOM, book->sums, STAKEBOOK_SUMS));
+}
+
+static unsigned correct(struct book *book, size_t i, double y) {
+    return changed(book, stakebook_correct(book->count, i, y, book->xs, ROOM, book->ys, ROOM, book->ws, ROOM, book->sums, STAKEBOOK_SUMS));
+}
+
+static unsigned withdraw(struct book *book, size_t i) {
+    return changed(book, stakebook_withdraw(book->count, i, book->xs, ROOM, book->ys, ROOM, book->ws, ROOM, book->sums, STAKEBOOK_SUMS));
+}
+
+static unsigned add_frame(struct book *book, const uint8_t *frame, size_t length) {
+    return changed(book, stakebook_add_frame(book->count, frame, length, book->xs, ROOM, book->ys, ROOM, book->ws, ROOM, book->sums, STAKEBOOK_SUMS));
+}
+
+/* degrees 0 and 1, AIC, P95 */
+static uint64_t report(struct book *book) {
+    return stakebook_report(book->count, STAKEBOOK_CUSTOM_DEGREE, 1, STAKEBOOK_AIC, STAKEBOOK_P95, 0, STAKEBOOK_NO_TOLERANCE, 0, book->xs, ROOM,
+                            book->ys, ROOM, book->ws, ROOM, book->sums, STAKEBOOK_SUMS, book->scratch, ROOM, book->coefficients, STAKEBOOK_TERMS,
+                            book->errors, STAKEBOOK_TERMS, book->pruned, STAKEBOOK_TERMS, book->lower, ROOM, book->upper, ROOM, book->outliers, ROOM);
+}
+
+static int same_numbers(const double *left, const double *right, size_t many) { return memcmp(left, right, many * sizeof *left) == 0; }
+
+/* x and y below the count, and the sums; weights only where both have them */
+static int same_samples(const struct book *left, const struct book *right) {
+    return left->count == right->count && same_numbers(left->xs, right->xs, left->count) && same_numbers(left->ys, right->ys, left->count) &&
+           same_numbers(left->sums, right->sums, STAKEBOOK_SUMS);
+}
+
+static int same_weights(const struct book *left, const struct book *right) { return same_numbers(left->ws, right->ws, left->count); }
+
+/* a frame of the version, of so many numbers; its length */
+static size_t framed(uint8_t *frame, uint8_t version, const double *numbers, size_t many) {
+    size_t follows = 1 + 8 * many;
+    frame[0] = (uint8_t)(follows >> 8);
+    frame[1] = (uint8_t)follows;
+    frame[2] = version;
+    for (size_t i = 0; i < many; i++) {
+        uint64_t bits;
+        memcpy(&bits, numbers + i, sizeof bits);
+        for (int byte = 0; byte < 8; byte++) frame[3 + 8 * i + (size_t)byte] = (uint8_t)(bits >> (56 - 8 * byte));
+    }
+    return 2 + follows;
+}
+
+#define LONGEST (3 + 8 * 12)
+
+/* ---- weights */
+
+static void check_weights(void) {
+    struct book book = {0};
+    opened(&book);
+    CHECK(add(&book, 0, 2, 1) == 0 && add(&book, 1, 6, 3) == 0);
+    CHECK(book.ws[0] == 1 && book.ws[1] == 3);
+    /* A[0][0], A[0][1], A[1][1] and g */
+    CHECK(book.sums[0] == 4 && book.sums[1] == 3 && book.sums[17] == 3 && book.sums[256] == 20 && book.sums[257] == 18);
+
+    /* 4 before 15, and 15 before 5 */
+    const double refused[] = {0, -0.0, -1};
+    for (size_t i = 0; i < 3; i++) CHECK(add(&book, 0, 0, refused[i]) == 15 && add(&book, NAN, 0, refused[i]) == 4);
+    CHECK(add(&book, 0, 0, NAN) == 4 && add(&book, 0, 0, INFINITY) == 4 && add(&book, 0, 0, -INFINITY) == 4);
+    uint64_t full = stakebook_add(2, 0, 0, 1, book.xs, ROOM, book.ys, ROOM, book.ws, 2, book.sums, STAKEBOOK_SUMS);
+    CHECK(full == (uint64_t)5 << 56);
+    full = stakebook_add(2, 0, 0, 0, book.xs, ROOM, book.ys, ROOM, book.ws, 2, book.sums, STAKEBOOK_SUMS);
+    CHECK(full == (uint64_t)15 << 56);
+    /* the third column's length counts */
+    full = stakebook_add(2, NAN, 0, 0, book.xs, ROOM, book.ys, ROOM, book.ws, 1, book.sums, STAKEBOOK_SUMS);
+    CHECK(full == (uint64_t)1 << 56);
+
+    /* the mean by weights, degree 0; a correction keeps the weight, a withdrawal moves it */
+    CHECK(stakebook_fit(2, 0, book.xs, ROOM, book.ys, ROOM, book.ws, ROOM, book.sums, STAKEBOOK_SUMS, book.scratch, ROOM, book.coefficients,
+                        STAKEBOOK_TERMS) == 0);
+    CHECK(book.coefficients[0] == 5);
+    CHECK(correct(&book, 1, 4) == 0 && book.ws[1] == 3 && book.sums[256] == 14);
+    CHECK(withdraw(&book, 0) == 0 && book.count == 1 && book.ws[0] == 3 && book.ws[1] == 3 && book.sums[0] == 3);
+
+    /* 4 for a weight below the count, where it is read; past the count it is nobody's */
+    book.ws[0] = NAN;
+    CHECK(stakebook_refusal(report(&book)) == 4);
+    book.ws[0] = 3;
+    book.ws[1] = NAN;
+    CHECK(stakebook_refusal(report(&book)) == 0 && book.coefficients[0] == 4);
+}
+
+/* ---- frames */
+
+static void check_frames(void) {
+    static const double numbers[] = {1, 2, 0.5, 3, 4, 8};
+    uint8_t frame[LONGEST];
+    struct book book = {0}, other = {0};
+    opened(&book);
+    opened(&other);
+    CHECK(add_frame(&book, frame, framed(frame, 2, numbers, 6)) == 0 && book.count == 2);
+    CHECK(add(&other, 1, 2, 0.5) == 0 && add(&other, 3, 4, 8) == 0);
+    CHECK(same_samples(&book, &other) && same_weights(&book, &other));
+    /* the same bytes at version 1 are three samples of weight 1, and there is room for two */
+    CHECK(add_frame(&book, frame, framed(frame, 1, numbers, 6)) == 5);
+    CHECK(add_frame(&book, frame, framed(frame, 1, numbers, 4)) == 0 && book.count == 4 && book.ws[2] == 1 && book.ws[3] == 1);
+
+    CHECK(add_frame(&book, frame, framed(frame, 2, numbers, 0)) == 0);
+    CHECK(add_frame(&book, frame, framed(frame, 2, numbers, 2)) == 2);
+    CHECK(add_frame(&book, frame, framed(frame, 1, numbers, 3)) == 2);
+    CHECK(add_frame(&book, frame, framed(frame, 3, numbers, 3)) == 2);
+    CHECK(add_frame(&book, frame, framed(frame, 3, numbers, 6)) == 3);
+    static const double unweighted[] = {1, 2, 0, 3, NAN, 8};
+    CHECK(add_frame(&book, frame, framed(frame, 2, unweighted, 6)) == 4);
+    CHECK(add_frame(&book, frame, framed(frame, 2, unweighted, 3)) == 15);
+
+    /* sample by sample: three numbers are written, and none past them */
+    double sample[STAKEBOOK_SAMPLE + 1] = {-1, -1, -1, -1};
+    for (uint8_t version = 1; version <= 2; version++) {
+        size_t length = framed(frame, version, numbers, 6), many = version == 1 ? 3 : 2, read = 0;
+        uint64_t at = stakebook_reader(frame, length);
+        CHECK(at == 3);
+        CHECK(stakebook_next(frame, length, at, sample, STAKEBOOK_SAMPLE - 1) == (uint64_t)1 << 56);
+        while ((at = stakebook_next(frame, length, at, sample, STAKEBOOK_SAMPLE)) != 0) {
+            const double *expected = numbers + (version == 1 ? 2 : 3) * read;
+            CHECK(sample[0] == expected[0] && sample[1] == expected[1] && sample[2] == (version == 1 ? 1 : expected[2]));
+            read++;
+            CHECK(at == 3 + (version == 1 ? 16 : 24) * read);
+        }
+        CHECK(read == many && sample[STAKEBOOK_SAMPLE] == -1);
+    }
+    CHECK(stakebook_reader(frame, framed(frame, 2, numbers, 0)) == 3 && stakebook_next(frame, 3, 3, sample, STAKEBOOK_SAMPLE) == 0);
+    CHECK(stakebook_reader(frame, framed(frame, 2, numbers, 2)) == (uint64_t)2 << 56);
+    CHECK(stakebook_reader(frame, framed(frame, 3, numbers, 6)) == (uint64_t)3 << 56);
+    /* one byte fewer than a sample of version 2 has */
+    framed(frame, 2, numbers, 3);
+    CHECK(stakebook_next(frame, 3 + 23, 3, sample, STAKEBOOK_SAMPLE) == 0);
+}
+
+/* ---- a replay */
+
+#define CALLS 8
+
+static void check_replay(void) {
+    /* 0 add, 1 correct, 2 withdraw, 3 report: the index; x, y, the weight */
+    static const struct {
+        uint32_t kind;
+        size_t index;
+        double x, y, weight;
+    } calls[CALLS] = {{0, 0, 0, 2, 1},      {0, 0, 1, 6, 3},   {0, 0, 5, 5, 0},   {0, 0, 2, 3, 0.25},
+                      {1, 1, NAN, 4, NAN}, {3, 0, 9, 9, -9}, {2, 0, 9, 9, -9}, {0, 0, 7, 8, NAN}};
+    static const unsigned refusals[CALLS] = {0, 0, 15, 0, 0, 0, 0, 4};
+    uint32_t kinds[5 * CALLS] = {0};
+    size_t words[9 * CALLS] = {0}, results[5 * CALLS];
+    double numbers[5 * CALLS] = {0};
+    struct book book = {0}, other = {0};
+    for (size_t k = 0; k < CALLS; k++) {
+        const uint32_t kind[5] = {calls[k].kind, STAKEBOOK_CUSTOM_DEGREE, STAKEBOOK_AIC, STAKEBOOK_P95, STAKEBOOK_NO_TOLERANCE};
+        const size_t word[9] = {calls[k].index, 1, 16, 16, 16, 16, 16, 16, 16};
+        memcpy(kinds + 5 * k, kind, sizeof kind);
+        memcpy(words + 9 * k, word, sizeof word);
+        numbers[5 * k] = calls[k].x;
+        numbers[5 * k + 1] = calls[k].y;
+        numbers[5 * k + 2] = calls[k].weight;
+    }
+    static double scratch[16 * CALLS], coefficients[16 * CALLS], errors[16 * CALLS], lower[16 * CALLS], upper[16 * CALLS];
+    static uint8_t pruned[16 * CALLS], outliers[16 * CALLS];
+    for (size_t given = 5 * CALLS - 1; given <= 5 * CALLS; given++) {
+        uint64_t answer = stakebook_replay(kinds, 5 * CALLS, words, 9 * CALLS, numbers, given, 16, book.xs, ROOM, book.ys, ROOM, book.ws, ROOM, book.sums,
+                                           STAKEBOOK_SUMS, results, 5 * CALLS, scratch, 16 * CALLS, coefficients, 16 * CALLS, errors, 16 * CALLS, pruned,
+                                           16 * CALLS, lower, 16 * CALLS, upper, 16 * CALLS, outliers, 16 * CALLS);
+        /* one number too few is no list of calls */
+        CHECK(stakebook_refusal(answer) == (given < 5 * CALLS ? STAKEBOOK_MALFORMED : 0));
+        if (given == 5 * CALLS) book.count = stakebook_count(answer);
+    }
+    opened(&other);
+    for (size_t k = 0; k < CALLS; k++) {
+        unsigned refusal = 0;
+        switch (calls[k].kind) {
+        case 0: refusal = add(&other, calls[k].x, calls[k].y, calls[k].weight); break;
+        case 1: refusal = correct(&other, calls[k].index, calls[k].y); break;
+        case 2: refusal = withdraw(&other, calls[k].index); break;
+        default: {
+            uint64_t answer = report(&other);
+            refusal = stakebook_refusal(answer);
+            CHECK(results[5 * k + 1] == stakebook_degree(answer) && results[5 * k + 2] == stakebook_solved(answer));
+            CHECK(same_numbers(coefficients + 16 * k, other.coefficients, 16) && same_numbers(errors + 16 * k, other.errors, 16));
+            CHECK(same_numbers(lower + 16 * k, other.lower, other.count) && same_numbers(upper + 16 * k, other.upper, other.count));
+        }
+        }
+        CHECK(refusal == refusals[k] && results[5 * k] == refusal);
+    }
+    CHECK(book.count == 2 && same_samples(&book, &other) && same_weights(&book, &other));
+}
+
+/* ---- two columns */
+
+static unsigned two_column_add(struct book *book, double x, double y) {
+    return changed(book, stakebook_two_column_add(book->count, x, y, book->xs, ROOM, book->ys, ROOM, book->sums, STAKEBOOK_SUMS));
+}
+
+static unsigned two_column_correct(struct book *book, size_t i, double y) {
+    return changed(book, stakebook_two_column_correct(book->count, i, y, book->xs, ROOM, book->ys, ROOM, book->sums, STAKEBOOK_SUMS));
+}
+
+static unsigned two_column_withdraw(struct book *book, size_t i) {
+    return changed(book, stakebook_two_column_withdraw(book->count, i, book->xs, ROOM, book->ys, ROOM, book->sums, STAKEBOOK_SUMS));
+}
+
+static unsigned two_column_add_frame(struct book *book, const uint8_t *frame, size_t length) {
+    return changed(book, stakebook_two_column_add_frame(book->count, frame, length, book->xs, ROOM, book->ys, ROOM, book->sums, STAKEBOOK_SUMS));
+}
+
+static void check_two_columns(void) {
+    static const double numbers[] = {1.1, 322.5, 1.3, 331, 1.5, 358};
+    uint8_t frame[LONGEST];
+    struct book two = {0}, three = {0};
+    memset(two.sums, 0xA5, sizeof two.sums);
+    CHECK(stakebook_two_column_open(two.sums, STAKEBOOK_SUMS - 1) == (uint64_t)1 << 56);
+    CHECK(changed(&two, stakebook_two_column_open(two.sums, STAKEBOOK_SUMS)) == 0 && opened(&three) == 0);
+    CHECK(same_samples(&two, &three));
+    CHECK(two_column_add(&two, 0.1, 212) == 0 && add(&three, 0.1, 212, 1) == 0);
+    CHECK(two_column_add(&two, 0.3, 240.5) == 0 && add(&three, 0.3, 240.5, 1) == 0);
+    CHECK(same_samples(&two, &three));
+    CHECK(two_column_add_frame(&two, frame, framed(frame, 1, numbers, 4)) == 0 && add_frame(&three, frame, framed(frame, 1, numbers, 4)) == 0);
+    CHECK(same_samples(&two, &three) && two.count == 4);
+    CHECK(two_column_correct(&two, 1, 239) == 0 && correct(&three, 1, 239) == 0);
+    CHECK(same_samples(&two, &three));
+    CHECK(two_column_withdraw(&two, 0) == 0 && withdraw(&three, 0) == 0);
+    CHECK(same_samples(&two, &three));
+
+    /* read with weights of 1 below the count */
+    for (size_t i = 0; i < two.count; i++) two.ws[i] = 1;
+    CHECK(report(&two) == report(&three) && stakebook_refusal(report(&two)) == 0);
+    CHECK(same_numbers(two.coefficients, three.coefficients, STAKEBOOK_TERMS) && same_numbers(two.errors, three.errors, STAKEBOOK_TERMS));
+    CHECK(same_numbers(two.lower, three.lower, two.count) && same_numbers(two.upper, three.upper, two.count));
+
+    /* 4, 5 and 6; a frame of version 2 is 3 where its length is 1 plus a multiple of 16, and 2 elsewhere */
+    CHECK(two_column_add(&two, NAN, 1) == 4 && two_column_add(&two, 1, INFINITY) == 4);
+    CHECK(two_column_correct(&two, 0, NAN) == 4 && two_column_correct(&two, 3, 1) == 6 && two_column_withdraw(&two, 3) == 6);
+    CHECK(two_column_add_frame(&two, frame, framed(frame, 2, numbers, 0)) == 3);
+    CHECK(two_column_add_frame(&two, frame, framed(frame, 2, numbers, 3)) == 2);
+    CHECK(two_column_add_frame(&two, frame, framed(frame, 2, numbers, 6)) == 3);
+    CHECK(two_column_add_frame(&two, frame, framed(frame, 1, numbers, 3)) == 2);
+    CHECK(two_column_add_frame(&two, frame, framed(frame, 1, numbers, 4)) == 5);
+    static const double bad[] = {1, NAN};
+    CHECK(two_column_add_frame(&two, frame, framed(frame, 1, bad, 2)) == 4);
+    CHECK(two_column_add_frame(&two, frame, framed(frame, 1, numbers, 2)) == 0 && two.count == 4);
+    CHECK(two_column_add(&two, 1, 1) == 5 && two_column_add(&two, NAN, 1) == 4);
+
+    /* 1: short sums, or a count above the shorter column */
+    CHECK(stakebook_two_column_add(0, NAN, 1, two.xs, ROOM, two.ys, ROOM, two.sums, STAKEBOOK_SUMS - 1) == (uint64_t)1 << 56);
+    CHECK(stakebook_two_column_correct(4, 0, NAN, two.xs, 3, two.ys, ROOM, two.sums, STAKEBOOK_SUMS) == (uint64_t)1 << 56);
+    CHECK(stakebook_two_column_withdraw(4, 9, two.xs, ROOM, two.ys, 3, two.sums, STAKEBOOK_SUMS) == (uint64_t)1 << 56);
+    CHECK(stakebook_two_column_add_frame(5, frame, 0, two.xs, ROOM, two.ys, ROOM, two.sums, STAKEBOOK_SUMS) == (uint64_t)1 << 56);
+}
+
+int main(void) {
+    check_weights();
+    check_frames();
+    check_replay();
+    check_two_columns();
+    printf("C interface: %d checks, %d failed\n", checks, failures);
+    return failures != 0;
+}
