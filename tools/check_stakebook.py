@@ -1,8 +1,10 @@
 #!/usr/bin/env python3
-"""Runs the proved program target/bin/stakebook, which `rt check stakebook` builds, where its input can't be read or its output can't be written:
-each is said on standard error in one line, and nothing is where nothing went wrong. Run in the repository's root."""
+"""Runs the proved program target/bin/stakebook, which `rt check stakebook` builds: on frames of both versions, and where its input can't be read or its
+output can't be written. That is said on standard error in one line, and nothing is where nothing went wrong. Run in the repository's root."""
+import math
 import os
 import socket
+import struct
 import subprocess
 import sys
 import time
@@ -14,9 +16,12 @@ LISTING = Path('crates/stakebook/stdout').read_bytes()
 UNREAD = b'stakebook: the input could not be read\n'
 UNWRITTEN = b'stakebook: the output could not be written\n'
 wrong = []
+runs = 0
 
 
 def expect(what, run, out, err):
+    global runs
+    runs += 1
     got = subprocess.run(stderr=subprocess.PIPE, check=False, timeout=60, **run)
     if (got.stdout or b'', got.stderr) != (out, err):
         wrong.append(f'{what}: printed {got.stdout}, and on standard error {got.stderr}')
@@ -26,8 +31,43 @@ def program(**streams):
     return {'args': [PROGRAM], 'stdout': subprocess.PIPE, **streams}
 
 
+# A frame of numbers: a length that counts what follows, the version byte, the bits.
+def frame_of(version, numbers):
+    return struct.pack(f'>HB{len(numbers)}d', 1 + 8 * len(numbers), version, *numbers)
+
+
+def bits(number):
+    return struct.pack('>d', number).hex().upper()
+
+
+# Version 1 means weight 1, and version 2 has the weights. The listing with other weights is worked out here: two samples at one x have no line, and their
+# mean by weights is (0 * 1 + 4 * 3) / 4 = 3. Their residuals, -3 and 1, see no weight: the variance is 10 / 1, its share of the mean 10 / 4.
+def expect_versions():
+    plain = struct.unpack('>10d', FRAME[3:])
+    pairs = [plain[i : i + 2] for i in range(0, 10, 2)]
+    ones = [number for pair in pairs for number in (*pair, 1.0)]
+    mean = f'n 2\ndegree 0\nc 0 {bits(3.0)} {bits(math.sqrt(2.5))}\noutliers 0\npruned 1\n'.encode()
+    frames = [
+        ('version 1, packed here', frame_of(1, plain), LISTING),
+        ('version 2 with weights of 1', frame_of(2, ones), LISTING),
+        ('version 2 with weights of 1 and 3', frame_of(2, [2.0, 0.0, 1.0, 2.0, 4.0, 3.0]), mean),
+        ('version 2 without samples', frame_of(2, []), b'refused 7\n'),
+        ('version 2 by 16 bytes', frame_of(2, [1.0, 2.0]), b'refused 2\n'),
+        ('version 1 by 24 bytes', frame_of(1, [1.0, 2.0, 3.0]), b'refused 2\n'),
+        ('version 3 by 24 bytes', frame_of(3, [1.0, 2.0, 3.0]), b'refused 2\n'),
+        ('version 3 by 48 bytes', frame_of(3, [1.0] * 6), b'refused 3\n'),
+        ('a weight that is a NaN behind one of 0', frame_of(2, [1.0, 2.0, 0.0, 3.0, 4.0, math.nan]), b'refused 4\n'),
+        ('a weight of 0', frame_of(2, [1.0, 2.0, 3.0, 3.0, 4.0, 0.0]), b'refused 15\n'),
+        ('a weight below 0', frame_of(2, [1.0, 2.0, -3.0]), b'refused 15\n'),
+    ]
+    for what, frame, listing in frames:
+        expect(what, program(input=frame), listing, b'')
+
+
 # The frame in two writes: the first read answers fewer bytes than there are, and that is no end.
 def expect_pieces():
+    global runs
+    runs += 1
     with subprocess.Popen([PROGRAM], stdin=subprocess.PIPE, stdout=subprocess.PIPE, stderr=subprocess.PIPE) as run:
         run.stdin.write(FRAME[:40])
         run.stdin.flush()
@@ -52,6 +92,7 @@ def main():
         expect('a frame', program(stdin=frame), LISTING, b'')
     expect('no input', program(stdin=subprocess.DEVNULL), b'refused 2\n', b'')
     expect_pieces()
+    expect_versions()
 
     root = os.open('/', os.O_RDONLY)
     expect('a directory as input', program(stdin=root), b'', UNREAD)
@@ -67,7 +108,7 @@ def main():
         print('stakebook:', line)
     if wrong:
         return 1
-    print('stakebook: 8 runs: what could not be read or written is said on standard error')
+    print(f'stakebook: {runs} runs: frames of both versions; what could not be read or written is said on standard error')
     return 0
 
 
