@@ -744,8 +744,8 @@ fn scales_of_weights() {
     let (terms, errors) = (four.shown("coefficients"), four.shown("errors"));
     assert!(four.of("report").iter().all(|answer| answer.starts_with("report 1 ")));
     assert_eq!(terms[0], terms[1]);
-    for j in 0..2 {
-        assert_eq!(f64::from_bits(errors[0][j]) / 2.0, f64::from_bits(errors[1][j]));
+    for (one, four) in errors[0][..2].iter().zip(&errors[1]) {
+        assert_eq!(f64::from_bits(*one) / 2.0, f64::from_bits(*four));
     }
     let two = weights("scales: a sample of weight 2");
     assert_eq!(two.shown("sums")[0], two.shown("sums")[1]);

@@ -24,7 +24,7 @@ const PITS: [Weighted; 6] = [
 const LINE: [Weighted; 3] = [(0.0, 1.0, 2.0), (1.0, 3.0, 0.5), (2.0, 5.0, 4.0)];
 
 /// The least number above zero.
-const LEAST: f64 = f64::from_bits(1);
+const LEAST: f64 = 5e-324;
 
 const INFINITY: f64 = f64::INFINITY;
 
