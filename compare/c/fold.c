@@ -1,4 +1,5 @@
-/* The fold of a withdrawal in C, for the benchmark: each sample's 16 powers once, in document 01's grouping, then the products. */
+/* Document 01's fold of a withdrawal in C, without weights, for the benchmark: each sample's 16 powers once, in that document's grouping, then the
+ * products. */
 #include <stddef.h>
 
 void plain_fold_c(const double *restrict xs, const double *restrict ys, size_t n, double *restrict sums) {

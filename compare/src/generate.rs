@@ -313,12 +313,12 @@ fn weighed(random: &mut Random) -> Vec<Step> {
         for _ in 0..2 {
             maker.read();
         }
-        if let (true, 1..) = (maker.random.one_in(2), maker.samples().len()) {
-            // A weight that is not finite is overwritten, so that readings pass again.
-            let at = maker.random.below(maker.samples().len());
-            let value = maker.random.pick(&[1.0, 2.0, 0.5]);
-            let call = Call::Withdraw { index: maker.samples().len() - 1 };
-            maker.step(vec![Poke::Weight { at, value }], call);
+        let count = maker.samples().len();
+        if maker.random.one_in(2) && count > 0 {
+            // Where it hits a weight that is not finite, readings pass again.
+            let (at, value) = (maker.random.below(count), maker.random.pick(&[1.0, 2.0, 0.5]));
+            let withdraw = Call::Withdraw { index: count - 1 };
+            maker.step(vec![Poke::Weight { at, value }], withdraw);
             maker.read();
         }
     }

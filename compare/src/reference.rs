@@ -1,5 +1,5 @@
 //! polyfit itself. It folds its own sums, so it can be asked about calls on a ledger's sums that
-//! pass refusals 1 to 9, 13 to 15 among them, and answers them or refuses by 10, 11 or 12.
+//! pass refusals 1 to 9, and answers them or refuses by 10, 11 or 12.
 
 use polyfit::error::Error;
 use polyfit::score::{Aic, Bic, ModelScoreProvider};

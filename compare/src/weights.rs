@@ -314,7 +314,8 @@ fn note_frame(bytes: &[u8], call: &str, note_if: &mut NoteIf) {
     let version = match bytes[2] {
         1 => "version 1",
         2 => "version 2",
-        _ => "version 3",
+        3 => "version 3",
+        _ => return,
     };
     let passes = frame::Reader::new(bytes).is_ok();
     let what = match (passes, by_16, by_24) {
