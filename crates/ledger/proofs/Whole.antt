@@ -35,7 +35,7 @@ module _ {R W : Type 0} (readOn : Reading R W) (m : Lent) (rest : List Float) wh
       λ i. told (readOn q (h .count i) (e i) (t i) (h .lent i .columns) (h .lent i .sums))
 
   -- any list of calls, from a state that holds a ledger
-  whole-from : (s : State) (l : List Sample) → Holds m rest l s → (cs : List (Call R))
+  pub whole-from : (s : State) (l : List Sample) → Holds m rest l s → (cs : List (Call R))
       → (programReplies readOn s cs ≡ ledgerReplies readOn m l cs) × Holds m rest (ledgerEnd m l cs) (final s cs)
   whole-from s l h cs =
       agree (program readOn) (ledger readOn m) (λ t k. Holds m rest k t) (λ t k c g. (reply-next t k c g, leaves-next t k c g .holds)) s l h cs
@@ -66,7 +66,7 @@ not-refused sums (suc k) e h =
 abbrev pub emptyState : Columns → List Float → State
 emptyState columns sums = stateOf 0 columns (sumsOf [] ++ drop 272 sums)
 
-opened-is : (columns : Columns) (sums : List Float) → openRefusal (length sums) ≡ 0 → emptyState columns sums ≡ opened columns sums
+pub opened-is : (columns : Columns) (sums : List Float) → openRefusal (length sums) ≡ 0 → emptyState columns sums ≡ opened columns sums
 unfolding openOut
 opened-is columns sums e = rw e
 

@@ -22,7 +22,7 @@ use Rattle.monomial.specs.Rows.{weightedRows}
 use Rattle.monomial.specs.Sums.{sumsOf}
 use Rattle.monomial.specs.Plain.{plainSums}
 use Rattle.refusal.specs.Refusals.{by, firstOf, settle}
-use Rattle.refusal.specs.Tests.{sampleFinite, allFinite, weightAbove, allAbove}
+use Rattle.refusal.specs.Tests.{capacity, sampleFinite, allFinite, weightAbove, allAbove}
 use Rattle.frame.specs.Bytes.{word}
 use Rattle.frame.specs.Frame.{wrongLength, wrongVersion, decode, kept}
 use Rattle.frame.specs.Laws.{neither-test}
@@ -36,7 +36,7 @@ use Rattle.ledger.specs.Ledger as whole
 use Rattle.two_column.specs.Pairs.{Pair, pairOf, pairRows, atWeightOne, Columns, lengths, pairsOf, withPair, withNewY}
 use Rattle.two_column.specs.PairLaws.{add-pair, sums-of-pairs}
 use Rattle.two_column.specs.Refusals.{pairFinite, pairsFinite, framePairs, addRefusal, frameRefusal}
-use Rattle.two_column.specs.RefusalLaws.{short-two, room-two, frame-room}
+use Rattle.two_column.specs.RefusalLaws.{capacity-two, short-two, room-two, frame-room}
 use Rattle.two_column.specs.Calls.{Out, refused, addOut, correctOut, withdrawOut, withoutPair, addFrameOut, State, stateOf, stateAfter, addNext, addMany}
 use Rattle.two_column.specs.Ledger.{Change, adds, corrects, withdraws, frames, outOf, newY, changed, refusalOf}
 
@@ -146,73 +146,73 @@ weightedChange (corrects i y) = whole.corrects i y
 weightedChange (withdraws i) = whole.withdraws i
 weightedChange (frames f) = whole.frames (standIn f (plainRefusal f))
 
-module _ (n xs ys sums : ℕ) (f : List ℕ) where
+module _ (n : ℕ) (columns two : List ℕ) (sums : ℕ) (same : capacity columns ≡ capacity two) (f : List ℕ) where
   sound-frame : (plainLength f ≡ false) × (plainVersion f ≡ false) → (wrongLength f ≡ false) × (wrongVersion f ≡ false) → decode f ≡ map atWeightOne (framePairs f)
-      → weighted.frameAddRefusal n f (xs ∷ ys ∷ 4096 ∷ []) sums ≡ frameRefusal n f (xs ∷ ys ∷ []) sums
+      → weighted.frameAddRefusal n f columns sums ≡ frameRefusal n f two sums
   unfolding weighted.frameAddRefusal frameRefusal firstOf
   sound-frame p q e =
       let t : allFinite (decode f) ≡ pairsFinite (framePairs f) = ap allFinite e ∙ finite-ones (framePairs f) in
       let a : allAbove (decode f) ≡ true = ap allAbove e ∙ above-ones (framePairs f) in
       let l : length (decode f) ≡ length (framePairs f) = sym (length-map (decode f) pairOf) in
-      rw (short-two n xs ys sums, p .0, p .1, q .0, q .1, t, a, l, room-two n (length (framePairs f)) xs ys) refl
+      rw (short-two n sums columns two same, p .0, p .1, q .0, q .1, t, a, l, room-two n (length (framePairs f)) columns two same) refl
 
-  wrong-length : plainRefusal f ≡ 2 → weighted.frameAddRefusal n [] (xs ∷ ys ∷ 4096 ∷ []) sums ≡ frameRefusal n f (xs ∷ ys ∷ []) sums
+  wrong-length : plainRefusal f ≡ 2 → weighted.frameAddRefusal n [] columns sums ≡ frameRefusal n f two sums
   unfolding weighted.frameAddRefusal frameRefusal firstOf plainRefusal
   wrong-length = go (plainLength f) (plainVersion f) refl
     where
-      go : (a b : Bool) → plainLength f ≡ a → _≡_ {A = ℕ} (cond a 2 (cond b 3 0)) 2 → weighted.frameAddRefusal n [] (xs ∷ ys ∷ 4096 ∷ []) sums ≡ frameRefusal n f (xs ∷ ys ∷ []) sums
-      go true b p z = rw (short-two n xs ys sums, p) refl
+      go : (a b : Bool) → plainLength f ≡ a → _≡_ {A = ℕ} (cond a 2 (cond b 3 0)) 2 → weighted.frameAddRefusal n [] columns sums ≡ frameRefusal n f two sums
+      go true b p z = rw (short-two n sums columns two same, p) refl
       go false true p z = absurd (omega arith)
       go false false p z = absurd (omega arith)
 
-  wrong-version : plainRefusal f ≡ 3 → weighted.frameAddRefusal n (0 ∷ 1 ∷ 3 ∷ []) (xs ∷ ys ∷ 4096 ∷ []) sums ≡ frameRefusal n f (xs ∷ ys ∷ []) sums
+  wrong-version : plainRefusal f ≡ 3 → weighted.frameAddRefusal n (0 ∷ 1 ∷ 3 ∷ []) columns sums ≡ frameRefusal n f two sums
   unfolding weighted.frameAddRefusal frameRefusal firstOf plainRefusal word number fold
   wrong-version = go (plainLength f) (plainVersion f) refl refl
     where
       go : (a b : Bool) → plainLength f ≡ a → plainVersion f ≡ b → _≡_ {A = ℕ} (cond a 2 (cond b 3 0)) 3
-          → weighted.frameAddRefusal n (0 ∷ 1 ∷ 3 ∷ []) (xs ∷ ys ∷ 4096 ∷ []) sums ≡ frameRefusal n f (xs ∷ ys ∷ []) sums
+          → weighted.frameAddRefusal n (0 ∷ 1 ∷ 3 ∷ []) columns sums ≡ frameRefusal n f two sums
       go true b p q z = absurd (omega arith)
-      go false true p q z = rw (short-two n xs ys sums, p, q) refl
+      go false true p q z = rw (short-two n sums columns two same, p, q) refl
       go false false p q z = absurd (omega arith)
 
-module _ (n xs ys sums : ℕ) where
-  add-refusal : (p : Pair) → weighted.addRefusal n (atWeightOne p) (xs ∷ ys ∷ 4096 ∷ []) sums ≡ addRefusal n p (xs ∷ ys ∷ []) sums
+module _ (n : ℕ) (columns two : List ℕ) (sums : ℕ) (same : capacity columns ≡ capacity two) where
+  add-refusal : (p : Pair) → weighted.addRefusal n (atWeightOne p) columns sums ≡ addRefusal n p two sums
   unfolding weighted.addRefusal addRefusal firstOf
-  add-refusal p = rw (short-two n xs ys sums, room-two n 1 xs ys, finite-one p, one-above) refl
+  add-refusal p = rw (short-two n sums columns two same, room-two n 1 columns two same, finite-one p, one-above) refl
 
-  correct-refusal : (i : ℕ) (y : Float) → weighted.correctRefusal n i y (xs ∷ ys ∷ 4096 ∷ []) sums ≡ weighted.correctRefusal n i y (xs ∷ ys ∷ []) sums
+  correct-refusal : (i : ℕ) (y : Float) → weighted.correctRefusal n i y columns sums ≡ weighted.correctRefusal n i y two sums
   unfolding weighted.correctRefusal firstOf
-  correct-refusal i y = rw (short-two n xs ys sums) refl
+  correct-refusal i y = rw (short-two n sums columns two same) refl
 
-  withdraw-refusal : (i : ℕ) → weighted.withdrawRefusal n i (xs ∷ ys ∷ 4096 ∷ []) sums ≡ weighted.withdrawRefusal n i (xs ∷ ys ∷ []) sums
+  withdraw-refusal : (i : ℕ) → weighted.withdrawRefusal n i columns sums ≡ weighted.withdrawRefusal n i two sums
   unfolding weighted.withdrawRefusal firstOf
-  withdraw-refusal i = rw (short-two n xs ys sums) refl
+  withdraw-refusal i = rw (short-two n sums columns two same) refl
 
-  frame-refusal : (f : List ℕ) → weighted.frameAddRefusal n (standIn f (plainRefusal f)) (xs ∷ ys ∷ 4096 ∷ []) sums ≡ frameRefusal n f (xs ∷ ys ∷ []) sums
+  frame-refusal : (f : List ℕ) → weighted.frameAddRefusal n (standIn f (plainRefusal f)) columns sums ≡ frameRefusal n f two sums
   frame-refusal f = go (plain-number f)
     where
-      let-through : plainRefusal f ≡ 0 → weighted.frameAddRefusal n f (xs ∷ ys ∷ 4096 ∷ []) sums ≡ frameRefusal n f (xs ∷ ys ∷ []) sums
-      let-through z = sound-frame n xs ys sums f (plain-neither f z) (neither-test f (plain-sound f z .0)) (frame-at-one f z)
+      let-through : plainRefusal f ≡ 0 → weighted.frameAddRefusal n f columns sums ≡ frameRefusal n f two sums
+      let-through z = sound-frame n columns two sums same f (plain-neither f z) (neither-test f (plain-sound f z .0)) (frame-at-one f z)
 
       go : (plainRefusal f ≡ 0) ⊎ ((plainRefusal f ≡ 2) ⊎ (plainRefusal f ≡ 3))
-          → weighted.frameAddRefusal n (standIn f (plainRefusal f)) (xs ∷ ys ∷ 4096 ∷ []) sums ≡ frameRefusal n f (xs ∷ ys ∷ []) sums
+          → weighted.frameAddRefusal n (standIn f (plainRefusal f)) columns sums ≡ frameRefusal n f two sums
       go (inl z) = rw z (let-through z)
-      go (inr (inl z)) = rw z (wrong-length n xs ys sums f z)
-      go (inr (inr z)) = rw z (wrong-version n xs ys sums f z)
+      go (inr (inl z)) = rw z (wrong-length n columns two sums same f z)
+      go (inr (inr z)) = rw z (wrong-version n columns two sums same f z)
 
--- the refusal of any call, where m are the lengths of the two columns
-pub refusal-at-one : (n xs ys sums : ℕ) (c : Change)
-    → whole.refusalOf (record { columns = xs ∷ ys ∷ 4096 ∷ []; sums = sums }) n (weightedChange c) ≡ refusalOf (record { columns = xs ∷ ys ∷ []; sums = sums }) n c
+-- the refusal of any call, where the third column bounds nothing
+pub refusal-at-one : (n : ℕ) (columns two : List ℕ) (sums : ℕ) → capacity columns ≡ capacity two → (c : Change)
+    → whole.refusalOf (record { columns = columns; sums = sums }) n (weightedChange c) ≡ refusalOf (record { columns = two; sums = sums }) n c
 unfolding whole.refusalOf refusalOf
-refusal-at-one n xs ys sums (adds p) = add-refusal n xs ys sums p
-refusal-at-one n xs ys sums (corrects i y) = correct-refusal n xs ys sums i y
-refusal-at-one n xs ys sums (withdraws i) = withdraw-refusal n xs ys sums i
-refusal-at-one n xs ys sums (frames f) = frame-refusal n xs ys sums f
+refusal-at-one n columns two sums same (adds p) = add-refusal n columns two sums same p
+refusal-at-one n columns two sums same (corrects i y) = correct-refusal n columns two sums same i y
+refusal-at-one n columns two sums same (withdraws i) = withdraw-refusal n columns two sums same i
+refusal-at-one n columns two sums same (frames f) = frame-refusal n columns two sums same f
 
 -- ---- what a call leaves
 
-lent-ones : (c : Columns) → three.lengths (withOnes c) ≡ length (c .xs) ∷ length (c .ys) ∷ 4096 ∷ []
-lent-ones c = ap (λ k. length (c .xs) ∷ length (c .ys) ∷ k ∷ []) (length-replicate places oneF ∙ places-are)
+lent-ones : (c : Columns) → capacity (three.lengths (withOnes c)) ≡ capacity (lengths c)
+lent-ones c = ap (λ k. capacity (length (c .xs) ∷ length (c .ys) ∷ k ∷ [])) (length-replicate places oneF ∙ places-are) ∙ capacity-two (length (c .xs)) (length (c .ys))
 
 settled : (k l : ℕ) (c : Columns) (sums : List Float) (good : Out) (heavy : book.Out) → k ≡ l → (l ≡ 0 → heavy ≡ weightedOut good)
     → settle k heavy (book.refused k (withOnes c) sums) ≡ weightedOut (settle l good (refused l c sums))
@@ -223,15 +223,11 @@ settled k l c sums good heavy e h = rw e (go l h)
     go (suc l) h = refl
 
 module _ (n : ℕ) (c : Columns) (sums : List Float) where
-  -- the columns' lengths, as the refusals see them
-  seen-as : (f : List ℕ → ℕ) → f (three.lengths (withOnes c)) ≡ f (length (c .xs) ∷ length (c .ys) ∷ 4096 ∷ [])
-  seen-as f = ap f (lent-ones c)
-
   add-at-one : (p : Pair) → book.addOut n (atWeightOne p) (withOnes c) sums ≡ weightedOut (addOut n p c sums)
   unfolding book.addOut addOut
   add-at-one p =
       settled _ _ c sums _ _
-      (seen-as (λ l. weighted.addRefusal n (atWeightOne p) l (length sums)) ∙ add-refusal n (length (c .xs)) (length (c .ys)) (length sums) p)
+      (add-refusal n (three.lengths (withOnes c)) (lengths c) (length sums) (lent-ones c) p)
       (λ z. λ i. record { answer = book.bookOf (n + 1); columns = new i; sums = add-pair sums p i })
     where
       new : (λ k. set (withOnes c k) n (value k (atWeightOne p))) ≡ withOnes (withPair n p c)
@@ -241,7 +237,7 @@ module _ (n : ℕ) (c : Columns) (sums : List Float) where
   unfolding book.correctOut correctOut
   correct-at-one i y =
       settled _ _ c sums _ _
-      (seen-as (λ l. weighted.correctRefusal n i y l (length sums)) ∙ correct-refusal n (length (c .xs)) (length (c .ys)) (length sums) i y)
+      (correct-refusal n (three.lengths (withOnes c)) (lengths c) (length sums) (lent-ones c) i y)
       (λ z.
       let most = correct-room n (lengths c) (length sums) i y z .0 .most in
       let s = ap (λ d. sumsOf (weightedRows (samplesOf n d))) new ∙ sums-at-columns n (withNewY i y c) (omega (arith, most)) in
@@ -254,7 +250,7 @@ module _ (n : ℕ) (c : Columns) (sums : List Float) where
   unfolding book.withdrawOut withdrawOut
   withdraw-at-one i =
       settled _ _ c sums _ _
-      (seen-as (λ l. weighted.withdrawRefusal n i l (length sums)) ∙ withdraw-refusal n (length (c .xs)) (length (c .ys)) (length sums) i)
+      (withdraw-refusal n (three.lengths (withOnes c)) (lengths c) (length sums) (lent-ones c) i)
       (λ z.
       let r = withdraw-room n (lengths c) (length sums) i z in
       let new = left (r .1) (omega (arith, r .0 .most, places-are)) in
@@ -277,7 +273,7 @@ frame-out : (n : ℕ) (c : Columns) (sums : List Float) (f : List ℕ)
 unfolding book.addFrameOut addFrameOut
 frame-out n c sums f =
     settled _ _ c sums _ _
-    (seen-as n c sums (λ l. weighted.frameAddRefusal n (standIn f (plainRefusal f)) l (length sums)) ∙ frame-refusal n (length (c .xs)) (length (c .ys)) (length sums) f)
+    (frame-refusal n (three.lengths (withOnes c)) (lengths c) (length sums) (lent-ones c) f)
     (λ z.
     let e = frame-room n (lengths c) (length sums) f z .1 in
     let same : decode (standIn f (plainRefusal f)) ≡ map atWeightOne (framePairs f) = ap (λ k. decode (standIn f k)) e ∙ frame-at-one f e in
@@ -309,13 +305,13 @@ dropped-at-one (suc k) [] = refl
 dropped-at-one (suc k) (p ∷ l) = dropped-at-one k l
 
 -- a call that is not refused changes both ledgers alike
-pub changed-at-one : (m : whole.Lent) (n xs ys sums : ℕ) (l : List Pair) (c : Change) → refusalOf (record { columns = xs ∷ ys ∷ []; sums = sums }) n c ≡ 0
+pub changed-at-one : (m two : whole.Lent) (n : ℕ) (l : List Pair) (c : Change) → refusalOf two n c ≡ 0
     → whole.changed m (map atWeightOne l) (weightedChange c) ≡ map atWeightOne (changed l c)
 unfolding whole.changed changed refusalOf
-changed-at-one m n xs ys sums l (adds p) z = sym (map-append atWeightOne l (p ∷ []))
-changed-at-one m n xs ys sums l (corrects i y) z = new-at-one l i y
-changed-at-one m n xs ys sums l (withdraws i) z =
+changed-at-one m two n l (adds p) z = sym (map-append atWeightOne l (p ∷ []))
+changed-at-one m two n l (corrects i y) z = new-at-one l i y
+changed-at-one m two n l (withdraws i) z =
     ap₂ (λ u v. u ++ v) (taken-at-one i l) (dropped-at-one (i + 1) l) ∙ sym (map-append atWeightOne (take i l) (drop (i + 1) l))
-changed-at-one m n xs ys sums l (frames f) z =
-    let e = frame-room n (xs ∷ ys ∷ []) sums f z .1 in
+changed-at-one m two n l (frames f) z =
+    let e = frame-room n (two .columns) (two .sums) f z .1 in
     ap (λ k. map atWeightOne l ++ decode (standIn f k)) e ∙ ap (λ r. map atWeightOne l ++ r) (frame-at-one f e) ∙ sym (map-append atWeightOne l (framePairs f))

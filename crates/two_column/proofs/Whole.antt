@@ -25,6 +25,7 @@ use Rattle.ledger.proofs.Steps.{Holds, Leaves, step}
 use Rattle.ledger.proofs.Whole.{emptyState, opened-holds}
 use Rattle.two_column.specs.Pairs.{Pair, atWeightOne, Columns, lengths}
 use Rattle.two_column.specs.PairLaws.{sums-of-pairs}
+use Rattle.two_column.specs.RefusalLaws.{capacity-two}
 use Rattle.two_column.specs.Calls.{State, stateOf, stateAfter, openOut}
 use Rattle.two_column.specs.Ledger.{Change, outOf, next, answer, program, final, opened, lentOf, changed, refusalOf, ledgerNext, ledgerAnswer, ledger, ledgerEnd, held, WholePairs}
 use Rattle.two_column.proofs.Opening.{no-sums}
@@ -32,27 +33,27 @@ use Rattle.two_column.proofs.Weighted.{places, places-are, ones, withOn
 
 -- xs, ys and sums are the lengths of the lent memory, rest what the sums hold past the 272
 module _ (xs ys sums : ℕ) (rest : List Float) where
-  abbrev two : Lent
+  abbrev pub two : Lent
   two = record { columns = xs ∷ ys ∷ []; sums = sums }
 
-  abbrev three : Lent
+  abbrev pub three : Lent
   three = record { columns = xs ∷ ys ∷ 4096 ∷ []; sums = sums }
 
   -- the book holds the ledger: with a column of ones, it holds the ledger at weight 1
   abbrev pub HoldsPairs : State → List Pair → Type 0
   HoldsPairs s l = Holds three rest (map atWeightOne l) (weightedState s)
 
-  record Step (s : State) (l : List Pair) (c : Change) : Type 0 where
-    leaves : Leaves three rest (weightedState s) (map atWeightOne (ledgerNext two l c)) (weightedState (next s c))
-    same : answer s c ≡ ledgerAnswer two l c
+  pub record Step (s : State) (l : List Pair) (c : Change) : Type 0 where
+    pub leaves : Leaves three rest (weightedState s) (map atWeightOne (ledgerNext two l c)) (weightedState (next s c))
+    pub same : answer s c ≡ ledgerAnswer two l c
 
   -- one call, on both sides
-  step-pairs : (s : State) (l : List Pair) (c : Change) → HoldsPairs s l → Step s l c
+  pub step-pairs : (s : State) (l : List Pair) (c : Change) → HoldsPairs s l → Step s l c
   step-pairs s l c h = go (refusalOf two (length l) c) refl
     where
       -- the same number refuses
       number : whole.refusalOf three (length (map atWeightOne l)) (weightedChange c) ≡ refusalOf two (length l) c
-      number = ap (λ n. whole.refusalOf three n (weightedChange c)) (length-map l atWeightOne) ∙ refusal-at-one (length l) xs ys sums c
+      number = ap (λ n. whole.refusalOf three n (weightedChange c)) (length-map l atWeightOne) ∙ refusal-at-one (length l) (xs ∷ ys ∷ 4096 ∷ []) (xs ∷ ys ∷ []) sums (capacity-two xs ys) c
 
       after : book.stateAfter (s .count) (whole.outOf (weightedState s) (weightedChange c)) ≡ weightedState (next s c)
       after = ap (book.stateAfter (s .count)) (out-at-one s c)
@@ -60,7 +61,7 @@ module _ (xs ys sums : ℕ) (rest : List Float) where
       go : (k : ℕ) → refusalOf two (length l) c ≡ k → Step s l c
       go zero z =
           let w = step three rest (map atWeightOne l) (weightedState s) h (weightedChange c) in
-          let t = changed-at-one three (length l) xs ys sums l c z in
+          let t = changed-at-one three two (length l) l c z in
           record {
             leaves = rw z (subst (λ (u : book.State). Leaves three rest (weightedState s) (map atWeightOne (changed l c)) u) after (rw (number, z, t) at (w .leaves)));
             same = rw z (ap (λ (o : book.Out). o .answer) (sym (out-at-one s c)) ∙ (rw (number, z, t) at (w .answer)) ∙ ap bookOf (length-map (changed l c) atWeightOne));
@@ -102,7 +103,7 @@ module _ (xs ys sums : ℕ) (rest : List Float) where
 -- ---- a book just opened
 
 -- an open that answers the book was not refused
-not-refused : (sums : List Float) (k : ℕ) → openRefusal (length sums) ≡ k → openOut sums .answer ≡ bookOf 0 → k ≡ 0
+pub not-refused : (sums : List Float) (k : ℕ) → openRefusal (length sums) ≡ k → openOut sums .answer ≡ bookOf 0 → k ≡ 0
 unfolding openOut
 not-refused sums zero e h = refl
 not-refused sums (suc k) e h =
@@ -114,15 +115,24 @@ begun : (c : Columns) (sums : List Float) → openRefusal (length sums) ≡ 0 �
 unfolding openOut
 begun c sums e = rw (e, no-sums) refl
 
+-- it holds the empty ledger
+pub opened-pairs : (c : Columns) (sums : List Float) → openOut sums .answer ≡ bookOf 0
+    → HoldsPairs (length (c .xs)) (length (c .ys)) (length sums) (drop 272 sums) (opened c sums) []
+opened-pairs c sums h =
+    let e = not-refused sums (openRefusal (length sums)) refl h in
+    let n = length-replicate places oneF ∙ places-are in
+    subst (λ (u : book.State). Holds (record { columns = length (c .xs) ∷ length (c .ys) ∷ 4096 ∷ []; sums = length sums }) (drop 272 sums) [] u) (begun c sums e)
+    (subst (λ (k : ℕ). Holds (record { columns = length (c .xs) ∷ length (c .ys) ∷ k ∷ []; sums = length sums }) (drop 272 sums) [] (emptyState (withOnes c) sums)) n
+    (opened-holds (withOnes c) sums (open-room (length sums) e)))
+
 pub whole-pairs : (c : Columns) (sums : List Float) → openOut sums .answer ≡ bookOf 0 → (cs : List Change) → WholePairs c sums cs
 whole-pairs c sums h cs =
-    let e = not-refused sums (openRefusal (length sums)) refl h in
     let xs = length (c .xs) in
     let ys = length (c .ys) in
     let rest = drop 272 sums in
     let s = opened c sums in
     let l = ledgerEnd (lentOf c sums) [] cs in
-    let w = pairs-from xs ys (length sums) rest s [] start cs in
+    let w = pairs-from xs ys (length sums) rest s [] (opened-pairs c sums h) cs in
     let end = w .1 in
     record {
       answered = w .0;
@@ -130,16 +140,8 @@ whole-pairs c sums h cs =
       below-x = end .below ofX ∙ map-map (value ofX) atWeightOne l;
       below-y = end .below ofY ∙ map-map (value ofY) atWeightOne l;
       sums = sums-first (map atWeightOne l) rest (final s cs .sums) (end .sums) ∙ sums-of-pairs l;
-      places-x = λ p. place-from xs ys (length sums) rest ofX (λ (q : Pair). q .x) (λ q. refl) p s [] start cs;
-      places-y = λ p. place-from xs ys (length sums) rest ofY (λ (q : Pair). q .y) (λ q. refl) p s [] start cs;
+      places-x = λ p. place-from xs ys (length sums) rest ofX (λ (q : Pair). q .x) (λ q. refl) p s [] (opened-pairs c sums h) cs;
+      places-y = λ p. place-from xs ys (length sums) rest ofY (λ (q : Pair). q .y) (λ q. refl) p s [] (opened-pairs c sums h) cs;
       past = sums-rest (map atWeightOne l) rest (final s cs .sums) (end .sums);
       lent = λ i. record { columns = take 2 (end .lent i .columns); sums = end .lent i .sums };
     }
-  where
-    start : HoldsPairs (length (c .xs)) (length (c .ys)) (length sums) (drop 272 sums) (opened c sums) []
-    start =
-        let e = not-refused sums (openRefusal (length sums)) refl h in
-        let n = length-replicate places oneF ∙ places-are in
-        subst (λ (u : book.State). Holds (record { columns = length (c .xs) ∷ length (c .ys) ∷ 4096 ∷ []; sums = length sums }) (drop 272 sums) [] u) (begun c sums e)
-        (subst (λ (k : ℕ). Holds (record { columns = length (c .xs) ∷ length (c .ys) ∷ k ∷ []; sums = length sums }) (drop 272 sums) [] (emptyState (withOnes c) sums)) n
-        (opened-holds (withOnes c) sums (open-room (length sums) e)))

@@ -1,0 +1,2 @@
+-- E6's theorem.
+pub mod Over
