@@ -26,8 +26,7 @@ use Rattle.capi.specs.Packed.{packedRefusal, packedBook, packedFit, pack
 use Rattle.samples.specs.Columns.{Columns}
 
 pub book-packed : {o : Out} {a : Answer} {r : ℕ} {columns : Columns} {sums : List Float} → Is o a columns sums → r ≡ packedBook a → BookPacked o r columns sums
-book-packed i e =
-    record { answer = e ∙ ap packedBook (i .answer); lent = record { answer = refl; columns = i .columns; sums = i .sums } }
+book-packed i e = record { answer = e ∙ ap packedBook (i .answer); columns = i .columns; sums = i .sums }
 
 pub fit-packed : {o : FitOut} {a : FitAnswer} {r : ℕ} (s c : Slice Float) → FitIs o a (contents s) (contents c) → r ≡ packedFit a → FitPacked o r s c
 fit-packed s c i e =
@@ -60,18 +59,12 @@ module _ (o : BandOut) (places : ℕ) (s v : Slice Float) where
         numbers = n ∙ ap (λ (b : BandAnswer). over (bandNumbers b) (before v)) (i .answer);
       })
 
--- two places are written
-pub two-written : (v w : Float) (l : List Float) → 2 ≤ length l → set (set l 0 v) 1 w ≡ over (v ∷ w ∷ []) l
-two-written v w [] h = absurd (omega arith)
-two-written v w (a ∷ []) h = absurd (omega arith)
-two-written v w (a ∷ b ∷ l) h = refl
-
 -- a sample into too few places, and into enough
 module _ (a : Read) (v : Slice Float) where
-  pub read-short : length (before v) < 2 → after v ≡ before v → (r : ℕ) → r ≡ packedRefusal 1 → ReadPacked a r v
+  pub read-short : length (before v) < 3 → after v ≡ before v → (r : ℕ) → r ≡ packedRefusal 1 → ReadPacked a r v
   read-short h ev r e = record { short = λ _. (e, ev); read = λ k. absurd (omega arith) }
 
-  pub read-packed : 2 ≤ length (before v) → (b : Read) (r : ℕ) → b ≡ a → r ≡ packedRead b → after v ≡ over (readNumbers b) (before v) → ReadPacked a r v
+  pub read-packed : 3 ≤ length (before v) → (b : Read) (r : ℕ) → b ≡ a → r ≡ packedRead b → after v ≡ over (readNumbers b) (before v) → ReadPacked a r v
   read-packed h b r q e n =
       record { short = λ k. absurd (omega arith); read = λ _. (e ∙ ap packedRead q, n ∙ ap (λ (z : Read). over (readNumbers z) (before v)) q) }
 

@@ -1,6 +1,6 @@
 -- What the calls can answer fits the fields that it is packed into: a count of at most 4,096, a degree of at most 15, at most 16 solved degrees and
--- pruned terms, at most 4,096 outliers, and refusals 1 to 14.
-use mathlib.Core.Path.{_≡_, refl, ap, _∙_}
+-- pruned terms, at most 4,096 outliers, and refusals 1 to 15.
+use mathlib.Core.Path.{_≡_, refl, ap}
 use mathlib.Core.Bool.{Bool, true, false, cond, not, _&&_}
 use mathlib.Core.List.{List, [], _∷_, map}
 use Prim.Native.Nat.{ℕ, zero, suc, _+_, _-_, _≤_, max}
@@ -13,6 +13,7 @@ use Rattle.loops.specs.Fold.{fold}
 use Rattle.loops.specs.Loop.{from, turns}
 use Rattle.loops.specs.Places.{table}
 use Rattle.loops.specs.PlaceLaws.{length-table}
+use Rattle.basis.specs.Sizes.{maxSamples}
 use Rattle.basis.specs.declared.OptionDegree.{OptionDegree}
 use Rattle.basis.specs.declared.OptionDegree.the-variants.{Some, None}
 use Rattle.statistics.specs.Degrees.{maxDegree}
@@ -22,7 +23,7 @@ use Rattle.statistics.specs.declared.Tolerance.{Tolerance}
 use Rattle.samples.specs.Samples.{Sample}
 use Rattle.samples.specs.Columns.{samplesOf, Columns, lengths, noColumns}
 use Rattle.samples.specs.ColumnLaws.{length-samples}
-use Rattle.monomial.specs.Rows.{Row, rowOf, rowsOf}
+use Rattle.monomial.specs.Rows.{Row, rowOf, rowsOf, weightedRows}
 use Rattle.score.specs.declared.Criterion.{Criterion}
 use Rattle.choice.specs.Choice.{solvedCount}
 use Rattle.choice.specs.Laws.{chosen}
@@ -41,12 +42,13 @@ use Rattle.covariance.specs.Pruning.{prunes, prunedAt, prunedBytes}
 use Rattle.covariance.specs.Bands.{bandAt, outlies, outlierOf, outliersOf}
 use Rattle.frame.specs.Frame.{decode}
 use Rattle.decimal.specs.Lines.{readLines}
+use Rattle.book.specs.declared.Answer.{Answer}
+use Rattle.book.specs.declared.Answer.the-variants as books
 use Rattle.book.specs.Refusals.{openRefusal, addRefusal, correctRefusal, withdrawRefusal, frameAddRefusal, linesAddRefusal}
 use Rattle.refusal.specs.Laws.{among, numbered}
 use Rattle.refusal.specs.Refusals.{mostNumber, by, settle}
 use Rattle.book.specs.RefusalLaws.{open-numbers, add-numbers, correct-numbers, withdraw-numbers, frame-numbers, lines-numbers, add-room, correct-room, withdraw-room, frame-room, lines-room}
-use Rattle.book.specs.Calls.{Out, stateOf, refused, openOut, addOut, correctOut, withdrawOut, addFrameOut, addLinesOut}
-use Rattle.book.specs.ManyLaws.{many-added, added-is}
+use Rattle.book.specs.Calls.{Out, State, stateOf, bookAfter, refused, addNext, addMany, openOut, addOut, correctOut, withdrawOut, addFrameOut, addLinesOut}
 use Rattle.measure.specs.Measures.{inverseFails, measureRefusal, covarianceAt}
 use Rattle.query.specs.Refusals.{fitRefusal, validateRefusal, bandRefusal}
 use Rattle.query.specs.RefusalLaws.{fit-numbers, validate-numbers, band-numbers, fit-room, validate-room}
@@ -103,63 +105,85 @@ solved-most S b =
     go i zero m = omega arith
     go i (suc n) m = omega (arith, go (i + 1) n (cond (S i .solved) (m + 1) m), one (S i .solved) m)
 
--- ---- the calls that change a book
+-- ---- the calls that change a book, with weights or without
 
-book-fits : (k : ℕ) (good : Out) (columns : Columns) (sums : List Float) → k ≤ mostNumber → (k ≡ 0 → BookFits (good .answer)) → BookFits (settle k good (refused k columns sums) .answer)
+-- O is what such a call leaves: k refuses it, or else its answer fits
+pub settled-fits : {O : Type 0} (answer : O → Answer) (k : ℕ) (good bad : O) → answer bad ≡ books.Refused k → k ≤ mostNumber → (k ≡ 0 → BookFits (answer good))
+    → BookFits (answer (settle k good bad))
 unfolding BookFits
-book-fits zero good columns sums h g = g refl
-book-fits (suc k) good columns sums h g = (omega arith, h)
+settled-fits answer zero good bad e h g = g refl
+settled-fits answer (suc k) good bad e h g = rw e (omega arith, h)
+
+-- the book after an answer that fits
+pub after-fits : (n : ℕ) (a : Answer) → n ≤ maxSamples → BookFits a → bookAfter n a ≤ maxSamples
+unfolding BookFits
+after-fits n (books.Book b) h f = f
+after-fits n (books.Refused k) h f = h
+
+-- and after many steps, each of which leaves one that does
+pub many-fit : {A S : Type 0} (count : S → ℕ) (step : S → A → S) → ((s : S) (a : A) → count s ≤ maxSamples → count (step s a) ≤ maxSamples)
+    → (l : List A) (s : S) → count s ≤ maxSamples → count (fold step s l) ≤ maxSamples
+unfolding fold
+many-fit count step each [] s h = h
+many-fit count step each (a ∷ l) s h = many-fit count step each l (step s a) (each s a h)
 
 pub open-fits : (sums : List Float) → BookFits (openOut sums .answer)
 unfolding openOut BookFits
 open-fits sums =
-    book-fits (openRefusal (length sums)) _ noColumns sums (omega (arith, among _ (open-numbers (length sums)))) (λ e. omega arith)
+    let r = openRefusal (length sums) in
+    settled-fits (λ (o : Out). o .answer) r _ (refused r noColumns sums) refl (omega (arith, among _ (open-numbers (length sums)))) (λ e. omega arith)
 
 module _ (n : ℕ) (columns : Columns) (sums : List Float) where
   pub add-fits : (p : Sample) → BookFits (addOut n p columns sums .answer)
   unfolding addOut BookFits
   add-fits p =
-      book-fits (addRefusal n p (lengths columns) (length sums)) _ columns sums
-      (omega (arith, among _ (add-numbers n (lengths columns) (length sums) p)))
+      let r = addRefusal n p (lengths columns) (length sums) in
+      settled-fits (λ (o : Out). o .answer) r _ (refused r columns sums) refl (omega (arith, among _ (add-numbers n (lengths columns) (length sums) p)))
       (λ e. add-room n (lengths columns) (length sums) p e .0 .most)
 
   pub correct-fits : (i : ℕ) (y : Float) → BookFits (correctOut n i y columns sums .answer)
   unfolding correctOut BookFits
   correct-fits i y =
-      book-fits (correctRefusal n i y (lengths columns) (length sums)) _ columns sums
-      (omega (arith, among _ (correct-numbers n (lengths columns) (length sums) i y)))
+      let r = correctRefusal n i y (lengths columns) (length sums) in
+      settled-fits (λ (o : Out). o .answer) r _ (refused r columns sums) refl (omega (arith, among _ (correct-numbers n (lengths columns) (length sums) i y)))
       (λ e. correct-room n (lengths columns) (length sums) i y e .0 .most)
 
   pub withdraw-fits : (i : ℕ) → BookFits (withdrawOut n i columns sums .answer)
   unfolding withdrawOut BookFits
   withdraw-fits i =
-      book-fits (withdrawRefusal n i (lengths columns) (length sums)) _ columns sums
-      (omega (arith, among _ (withdraw-numbers n (lengths columns) (length sums) i)))
+      let r = withdrawRefusal n i (lengths columns) (length sums) in
+      settled-fits (λ (o : Out). o .answer) r _ (refused r columns sums) refl (omega (arith, among _ (withdraw-numbers n (lengths columns) (length sums) i)))
       (λ e. omega (arith, withdraw-room n (lengths columns) (length sums) i e .0 .most))
 
+pub add-next-fits : (s : State) (p : Sample) → s .count ≤ maxSamples → addNext s p .count ≤ maxSamples
+add-next-fits s p h = after-fits (s .count) _ h (add-fits (s .count) (s .columns) (s .sums) p)
+
+adds-fit : (ps : List Sample) (s : State) → s .count ≤ maxSamples → addMany ps s .count ≤ maxSamples
+unfolding addMany
+adds-fit ps s h = many-fit (λ (s : State). s .count) addNext add-next-fits ps s h
+
+module _ (n : ℕ) (columns : Columns) (sums : List Float) where
   pub frame-fits : (f : List ℕ) → BookFits (addFrameOut n f columns sums .answer)
   unfolding addFrameOut BookFits
   frame-fits f =
-      let s = stateOf n columns sums in
-      book-fits (frameAddRefusal n f (lengths columns) (length sums)) _ columns sums
-      (omega (arith, among _ (frame-numbers n (lengths columns) (length sums) f)))
-      (λ e. let r = frame-room n (lengths columns) (length sums) f e in rw (many-added (decode f) s (r .0) (r .2) ∙ added-is (decode f) s) (r .0 .most))
+      let r = frameAddRefusal n f (lengths columns) (length sums) in
+      settled-fits (λ (o : Out). o .answer) r _ (refused r columns sums) refl (omega (arith, among _ (frame-numbers n (lengths columns) (length sums) f)))
+      (λ e. adds-fit (decode f) (stateOf n columns sums) (omega (arith, frame-room n (lengths columns) (length sums) f e .0 .most)))
 
   pub lines-fits : (t : List ℕ) → BookFits (addLinesOut n t columns sums .answer)
   unfolding addLinesOut BookFits
   lines-fits t =
-      let s = stateOf n columns sums in
-      book-fits (linesAddRefusal n t (lengths columns) (length sums)) _ columns sums
-      (omega (arith, among _ (lines-numbers n (lengths columns) (length sums) t)))
-      (λ e. let r = lines-room n (lengths columns) (length sums) t e in rw (many-added (readLines t) s (r .0) (r .2) ∙ added-is (readLines t) s) (r .0 .most))
+      let r = linesAddRefusal n t (lengths columns) (length sums) in
+      settled-fits (λ (o : Out). o .answer) r _ (refused r columns sums) refl (omega (arith, among _ (lines-numbers n (lengths columns) (length sums) t)))
+      (λ e. adds-fit (readLines t) (stateOf n columns sums) (omega (arith, lines-room n (lengths columns) (length sums) t e .0 .most)))
 
 -- ---- fit and validation
 
-past-fits : (n degree : ℕ) (samples : List Sample) (sums : List Float) → degree ≤ 15 → FitFits (fitPast n degree samples sums .answer)
+past-fits : (n degree : ℕ) (rows : List Row) (sums : List Float) → degree ≤ 15 → FitFits (fitPast n degree rows sums .answer)
 unfolding fitPast FitFits
-past-fits n degree samples sums h = go (isSolved sums (rowsOf samples) (countOf Curve degree)) refl
+past-fits n degree rows sums h = go (isSolved sums rows (countOf Curve degree)) refl
   where
-    go : (t : Bool) → isSolved sums (rowsOf samples) (countOf Curve degree) ≡ t → FitFits (fitPast n degree samples sums .answer)
+    go : (t : Bool) → isSolved sums rows (countOf Curve degree) ≡ t → FitFits (fitPast n degree rows sums .answer)
     go true e = rw e h
     go false e = rw e (omega arith, omega arith)
 
@@ -186,13 +210,13 @@ module _ (n : ℕ) (columns : Columns) (sums scratch coefficients : List Float) 
       (omega (arith, among _ (validate-numbers n samples (lengths columns) (length sums) (length scratch) folds bound (length coefficients))))
       (λ e.
       chosen-fits (validate-room n samples (lengths columns) (length sums) (length scratch) folds bound (length coefficients) e .1)
-      (validatedChoice criterion (rowsOf samples) folds (maxDegree bound n)) refl)
+      (validatedChoice criterion (weightedRows samples) folds (maxDegree bound n)) refl)
     where
-      chosen-fits : maxDegree bound n ≤ 15 → (o : OptionDegree) → validatedChoice criterion (rowsOf (samplesOf n columns)) folds (maxDegree bound n) ≡ o
-          → FitFits (validatePast n o (samplesOf n columns) (take 272 sums) .answer)
+      chosen-fits : maxDegree bound n ≤ 15 → (o : OptionDegree) → validatedChoice criterion (weightedRows (samplesOf n columns)) folds (maxDegree bound n) ≡ o
+          → FitFits (validatePast n o (rowsOf (samplesOf n columns)) (take 272 sums) .answer)
       chosen-fits h None e = (omega arith, omega arith)
       chosen-fits h (Some d) e =
-          let w = chosen (λ d. validated criterion (rowsOf (samplesOf n columns)) folds (countOf Curve d)) (maxDegree bound n + 1) (d .0) e in
+          let w = chosen (λ d. validated criterion (weightedRows (samplesOf n columns)) folds (countOf Curve d)) (maxDegree bound n + 1) (d .0) e in
           past-fits n (d .0) _ _ (omega (arith, w .within))
 
 -- ---- the band
@@ -232,40 +256,38 @@ band-fits n x degree confidence tolerance columns sums scratch places =
 -- ---- the report
 
 module _ (k : ℕ) (c v : List Float) where
-  outliers-most : (t : Tolerance) (z sd : Float) (samples : List Sample) → length samples ≤ 4096 → ones (outliersOf k c v t z sd (rowsOf samples)) ≤ 4096
+  outliers-most : (t : Tolerance) (z sd : Float) (rows : List Row) → length rows ≤ 4096 → ones (outliersOf k c v t z sd rows) ≤ 4096
   unfolding outlierOf
-  outliers-most t z sd samples h =
-      let marks = ones-map (outlierOf k c v t z sd) (λ r. mark-most (outlies (bandAt k c v t z sd (r .terms)) (r .y))) (rowsOf samples) in
-      omega (arith, marks, length-map samples rowOf)
+  outliers-most t z sd rows h = omega (arith, ones-map (outlierOf k c v t z sd) (λ r. mark-most (outlies (bandAt k c v t z sd (r .terms)) (r .y))) rows)
 
   pruned-most : (rule : PruningRule) (t : Float) → ones (prunedBytes rule k c v t) ≤ 16
   unfolding prunedAt
   pruned-most rule t = ones-table (prunedAt rule k c v t) (λ i. mark-most (ltb i k && prunes rule t (getD c i nan) (getD v i nan))) 16
 
-module _ (n : ℕ) (settings : Settings) (samples : List Sample) (sums : List Float)
-    (few : length samples ≤ 4096) (most : maxDegree (settings .bound) n ≤ 15) where
-  written-fits : (degree solved : ℕ) (c v : List Float) → degree ≤ 15 → solved ≤ 16 → ReportFits (writtenBy n settings samples degree solved c v .answer)
+module _ (n : ℕ) (settings : Settings) (rows : List Row) (sums : List Float)
+    (few : length rows ≤ 4096) (most : maxDegree (settings .bound) n ≤ 15) where
+  written-fits : (degree solved : ℕ) (c v : List Float) → degree ≤ 15 → solved ≤ 16 → ReportFits (writtenBy n settings rows degree solved c v .answer)
   unfolding ReportFits writtenBy
   written-fits degree solved c v h k =
-      (h, k, outliers-most (countOf Curve degree) c v (settings .tolerance) _ _ samples few, pruned-most (countOf Curve degree) c _ (settings .pruning) _)
+      (h, k, outliers-most (countOf Curve degree) c v (settings .tolerance) _ _ rows few, pruned-most (countOf Curve degree) c _ (settings .pruning) _)
 
-  choice-solved : reportChoice n settings samples sums .solved ≤ 16
+  choice-solved : reportChoice n settings rows sums .solved ≤ 16
   unfolding reportChoice choiceOf
   choice-solved =
       let counts = countsOf Curve (maxDegree (settings .bound) n) in
-      omega (arith, solved-most (tried (settings .criterion) sums (rowsOf samples) counts) (length counts), length-table (countOf Curve) (maxDegree (settings .bound) n + 1))
+      omega (arith, solved-most (tried (settings .criterion) sums rows counts) (length counts), length-table (countOf Curve) (maxDegree (settings .bound) n + 1))
 
-  chosen-fits : (o : OptionDegree) → reportChoice n settings samples sums .chosen ≡ o
-      → ReportFits (reportOf n settings samples sums (reportChoice n settings samples sums .solved) o .answer)
+  chosen-fits : (o : OptionDegree) → reportChoice n settings rows sums .chosen ≡ o
+      → ReportFits (reportOf n settings rows sums (reportChoice n settings rows sums .solved) o .answer)
   unfolding reportOf ReportFits
   chosen-fits None e = (omega arith, omega arith)
   chosen-fits (Some d) e = go (inverseFails sums (countOf Curve (d .0)))
     where
       go : (t : Bool)
           → ReportFits
-          (cond t (refusedLate n 12) (writtenBy n settings samples (d .0) (reportChoice n settings samples sums .solved) (solve sums (countOf Curve (d .0)) .c) (covarianceAt sums (rowsOf samples) (countOf Curve (d .0)))) .answer)
+          (cond t (refusedLate n 12) (writtenBy n settings rows (d .0) (reportChoice n settings rows sums .solved) (solve sums (countOf Curve (d .0)) .c) (covarianceAt sums rows (countOf Curve (d .0)))) .answer)
       go true = (omega arith, omega arith)
-      go false = written-fits (d .0) _ _ _ (omega (arith, chosen-solved n settings samples sums d e .0)) choice-solved
+      go false = written-fits (d .0) _ _ _ (omega (arith, chosen-solved n settings rows sums d e .0)) choice-solved
 
 report-settles : (k : ℕ) (good : ReportOut) → k ≤ mostNumber → (k ≡ 0 → ReportFits (good .answer))
     → ReportFits (settle k good (refusedEarly k) .answer)
@@ -281,5 +303,5 @@ report-fits n settings columns sums places =
     (omega (arith, among _ (report-numbers n settings samples (lengths columns) (length sums) places)))
     (λ e.
     let w = report-room n settings samples (lengths columns) (length sums) places e in
-    chosen-fits n settings samples (take 272 sums) (omega (arith, w .room .most, length-samples n columns)) (w .most)
-    (reportChoice n settings samples (take 272 sums) .chosen) refl)
+    chosen-fits n settings (rowsOf samples) (take 272 sums) (omega (arith, w .room .most, length-samples n columns, length-map samples rowOf)) (w .most)
+    (reportChoice n settings (rowsOf samples) (take 272 sums) .chosen) refl)

@@ -14,7 +14,7 @@ use Rattle.frame.specs.declared.cursor.Read.{Read}
 use Rattle.frame.specs.declared.cursor.Read.the-variants as reads
 use Rattle.book.specs.declared.Answer.{Answer}
 use Rattle.book.specs.declared.Answer.the-variants as books
-use Rattle.book.specs.Calls.{Out, Is}
+use Rattle.book.specs.Calls.{Out}
 use Rattle.query.specs.declared.FitAnswer.{FitAnswer}
 use Rattle.query.specs.declared.FitAnswer.the-variants as fits
 use Rattle.query.specs.declared.BandAnswer.{BandAnswer}
@@ -79,12 +79,12 @@ packedOpened (readers.Refused k) = packedRefusal k
 
 -- what it finds: the offset behind the sample; 0, which is behind no sample, at the end
 unfoldable pub packedRead : Read → ℕ
-packedRead (reads.Sample x y c) = c .at
+packedRead (reads.Sample x y w c) = c .at
 packedRead reads.End = 0
 
--- x and y; at the end none is written
+-- x, y and the weight; at the end none is written
 unfoldable pub readNumbers : Read → List Float
-readNumbers (reads.Sample x y c) = x ∷ y ∷ []
+readNumbers (reads.Sample x y w c) = x ∷ y ∷ w ∷ []
 readNumbers reads.End = []
 
 -- a replay: the book's count; 255, which is no refusal's number, where the buffers hold no list of calls
@@ -118,9 +118,14 @@ ReportFits (reports.Refused k) = RefusalFits k
 
 -- ---- what each call promises: the packed answer of the book's own call, and every lent list as that call leaves it
 
-pub record BookPacked (o : Out) (r : ℕ) (columns : Columns) (sums : List Float) : Type 0 where
-  pub answer : r ≡ packedBook (o .answer)
-  pub lent : Is o (o .answer) columns sums
+-- of a call that changes a book, with weights or without: a, c and s are its answer, the columns and the sums that it leaves
+pub record ChangePacked {C : Type 0} (a : Answer) (c : C) (s : List Float) (r : ℕ) (left : C) (leftSums : List Float) : Type 0 where
+  pub answer : r ≡ packedBook a
+  pub columns : left ≡ c
+  pub sums : leftSums ≡ s
+
+abbrev pub BookPacked : Out → ℕ → Columns → List Float → Type 0
+BookPacked o r columns sums = ChangePacked (o .answer) (o .columns) (o .sums) r columns sums
 
 -- s and c: scratch and the coefficients
 pub record FitPacked (o : FitOut) (r : ℕ) (s c : Slice Float) : Type 0 where
@@ -141,11 +146,11 @@ pub record ReportPacked (o : ReportOut) (r : ℕ) (w : LentOutputs) : Type 0 whe
 abbrev pub ReportPackedIs : ℕ → Settings → Columns → List Float → ℕ → LentOutputs → Type 0
 ReportPackedIs n settings columns sums r w = ReportPacked (reportOut n settings columns sums (placesOf (w .found))) r w
 
--- v: the lent places for x and y
+-- v: the lent places for x, y and the weight
 pub record ReadPacked (a : Read) (r : ℕ) (v : Slice Float) : Type 0 where
-  -- fewer than two are refused by 1, and none is written
-  pub short : length (before v) < 2 → (r ≡ packedRefusal 1) × (after v ≡ before v)
-  pub read : 2 ≤ length (before v) → (r ≡ packedRead a) × (after v ≡ over (readNumbers a) (before v))
+  -- fewer than three are refused by 1, and none is written
+  pub short : length (before v) < 3 → (r ≡ packedRefusal 1) × (after v ≡ before v)
+  pub read : 3 ≤ length (before v) → (r ≡ packedRead a) × (after v ≡ over (readNumbers a) (before v))
 
 -- r is the answer, m the memory
 pub record ReplayPacked (kinds words : List ℕ) (numbers : List Float) (width : ℕ) (m : LentMemory) (r : ℕ) : Type 0 where

@@ -61,5 +61,5 @@ OpenedRead p (readers.Refused k) = numberIn p ≡ k
 
 -- 0 is the end and no sample
 unfoldable pub ReadRead : ℕ → Read → Type 0
-ReadRead p (reads.Sample x y c) = (0 < p) × (numberIn p ≡ 0) × (countIn p ≡ c .at)
+ReadRead p (reads.Sample x y w c) = (0 < p) × (numberIn p ≡ 0) × (countIn p ≡ c .at)
 ReadRead p reads.End = p ≡ 0

@@ -18,7 +18,8 @@ use Rattle.book.specs.declared.Answer.{Answer}
 use Rattle.book.specs.declared.Answer.the-variants as books
 use Rattle.book.specs.Calls.{openOut, addOut, correctOut, withdrawOut, addFrameOut, addLinesOut}
 use Rattle.samples.specs.Columns.{Columns}
-use Rattle.frame.specs.Frame.{frameRefusal}
+use Rattle.frame.specs.Frame.{frameRefusal, weighted, sampleBytes}
+use Rattle.frame.specs.Laws.{least-bytes}
 use Rattle.frame.specs.Handed.{nextOf, openedBy, openedOf}
 use Rattle.frame.specs.HandedLaws.{next-whole, next-end}
 use Rattle.query.specs.declared.FitAnswer.{FitAnswer}
@@ -159,12 +160,12 @@ reader-back f = by-number (frameRefusal f)
 
 pub next-back : (f : List ℕ) (at : ℕ) → length f < 0x100_0000_0000_0000 → ReadRead (packedRead (nextOf f at)) (nextOf f at)
 unfolding ReadRead packedRead
-next-back f at h = by-test (leb (at + 16) (length f)) refl
+next-back f at h = by-test (leb (at + sampleBytes (weighted f)) (length f)) refl
   where
-    by-test : (t : Bool) → leb (at + 16) (length f) ≡ t → ReadRead (packedRead (nextOf f at)) (nextOf f at)
+    by-test : (t : Bool) → leb (at + sampleBytes (weighted f)) (length f) ≡ t → ReadRead (packedRead (nextOf f at)) (nextOf f at)
     by-test true e =
-        let k : at + 16 ≤ length f = leb-true _ _ e in
-        rw (next-whole f at k) (omega arith, div-eq-of-lt (omega arith), mod-eq-of-lt (omega arith))
+        let k : at + sampleBytes (weighted f) ≤ length f = leb-true _ _ e in
+        rw (next-whole f at k) (omega (arith, least-bytes (weighted f)), div-eq-of-lt (omega arith), mod-eq-of-lt (omega arith))
     by-test false e = rw (next-end f at (leb-false _ _ e))
 
 -- ---- a replay that was run: its answer is not the one of buffers that hold no list of calls

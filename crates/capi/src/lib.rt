@@ -25,6 +25,11 @@ ghost use Rattle.replay.specs.Replay.{memory};
 ghost use Rattle.settings.specs.Numbers.{boundOf, criterionOf, confidenceOf, toleranceOf, settingsOf, settingsIn};
 ghost use Rattle.capi.specs.Packed.{packedCounts, packedReport, ReportFits, packedBand, bandNumbers, BookPacked, FitPacked, BandPacked, bandInto, ReportPackedIs, packedOpened, packedRead, readNumbers, ReadPacked, ReplayPacked};
 
+// The places that a band is written to, and those of a reader's sample.
+const BAND: usize = 3;
+
+const SAMPLE: usize = 3;
+
 // The four numbers of a report, each in its field.
 fn counts(degree: usize, solved: usize, outliers: usize, pruned: usize) -> u64
     requires { ⌜ (degree ≤ highestDegree) × (solved ≤ maxTerms) × (outliers ≤ maxSamples) × (pruned ≤ maxTerms) ⌝ }
@@ -66,15 +71,16 @@ fn packed_band(answer: BandAnswer, numbers: &mut [f64]) -> u64
     }
 }
 
-// What a reader finds: the offset behind the sample, whose x and y are written; 0, which is behind no sample, at the end.
+// What a reader finds: the offset behind the sample, whose x, y and weight are written; 0, which is behind no sample, at the end.
 fn packed_read(answer: Read, numbers: &mut [f64]) -> u64
-    requires { ⌜ 2 ≤ length (now numbers) ⌝ }
+    requires { ⌜ 3 ≤ length (now numbers) ⌝ }
     ensures { λ r. ⌜ (r ≡ packedRead answer) × (after numbers ≡ over (readNumbers answer) (before numbers)) ⌝ }
 {
     match answer {
-        Read::Sample(x, y, c) => {
+        Read::Sample(x, y, w, c) => {
             numbers[0] = x;
             numbers[1] = y;
+            numbers[2] = w;
             c.at as u64
         }
         Read::End => 0,
@@ -95,13 +101,15 @@ pub extern "C" fn stakebook_add(
     count: usize,
     x: f64,
     y: f64,
+    weight: f64,
     xs: &mut [f64],
     ys: &mut [f64],
+    ws: &mut [f64],
     sums: &mut [f64],
 ) -> u64
-    ensures { λ r. ⌜ BookPacked (addOut count (record { x = x; y = y }) (columnsOf (before xs) (before ys)) (before sums)) r (columnsOf (after xs) (after ys)) (after sums) ⌝ }
+    ensures { λ r. ⌜ BookPacked (addOut count (record { x = x; y = y; w = weight }) (columnsOf (before xs) (before ys) (before ws)) (before sums)) r (columnsOf (after xs) (after ys) (after ws)) (after sums) ⌝ }
 {
-    packed::book(book::add(Book { count }, x, y, xs, ys, sums))
+    packed::book(book::add(Book { count }, x, y, weight, xs, ys, ws, sums))
 }
 
 // Sample i gets a new y.
@@ -112,11 +120,12 @@ pub extern "C" fn stakebook_correct(
     y: f64,
     xs: &[f64],
     ys: &mut [f64],
+    ws: &[f64],
     sums: &mut [f64],
 ) -> u64
-    ensures { λ r. ⌜ BookPacked (correctOut count i y (columnsOf (before xs) (before ys)) (before sums)) r (columnsOf (before xs) (after ys)) (after sums) ⌝ }
+    ensures { λ r. ⌜ BookPacked (correctOut count i y (columnsOf (before xs) (before ys) (before ws)) (before sums)) r (columnsOf (before xs) (after ys) (before ws)) (after sums) ⌝ }
 {
-    packed::book(book::correct(Book { count }, i, y, xs, ys, sums))
+    packed::book(book::correct(Book { count }, i, y, xs, ys, ws, sums))
 }
 
 // Sample i goes, and later ones move down one.
@@ -126,11 +135,12 @@ pub extern "C" fn stakebook_withdraw(
     i: usize,
     xs: &mut [f64],
     ys: &mut [f64],
+    ws: &mut [f64],
     sums: &mut [f64],
 ) -> u64
-    ensures { λ r. ⌜ BookPacked (withdrawOut count i (columnsOf (before xs) (before ys)) (before sums)) r (columnsOf (after xs) (after ys)) (after sums) ⌝ }
+    ensures { λ r. ⌜ BookPacked (withdrawOut count i (columnsOf (before xs) (before ys) (before ws)) (before sums)) r (columnsOf (after xs) (after ys) (after ws)) (after sums) ⌝ }
 {
-    packed::book(book::withdraw(Book { count }, i, xs, ys, sums))
+    packed::book(book::withdraw(Book { count }, i, xs, ys, ws, sums))
 }
 
 // All samples of a frame at the end, or none.
@@ -140,11 +150,12 @@ pub extern "C" fn stakebook_add_frame(
     frame: &[u8],
     xs: &mut [f64],
     ys: &mut [f64],
+    ws: &mut [f64],
     sums: &mut [f64],
 ) -> u64
-    ensures { λ r. ⌜ BookPacked (addFrameOut count (before frame) (columnsOf (before xs) (before ys)) (before sums)) r (columnsOf (after xs) (after ys)) (after sums) ⌝ }
+    ensures { λ r. ⌜ BookPacked (addFrameOut count (before frame) (columnsOf (before xs) (before ys) (before ws)) (before sums)) r (columnsOf (after xs) (after ys) (after ws)) (after sums) ⌝ }
 {
-    packed::book(book::add_frame(Book { count }, frame, xs, ys, sums))
+    packed::book(book::add_frame(Book { count }, frame, xs, ys, ws, sums))
 }
 
 // All samples of a text of lines at the end, or none.
@@ -154,11 +165,12 @@ pub extern "C" fn stakebook_add_lines(
     text: &[u8],
     xs: &mut [f64],
     ys: &mut [f64],
+    ws: &mut [f64],
     sums: &mut [f64],
 ) -> u64
-    ensures { λ r. ⌜ BookPacked (addLinesOut count (before text) (columnsOf (before xs) (before ys)) (before sums)) r (columnsOf (after xs) (after ys)) (after sums) ⌝ }
+    ensures { λ r. ⌜ BookPacked (addLinesOut count (before text) (columnsOf (before xs) (before ys) (before ws)) (before sums)) r (columnsOf (after xs) (after ys) (after ws)) (after sums) ⌝ }
 {
-    packed::book(book::add_lines(Book { count }, text, xs, ys, sums))
+    packed::book(book::add_lines(Book { count }, text, xs, ys, ws, sums))
 }
 
 // The fit of the asked degree.
@@ -168,17 +180,19 @@ pub extern "C" fn stakebook_fit(
     degree: usize,
     xs: &[f64],
     ys: &[f64],
+    ws: &[f64],
     sums: &[f64],
     scratch: &mut [f64],
     coefficients: &mut [f64],
 ) -> u64
-    ensures { λ r. ⌜ FitPacked (fitOut count (columnsOf (before xs) (before ys)) (before sums) (before scratch) (before coefficients) degree) r scratch coefficients ⌝ }
+    ensures { λ r. ⌜ FitPacked (fitOut count (columnsOf (before xs) (before ys) (before ws)) (before sums) (before scratch) (before coefficients) degree) r scratch coefficients ⌝ }
 {
     packed::fit(query::fit(
         Book { count },
         Degree(degree),
         xs,
         ys,
+        ws,
         sums,
         scratch,
         coefficients,
@@ -195,11 +209,12 @@ pub extern "C" fn stakebook_validate(
     criterion: u32,
     xs: &[f64],
     ys: &[f64],
+    ws: &[f64],
     sums: &[f64],
     scratch: &mut [f64],
     coefficients: &mut [f64],
 ) -> u64
-    ensures { λ r. ⌜ FitPacked (validateOut count (columnsOf (before xs) (before ys)) (before sums) (before scratch) (before coefficients) folds (boundOf bound most) (criterionOf criterion)) r scratch coefficients ⌝ }
+    ensures { λ r. ⌜ FitPacked (validateOut count (columnsOf (before xs) (before ys) (before ws)) (before sums) (before scratch) (before coefficients) folds (boundOf bound most) (criterionOf criterion)) r scratch coefficients ⌝ }
 {
     let by = settings::bound(bound, most);
     let scored = settings::criterion(criterion);
@@ -210,6 +225,7 @@ pub extern "C" fn stakebook_validate(
         scored,
         xs,
         ys,
+        ws,
         sums,
         scratch,
         coefficients,
@@ -228,13 +244,14 @@ pub extern "C" fn stakebook_band(
     value: f64,
     xs: &[f64],
     ys: &[f64],
+    ws: &[f64],
     sums: &[f64],
     scratch: &mut [f64],
     numbers: &mut [f64],
 ) -> u64
-    ensures { λ r. ⌜ BandPacked (bandInto (length (before numbers)) (bandOut count x degree (confidenceOf confidence score) (toleranceOf tolerance value) (columnsOf (before xs) (before ys)) (before sums) (before scratch))) r scratch numbers ⌝ }
+    ensures { λ r. ⌜ BandPacked (bandInto (length (before numbers)) (bandOut count x degree (confidenceOf confidence score) (toleranceOf tolerance value) (columnsOf (before xs) (before ys) (before ws)) (before sums) (before scratch))) r scratch numbers ⌝ }
 {
-    if numbers.len() < 3 {
+    if numbers.len() < BAND {
         return packed::refused(1);
     }
     let with = settings::confidence(confidence, score);
@@ -247,6 +264,7 @@ pub extern "C" fn stakebook_band(
         allowed,
         xs,
         ys,
+        ws,
         sums,
         scratch,
     );
@@ -266,6 +284,7 @@ pub extern "C" fn stakebook_report(
     value: f64,
     xs: &[f64],
     ys: &[f64],
+    ws: &[f64],
     sums: &[f64],
     scratch: &mut [f64],
     coefficients: &mut [f64],
@@ -275,7 +294,7 @@ pub extern "C" fn stakebook_report(
     upper: &mut [f64],
     outliers: &mut [u8],
 ) -> u64
-    ensures { λ r. ⌜ ReportPackedIs count (settingsOf bound most criterion confidence score tolerance value 0) (columnsOf (before xs) (before ys)) (before sums) r (outputs scratch coefficients errors pruned lower upper outliers) ⌝ }
+    ensures { λ r. ⌜ ReportPackedIs count (settingsOf bound most criterion confidence score tolerance value 0) (columnsOf (before xs) (before ys) (before ws)) (before sums) r (outputs scratch coefficients errors pruned lower upper outliers) ⌝ }
 {
     let settings = settings::numbered(
         bound,
@@ -292,6 +311,7 @@ pub extern "C" fn stakebook_report(
         settings,
         xs,
         ys,
+        ws,
         sums,
         scratch,
         coefficients,
@@ -311,6 +331,7 @@ pub extern "C" fn stakebook_report_by(
     values: &[f64],
     xs: &[f64],
     ys: &[f64],
+    ws: &[f64],
     sums: &[f64],
     scratch: &mut [f64],
     coefficients: &mut [f64],
@@ -320,7 +341,7 @@ pub extern "C" fn stakebook_report_by(
     upper: &mut [f64],
     outliers: &mut [u8],
 ) -> u64
-    ensures { λ r. ⌜ ReportPackedIs count (settingsIn (before words) (before values)) (columnsOf (before xs) (before ys)) (before sums) r (outputs scratch coefficients errors pruned lower upper outliers) ⌝ }
+    ensures { λ r. ⌜ ReportPackedIs count (settingsIn (before words) (before values)) (columnsOf (before xs) (before ys) (before ws)) (before sums) r (outputs scratch coefficients errors pruned lower upper outliers) ⌝ }
 {
     let settings = settings::listed(words, values);
     packed_report(report::report(
@@ -328,6 +349,7 @@ pub extern "C" fn stakebook_report_by(
         settings,
         xs,
         ys,
+        ws,
         sums,
         scratch,
         coefficients,
@@ -347,12 +369,13 @@ pub extern "C" fn stakebook_reader(frame: &[u8]) -> u64
     packed::opened(frame::reader(frame))
 }
 
-// The sample at an offset of a frame, written to two places: x and y. The frame is not judged again: that was done when its reader was made.
+// The sample at an offset of a frame, written to three places: x, y and the weight, which is 1 at version 1. The frame is not judged again: that was
+// done when its reader was made.
 #[no_mangle]
 pub extern "C" fn stakebook_next(frame: &[u8], at: usize, numbers: &mut [f64]) -> u64
     ensures { λ r. ⌜ ReadPacked (nextOf (before frame) at) r numbers ⌝ }
 {
-    if numbers.len() < 2 {
+    if numbers.len() < SAMPLE {
         return packed::refused(1);
     }
     packed_read(frame::next(frame, Cursor { at }), numbers)
@@ -367,6 +390,7 @@ pub extern "C" fn stakebook_replay(
     width: usize,
     xs: &mut [f64],
     ys: &mut [f64],
+    ws: &mut [f64],
     sums: &mut [f64],
     results: &mut [usize],
     scratch: &mut [f64],
@@ -377,7 +401,7 @@ pub extern "C" fn stakebook_replay(
     upper: &mut [f64],
     outliers: &mut [u8],
 ) -> u64
-    ensures { λ r. ⌜ ReplayPacked (before kinds) (before words) (before numbers) width (memory xs ys sums results (outputs scratch coefficients errors pruned lower upper outliers)) r ⌝ }
+    ensures { λ r. ⌜ ReplayPacked (before kinds) (before words) (before numbers) width (memory xs ys ws sums results (outputs scratch coefficients errors pruned lower upper outliers)) r ⌝ }
 {
     packed::replay(replay::replay(
         kinds,
@@ -386,6 +410,7 @@ pub extern "C" fn stakebook_replay(
         width,
         xs,
         ys,
+        ws,
         sums,
         results,
         scratch,

@@ -6,9 +6,10 @@ use Rattle.capi.proofs.stakebook_add.Tie as tie
 
 returns : tie.Need-returns
 returns c =
-    let at-add = c .before .before .before .before .before .before .before .add in
+    let at-add = c .before .before .before .before .before .before .before .before .before .add in
     book-packed (at-add .ensures) (c .book .ensures)
 
 pub stakebook-add-spec : {M : Type 1} → statement M
 stakebook-add-spec =
-    tie.close (tie.spec (λ c κs. search needs) (λ c κs. search needs) (λ c. search needs) (λ c. search needs) (λ c. search needs) returns)
+    tie.close
+    (tie.spec (λ c κs. search needs) (λ c κs. search needs) (λ c. search needs) (λ c. search needs) (λ c. search needs) (λ c. search needs) returns)

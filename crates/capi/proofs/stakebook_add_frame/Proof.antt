@@ -6,10 +6,10 @@ use Rattle.capi.proofs.stakebook_add_frame.Tie as tie
 
 returns : tie.Need-returns
 returns c =
-    let at-add-frame = c .before .before .before .before .before .before .before .add-frame in
+    let at-add-frame = c .before .before .before .before .before .before .before .before .before .add-frame in
     book-packed (at-add-frame .ensures) (c .book .ensures)
 
 pub stakebook-add-frame-spec : {M : Type 1} → statement M
 stakebook-add-frame-spec =
     tie.close
-    (tie.spec (λ c κs. search needs) (λ c κs. search needs) (λ c. search needs) (λ c. search needs) (λ c. search needs) returns)
+    (tie.spec (λ c κs. search needs) (λ c κs. search needs) (λ c. search needs) (λ c. search needs) (λ c. search needs) (λ c. search needs) returns)

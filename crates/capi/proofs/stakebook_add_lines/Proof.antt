@@ -6,10 +6,10 @@ use Rattle.capi.proofs.stakebook_add_lines.Tie as tie
 
 returns : tie.Need-returns
 returns c =
-    let at-add-lines = c .before .before .before .before .before .before .before .add-lines in
+    let at-add-lines = c .before .before .before .before .before .before .before .before .before .add-lines in
     book-packed (at-add-lines .ensures) (c .book .ensures)
 
 pub stakebook-add-lines-spec : {M : Type 1} → statement M
 stakebook-add-lines-spec =
     tie.close
-    (tie.spec (λ c κs. search needs) (λ c κs. search needs) (λ c. search needs) (λ c. search needs) (λ c. search needs) returns)
+    (tie.spec (λ c κs. search needs) (λ c κs. search needs) (λ c. search needs) (λ c. search needs) (λ c. search needs) (λ c. search needs) returns)

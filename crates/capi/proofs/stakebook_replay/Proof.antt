@@ -6,7 +6,7 @@ use Rattle.capi.proofs.stakebook_replay.Tie as tie
 
 returns : tie.Need-returns
 returns c =
-    let at-replay = c .before .before .before .before .before .before .before .before .before .before .before .before .before .before .before .before .before .before .before .before .before .before .before .replay in
+    let at-replay = c .before .before .before .before .before .before .before .before .before .before .before .before .before .before .before .before .before .before .before .before .before .before .before .before .before .replay in
     replay-packed (at-replay .ensures) (c .replay2 .ensures)
 
 pub stakebook-replay-spec : {M : Type 1} → statement M
@@ -15,6 +15,7 @@ stakebook-replay-spec =
     (tie.spec
     (λ c κs. search needs)
     (λ c κs. search needs)
+    (λ c. search needs)
     (λ c. search needs)
     (λ c. search needs)
     (λ c. search needs)

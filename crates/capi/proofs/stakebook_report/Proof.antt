@@ -10,8 +10,8 @@ use Rattle.capi.proofs.stakebook_report.Tie as tie
 packed-report-requires : tie.Need-packed-report-requires
 packed-report-requires c κs =
     let at-report = c .before .before .before .before .before .before .before .before .before .before .before .before .before .before .report in
-    let at-args = c .before .before .before .before .before .before .before .before .before .before .before .before .before .before .before .before .before .before .before .before .before .before .before .before .before .before .before .before .before .before .before .before .before .args in
-    rw (at-report .ensures .answer) (report-fits (at-args .count) _ (columnsOf (at-args .xs .now) (at-args .ys .now)) (at-args .sums .now) _)
+    let at-args = c .before .before .before .before .before .before .before .before .before .before .before .before .before .before .before .before .before .before .before .before .before .before .before .before .before .before .before .before .before .before .before .before .before .before .args in
+    rw (at-report .ensures .answer) (report-fits (at-args .count) _ (columnsOf (at-args .xs .now) (at-args .ys .now) (at-args .ws .now)) (at-args .sums .now) _)
 
 returns : tie.Need-returns
 returns c =
