@@ -10,6 +10,8 @@ use lib.Ieee.{Float}
 use Rattle.frame.specs.declared.cursor.Read.{Read}
 use Rattle.book.specs.declared.Answer.{Answer}
 use Rattle.book.specs.Calls.{Out, Is}
+use Rattle.two_column.specs.Pairs.{Columns as PairColumns}
+use Rattle.two_column.specs.Calls.{Out as PairOut, Is as PairIs}
 use Rattle.query.specs.declared.FitAnswer.{FitAnswer}
 use Rattle.query.specs.declared.BandAnswer.{BandAnswer}
 use Rattle.query.specs.Fits.{FitOut, FitIs}
@@ -22,11 +24,15 @@ use Rattle.replay.specs.Records.{callsOf}
 use Rattle.replay.specs.Replay.{LentMemory, Ran, ReplayIs}
 use Rattle.lent.specs.Slices.{Slice, before, after, contents}
 use Rattle.lent.specs.Written.{over}
-use Rattle.capi.specs.Packed.{packedRefusal, packedBook, packedFit, packedBand, packedReport, bandNumbers, bandInto, BookPacked, FitPacked, BandPacked, ReportPacked, packedRead, readNumbers, ReadPacked, packedReplay, ReplayPacked}
+use Rattle.capi.specs.Packed.{packedRefusal, packedBook, packedFit, packedBand, packedReport, bandNumbers, bandInto, BookPacked, PairPacked, FitPacked, BandPacked, ReportPacked, packedRead, readNumbers, ReadPacked, packedReplay, ReplayPacked}
 use Rattle.samples.specs.Columns.{Columns}
 
 pub book-packed : {o : Out} {a : Answer} {r : ℕ} {columns : Columns} {sums : List Float} → Is o a columns sums → r ≡ packedBook a → BookPacked o r columns sums
 book-packed i e = record { answer = e ∙ ap packedBook (i .answer); columns = i .columns; sums = i .sums }
+
+pub pair-packed : {o : PairOut} {a : Answer} {r : ℕ} {columns : PairColumns} {sums : List Float} → PairIs o a columns sums → r ≡ packedBook a
+    → PairPacked o r columns sums
+pair-packed i e = record { answer = e ∙ ap packedBook (i .answer); columns = i .columns; sums = i .sums }
 
 pub fit-packed : {o : FitOut} {a : FitAnswer} {r : ℕ} (s c : Slice Float) → FitIs o a (contents s) (contents c) → r ≡ packedFit a → FitPacked o r s c
 fit-packed s c i e =

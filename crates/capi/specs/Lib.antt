@@ -1,6 +1,7 @@
 -- The C interface: how an answer is packed into one number, that what the calls answer fits, and that reading it gives the answer back.
 pub mod Packed
 pub mod Fitting
+pub mod PairFitting
 pub mod ReplayFitting
 pub mod Reading
 pub mod ReadingLaws

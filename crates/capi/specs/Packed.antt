@@ -15,6 +15,8 @@ use Rattle.frame.specs.declared.cursor.Read.the-variants as reads
 use Rattle.book.specs.declared.Answer.{Answer}
 use Rattle.book.specs.declared.Answer.the-variants as books
 use Rattle.book.specs.Calls.{Out}
+use Rattle.two_column.specs.Pairs.{Columns as PairColumns}
+use Rattle.two_column.specs.Calls.{Out as PairOut}
 use Rattle.query.specs.declared.FitAnswer.{FitAnswer}
 use Rattle.query.specs.declared.FitAnswer.the-variants as fits
 use Rattle.query.specs.declared.BandAnswer.{BandAnswer}
@@ -126,6 +128,10 @@ pub record ChangePacked {C : Type 0} (a : Answer) (c : C) (s : List Float) (r : 
 
 abbrev pub BookPacked : Out → ℕ → Columns → List Float → Type 0
 BookPacked o r columns sums = ChangePacked (o .answer) (o .columns) (o .sums) r columns sums
+
+-- the same of a two-column book
+abbrev pub PairPacked : PairOut → ℕ → PairColumns → List Float → Type 0
+PairPacked o r columns sums = ChangePacked (o .answer) (o .columns) (o .sums) r columns sums
 
 -- s and c: scratch and the coefficients
 pub record FitPacked (o : FitOut) (r : ℕ) (s c : Slice Float) : Type 0 where

@@ -18,6 +18,8 @@ use Rattle.book.specs.declared.Answer.{Answer}
 use Rattle.book.specs.declared.Answer.the-variants as books
 use Rattle.book.specs.Calls.{openOut, addOut, correctOut, withdrawOut, addFrameOut, addLinesOut}
 use Rattle.samples.specs.Columns.{Columns}
+use Rattle.two_column.specs.Pairs.{Pair, Columns as PairColumns}
+use Rattle.two_column.specs.Calls as pairs
 use Rattle.frame.specs.Frame.{frameRefusal, weighted, sampleBytes}
 use Rattle.frame.specs.Laws.{least-bytes}
 use Rattle.frame.specs.Handed.{nextOf, openedBy, openedOf}
@@ -38,6 +40,7 @@ use Rattle.ledger.specs.ReadCalls.{ReadCall}
 use Rattle.replay.specs.Replay.{Memory, Ran}
 use Rattle.capi.specs.Packed.{packedOpened, packedRead, bandInto, packedRefusal, packedBook, packedFit, packedBand, packedCounts, packedReport, BookFits, FitFits, BandFits, ReportFits}
 use Rattle.capi.specs.Fitting.{open-fits, add-fits, correct-fits, withdraw-fits, frame-fits, lines-fits, fit-fits, validate-fits, band-fits, report-fits}
+use Rattle.capi.specs.PairFitting as pair
 use Rattle.capi.specs.ReplayFitting.{replay-fits}
 use Rattle.capi.specs.Reading.{numberIn, degreeIn, solvedIn, prunedIn, outliersIn, countIn, BookRead, FitRead, BandRead, ReportRead, OpenedRead, ReadRead}
 
@@ -147,6 +150,24 @@ module _ (n : ℕ) (columns : Columns) (sums : List Float) where
   pub report-back : (settings : Settings) (places : Places)
       → (let a = reportOut n settings columns sums places .answer in ReportRead (packedReport a) a)
   report-back settings places = report-read _ (report-fits n settings columns sums places)
+
+-- ---- of a two-column book
+
+pub pair-open-back : (sums : List Float) → (let a = pairs.openOut sums .answer in BookRead (packedBook a) a)
+pair-open-back sums = book-read _ (pair.open-fits sums)
+
+module _ (n : ℕ) (columns : PairColumns) (sums : List Float) where
+  pub pair-add-back : (p : Pair) → (let a = pairs.addOut n p columns sums .answer in BookRead (packedBook a) a)
+  pair-add-back p = book-read _ (pair.add-fits n columns sums p)
+
+  pub pair-correct-back : (i : ℕ) (y : Float) → (let a = pairs.correctOut n i y columns sums .answer in BookRead (packedBook a) a)
+  pair-correct-back i y = book-read _ (pair.correct-fits n columns sums i y)
+
+  pub pair-withdraw-back : (i : ℕ) → (let a = pairs.withdrawOut n i columns sums .answer in BookRead (packedBook a) a)
+  pair-withdraw-back i = book-read _ (pair.withdraw-fits n columns sums i)
+
+  pub pair-frame-back : (f : List ℕ) → (let a = pairs.addFrameOut n f columns sums .answer in BookRead (packedBook a) a)
+  pair-frame-back f = book-read _ (pair.frame-fits n columns sums f)
 
 -- ---- the reader. No memory has 2 ^ 56 places
 

@@ -21,9 +21,11 @@ ghost use Rattle.frame.specs.Handed.{openedOf, nextOf};
 ghost use Rattle.query.specs.Fits.{fitOut, validateOut};
 ghost use Rattle.query.specs.Bands.{bandOut};
 ghost use Rattle.report.specs.Outputs.{outputs};
+ghost use Rattle.two_column.specs.Pairs.{columns as pairColumns};
+ghost use Rattle.two_column.specs.Calls.{openOut as pairOpenOut, addOut as pairAddOut, correctOut as pairCorrectOut, withdrawOut as pairWithdrawOut, addFrameOut as pairFrameOut};
 ghost use Rattle.replay.specs.Replay.{memory};
 ghost use Rattle.settings.specs.Numbers.{boundOf, criterionOf, confidenceOf, toleranceOf, settingsOf, settingsIn};
-ghost use Rattle.capi.specs.Packed.{packedCounts, packedReport, ReportFits, packedBand, bandNumbers, BookPacked, FitPacked, BandPacked, bandInto, ReportPackedIs, packedOpened, packedRead, readNumbers, ReadPacked, ReplayPacked};
+ghost use Rattle.capi.specs.Packed.{packedCounts, packedReport, ReportFits, packedBand, bandNumbers, BookPacked, PairPacked, FitPacked, BandPacked, bandInto, ReportPackedIs, packedOpened, packedRead, readNumbers, ReadPacked, ReplayPacked};
 
 // The places that a band is written to, and those of a reader's sample.
 const BAND: usize = 3;
@@ -171,6 +173,72 @@ pub extern "C" fn stakebook_add_lines(
     ensures { λ r. ⌜ BookPacked (addLinesOut count (before text) (columnsOf (before xs) (before ys) (before ws)) (before sums)) r (columnsOf (after xs) (after ys) (after ws)) (after sums) ⌝ }
 {
     packed::book(book::add_lines(Book { count }, text, xs, ys, ws, sums))
+}
+
+// The calls that change a two-column book, whose samples have no weight. An empty one.
+#[no_mangle]
+pub extern "C" fn stakebook_two_column_open(sums: &mut [f64]) -> u64
+    ensures { λ r. ⌜ PairPacked (pairOpenOut (before sums)) r (pairColumns [] []) (after sums) ⌝ }
+{
+    packed::book(two_column::open(sums))
+}
+
+// One sample at the end.
+#[no_mangle]
+pub extern "C" fn stakebook_two_column_add(
+    count: usize,
+    x: f64,
+    y: f64,
+    xs: &mut [f64],
+    ys: &mut [f64],
+    sums: &mut [f64],
+) -> u64
+    ensures { λ r. ⌜ PairPacked (pairAddOut count (record { x = x; y = y }) (pairColumns (before xs) (before ys)) (before sums)) r (pairColumns (after xs) (after ys)) (after sums) ⌝ }
+{
+    packed::book(two_column::add(Book { count }, x, y, xs, ys, sums))
+}
+
+// Sample i gets a new y.
+#[no_mangle]
+pub extern "C" fn stakebook_two_column_correct(
+    count: usize,
+    i: usize,
+    y: f64,
+    xs: &[f64],
+    ys: &mut [f64],
+    sums: &mut [f64],
+) -> u64
+    ensures { λ r. ⌜ PairPacked (pairCorrectOut count i y (pairColumns (before xs) (before ys)) (before sums)) r (pairColumns (before xs) (after ys)) (after sums) ⌝ }
+{
+    packed::book(two_column::correct(Book { count }, i, y, xs, ys, sums))
+}
+
+// Sample i goes, and later ones move down one.
+#[no_mangle]
+pub extern "C" fn stakebook_two_column_withdraw(
+    count: usize,
+    i: usize,
+    xs: &mut [f64],
+    ys: &mut [f64],
+    sums: &mut [f64],
+) -> u64
+    ensures { λ r. ⌜ PairPacked (pairWithdrawOut count i (pairColumns (before xs) (before ys)) (before sums)) r (pairColumns (after xs) (after ys)) (after sums) ⌝ }
+{
+    packed::book(two_column::withdraw(Book { count }, i, xs, ys, sums))
+}
+
+// All samples of a frame of version 1 at the end, or none.
+#[no_mangle]
+pub extern "C" fn stakebook_two_column_add_frame(
+    count: usize,
+    frame: &[u8],
+    xs: &mut [f64],
+    ys: &mut [f64],
+    sums: &mut [f64],
+) -> u64
+    ensures { λ r. ⌜ PairPacked (pairFrameOut count (before frame) (pairColumns (before xs) (before ys)) (before sums)) r (pairColumns (after xs) (after ys)) (after sums) ⌝ }
+{
+    packed::book(two_column::add_frame(Book { count }, frame, xs, ys, sums))
 }
 
 // The fit of the asked degree.
