@@ -2,6 +2,7 @@
 pub mod Packed
 pub mod Fitting
 pub mod PairFitting
+pub mod CarryFitting
 pub mod ReplayFitting
 pub mod Reading
 pub mod ReadingLaws

@@ -39,6 +39,8 @@ use Rattle.ledger.specs.Ledger.{Call}
 use Rattle.ledger.specs.ReadCalls.{ReadCall}
 use Rattle.replay.specs.Replay.{Memory, Ran}
 use Rattle.capi.specs.Packed.{packedOpened, packedRead, bandInto, packedRefusal, packedBook, packedFit, packedBand, packedCounts, packedReport, BookFits, FitFits, BandFits, ReportFits}
+use Rattle.carried.specs.Carry.{carryOut}
+use Rattle.capi.specs.CarryFitting.{carry-fits}
 use Rattle.capi.specs.Fitting.{open-fits, add-fits, correct-fits, withdraw-fits, frame-fits, lines-fits, fit-fits, validate-fits, band-fits, report-fits}
 use Rattle.capi.specs.PairFitting as pair
 use Rattle.capi.specs.ReplayFitting.{replay-fits}
@@ -168,6 +170,11 @@ module _ (n : ℕ) (columns : PairColumns) (sums : List Float) where
 
   pub pair-frame-back : (f : List ℕ) → (let a = pairs.addFrameOut n f columns sums .answer in BookRead (packedBook a) a)
   pair-frame-back f = book-read _ (pair.frame-fits n columns sums f)
+
+-- ---- of a carry
+
+pub carry-back : (n : ℕ) (columns : Columns) (sums : List Float) → (let a = carryOut n columns sums .answer in BookRead (packedBook a) a)
+carry-back n columns sums = book-read _ (carry-fits n columns sums)
 
 -- ---- the reader. No memory has 2 ^ 56 places
 

@@ -21,6 +21,7 @@ ghost use Rattle.frame.specs.Handed.{openedOf, nextOf};
 ghost use Rattle.query.specs.Fits.{fitOut, validateOut};
 ghost use Rattle.query.specs.Bands.{bandOut};
 ghost use Rattle.report.specs.Outputs.{outputs};
+ghost use Rattle.carried.specs.Carry.{carryOut};
 ghost use Rattle.two_column.specs.Pairs.{columns as pairColumns};
 ghost use Rattle.two_column.specs.Calls.{openOut as pairOpenOut, addOut as pairAddOut, correctOut as pairCorrectOut, withdrawOut as pairWithdrawOut, addFrameOut as pairFrameOut};
 ghost use Rattle.replay.specs.Replay.{memory};
@@ -239,6 +240,20 @@ pub extern "C" fn stakebook_two_column_add_frame(
     ensures { λ r. ⌜ PairPacked (pairFrameOut count (before frame) (pairColumns (before xs) (before ys)) (before sums)) r (pairColumns (after xs) (after ys)) (after sums) ⌝ }
 {
     packed::book(two_column::add_frame(Book { count }, frame, xs, ys, sums))
+}
+
+// A two-column book becomes one with weights: the weights below the count become 1.
+#[no_mangle]
+pub extern "C" fn stakebook_carry(
+    count: usize,
+    xs: &[f64],
+    ys: &[f64],
+    ws: &mut [f64],
+    sums: &[f64],
+) -> u64
+    ensures { λ r. ⌜ BookPacked (carryOut count (columnsOf (before xs) (before ys) (before ws)) (before sums)) r (columnsOf (before xs) (before ys) (after ws)) (before sums) ⌝ }
+{
+    packed::book(carried::carry(Book { count }, xs, ys, ws, sums))
 }
 
 // The fit of the asked degree.

@@ -2,28 +2,16 @@
 use book::Answer;
 use book::Book;
 ghost use mathlib.Core.Path.{_≡_};
-ghost use Prim.Native.Nat.{_≤_};
 ghost use mathlib.Core.List.{[], _∷_};
-ghost use lib.ListN.{length};
 ghost use Rattle.lent.specs.Slices.{before, after};
 ghost use Rattle.samples.specs.Columns.{columnsOf};
 ghost use Rattle.book.specs.Calls.{Is};
-ghost use Rattle.carried.specs.Carry.{onesBelow, carryRefusal, carryOut};
+ghost use Rattle.carried.specs.Carry.{carryRefusal, carryOut};
 
 fn carry_refusal(n: usize, xs: usize, ys: usize, ws: usize, sums: usize) -> u8
     ensures { λ r. ⌜ r ≡ carryRefusal n (xs ∷ ys ∷ ws ∷ []) sums ⌝ }
 {
     refusal::first(refusal::book_short(n, xs, ys, ws, sums), 1, 0)
-}
-
-// The first n weights become 1.
-fn set_ones(n: usize, ws: &mut [f64])
-    requires { ⌜ n ≤ length (now ws) ⌝ }
-    ensures { λ _. ⌜ after ws ≡ onesBelow n (before ws) ⌝ }
-{
-    for i in 0..n {
-        ws[i] = 1.0;
-    }
 }
 
 // The weights below the count become 1, and nothing else changes.
@@ -35,6 +23,6 @@ pub fn carry(book: Book, xs: &[f64], ys: &[f64], ws: &mut [f64], sums: &[f64]) -
     if refusal != 0 {
         return Answer::Refused(refusal);
     }
-    set_ones(n, ws);
+    lent::fill(ws, n, 1.0);
     Answer::Book(Book { count: n })
 }

@@ -3,18 +3,26 @@ use basis::TERMS;
 ghost use mathlib.Core.Path.{_≡_};
 ghost use mathlib.Core.List.{_++_};
 ghost use Prim.Native.Nat.{_≤_};
-ghost use lib.ListN.{length, drop};
+ghost use lib.ListN.{length, drop, replicate};
 ghost use Rattle.basis.specs.Sizes.{maxTerms};
 ghost use Rattle.lent.specs.Written.{zeros};
+
+// The first n places become v.
+pub fn fill(s: &mut [f64], n: usize, v: f64)
+    requires { ⌜ n ≤ length (now s) ⌝ }
+    ensures { λ _. ⌜ now (s .exit) ≡ replicate n v ++ drop n (now (s .entry)) ⌝ }
+{
+    for i in 0..n {
+        s[i] = v;
+    }
+}
 
 // The first n places become +0.
 pub fn clear(s: &mut [f64], n: usize)
     requires { ⌜ n ≤ length (now s) ⌝ }
     ensures { λ _. ⌜ now (s .exit) ≡ zeros n ++ drop n (now (s .entry)) ⌝ }
 {
-    for i in 0..n {
-        s[i] = 0.0;
-    }
+    fill(s, n, 0.0);
 }
 
 // The first 16 places become the values.

@@ -1,4 +1,4 @@
--- `carried::carry` meets its contract: refused, nothing changes; else there is room, and it leaves what `set_ones` does.
+-- `carried::carry` meets its contract: refused, nothing changes; else there is room, and it leaves what `fill` does.
 use mathlib.Core.Path.{refl, sym, _∙_}
 use borrow.Author.Needs.{needs}
 use Rattle.samples.specs.Columns.{columnsOf}
@@ -13,13 +13,13 @@ returns : tie.Need-returns
 unfolding carryOut
 returns c = is-refused _ _ _ _ _ (c .before .carry-refusal .ensures) (c .if1 .taken)
 
-set-ones-requires : tie.Need-set-ones-requires
-set-ones-requires c κs = carry-room _ _ _ (sym (c .before .before .carry-refusal .ensures) ∙ c .before .if1 .left) .within .1 .1 .0
+fill-requires : tie.Need-fill-requires
+fill-requires c κs = carry-room _ _ _ (sym (c .before .before .carry-refusal .ensures) ∙ c .before .if1 .left) .within .1 .1 .0
 
 returns-2 : tie.Need-returns-2
 unfolding carryOut
 returns-2 c =
-    let now = columns-are {c = carriedColumns (c .before .before .before .before .before .before .before .before .before .before .args .book .count) (columnsOf (c .before .before .before .before .before .before .before .before .before .before .args .xs .now) (c .before .before .before .before .before .before .before .before .before .before .args .ys .now) (c .before .before .before .before .before .before .before .before .before .before .args .ws .now))} refl refl (c .before .before .set-ones .ensures) in
+    let now = columns-are {c = carriedColumns (c .before .before .before .before .before .before .before .before .before .before .args .book .count) (columnsOf (c .before .before .before .before .before .before .before .before .before .before .args .xs .now) (c .before .before .before .before .before .before .before .before .before .before .args .ys .now) (c .before .before .before .before .before .before .before .before .before .before .args .ws .now))} refl refl (c .before .before .fill .ensures) in
     is-done _ _ _ _ _ (c .before .before .before .before .before .carry-refusal .ensures) (c .before .before .before .before .if1 .left) _ _ _ (record { answer = refl; columns = now; sums = refl })
 
 pub carry-spec : {M : Type 1} → statement M
@@ -28,6 +28,6 @@ carry-spec =
     (tie.spec
     (λ c κs. search needs)
     returns
-    set-ones-requires
+    fill-requires
     (λ c. search needs)
     returns-2)

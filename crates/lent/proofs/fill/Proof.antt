@@ -1,4 +1,4 @@
--- `lent::clear` meets its contract.
+-- `lent::fill` meets its contract.
 use mathlib.Core.Path.{_≡_, refl, _∙_}
 use Prim.Native.Nat.{_-_, _≤_}
 use native.Mathlib.Omega.{arith}
@@ -7,15 +7,14 @@ use lib.ListN.{length, length-set}
 use lib.Ieee.{nan}
 use Rattle.loops.specs.Places.{each}
 use Rattle.loops.specs.PlaceLaws.{each-again, each-fill}
-use Rattle.value.specs.Numbers.{zeroF}
-use Rattle.lent.proofs.clear.Statement.{statement}
-use Rattle.lent.proofs.clear.Tie as tie
+use Rattle.lent.proofs.fill.Statement.{statement}
+use Rattle.lent.proofs.fill.Tie as tie
 
 abbrev Inv-loop : tie.InvT-loop
-Inv-loop s₀ n i₀ s i = (i ≤ n) × (length s ≡ length s₀) × (s ≡ each (λ _ _. zeroF) i s₀)
+Inv-loop s₀ n v i₀ s i = (i ≤ n) × (length s ≡ length s₀) × (s ≡ each (λ _ _. v) i s₀)
 
 abbrev μ-loop : tie.MeasureT-loop
-μ-loop s₀ n i₀ s i = n - i
+μ-loop s₀ n v i₀ s i = n - i
 
 loop-holds : tie.Need-loop-holds Inv-loop μ-loop
 unfolding each
@@ -27,10 +26,10 @@ loop-again c = (search needs, simp length-set (c .before .loop .inv .1), rw (c .
 returns : tie.Need-returns Inv-loop μ-loop
 returns c =
     let z : c .before .loop .i ≡ c .before .before .args .n = omega arith in
-    (rw z at (c .before .loop .inv .2)) ∙ each-fill zeroF (c .before .before .args .n) (c .before .before .args .s .now) (search needs)
+    (rw z at (c .before .loop .inv .2)) ∙ each-fill (c .before .before .args .v) (c .before .before .args .n) (c .before .before .args .s .now) (search needs)
 
-pub clear-spec : {M : Type 1} → statement M
-clear-spec =
+pub fill-spec : {M : Type 1} → statement M
+fill-spec =
     tie.close
     (tie.spec
     Inv-loop
