@@ -7,7 +7,7 @@ use judge::frame::{encode, encode_weighted};
 use judge::numbers::bits;
 use judge::statistics::{Confidence, DegreeBound, Tolerance};
 use judge::sums::{folded_afresh, PLACES, TERMS};
-use judge::Sample;
+use judge::{two_column, Sample};
 
 const NAN: f64 = f64::NAN;
 const INFINITY: f64 = f64::INFINITY;
@@ -115,6 +115,11 @@ impl Book {
     fn add_lines(&mut self, text: &str) -> Result<usize, u8> {
         let count = self.count;
         let answer = book::add_lines(count, &mut self.memory(), text.as_bytes());
+        self.keep(answer)
+    }
+
+    fn carry(&mut self) -> Result<usize, u8> {
+        let answer = book::carry(self.count, &mut self.memory());
         self.keep(answer)
     }
 
@@ -714,4 +719,71 @@ fn capacity_by_the_weights() {
     assert_eq!((book.correct(0, 1.0), book.withdraw(0)), (Err(1), Err(1)));
     assert_eq!((book.fit(1), book.validate(2, 1)), (Err(1), Err(1)));
     assert_eq!((book.report(AIC_1), book.band(0.0, 1)), (Err(1), Err(1)));
+}
+
+/// Document 02, E6: the weights below the count become 1, and nothing else changes, whatever stands there.
+#[test]
+fn carry_writes_the_weights_below_the_count() {
+    let mut book = Book::new(4, &LINE);
+    book.weight = vec![NAN, 0.0, -3.0, MARK, INFINITY];
+    book.sums[5] = MARK;
+    book.y[1] = NAN;
+    let (x, y, sums) = (book.x.clone(), book.y.clone(), book.sums.clone());
+    assert_eq!(book.carry(), Ok(3));
+    assert_eq!(book.weight, [1.0, 1.0, 1.0, MARK, INFINITY]);
+    let same = |a: &[f64], b: &[f64]| a.iter().zip(b).all(|(a, b)| bits(*a) == bits(*b));
+    assert!(same(&book.x, &x) && same(&book.y, &y) && same(&book.sums, &sums));
+    // No sample, no weight.
+    let mut none = Book::new(2, &[]);
+    assert_eq!(none.carry(), Ok(0));
+    assert_eq!(none.weight, [MARK, MARK]);
+}
+
+/// A full book is carried; one above the capacity of the three columns, or on short sums, is not.
+#[test]
+fn carry_is_refused_by_1_alone() {
+    let mut book = Book::new(3, &LINE);
+    book.weight = vec![NAN; 3];
+    assert_eq!(book.carry(), Ok(3));
+    assert_eq!(book.weight, [1.0; 3]);
+    book.weight = vec![MARK; 2];
+    assert_eq!((book.carry(), &book.weight[..]), (Err(1), &[MARK; 2][..]));
+    book.weight = vec![MARK; 3];
+    for column in [0, 1] {
+        let mut book = Book::new(3, &LINE);
+        [&mut book.x, &mut book.y][column].truncate(2);
+        assert_eq!(book.carry(), Err(1));
+    }
+    book.sums.truncate(PLACES - 1);
+    assert_eq!((book.carry(), &book.weight[..]), (Err(1), &[MARK; 3][..]));
+    let mut book = Book::new(4100, &[]);
+    book.count = 4096;
+    assert_eq!(book.carry(), Ok(4096));
+    assert_eq!(book.weight[4095..4097], [1.0, MARK]);
+    book.count = 4097;
+    assert_eq!((book.carry(), book.weight[4096]), (Err(1), MARK));
+}
+
+/// E6's sentence on one book: two-column calls, a refused one too, then carried; beside it a weighted book
+/// given those not refused at weight 1.
+#[test]
+fn carry_of_a_two_column_book() {
+    let mut carried = Book::new(4, &[]);
+    for (x, y) in [(0.5, 2.0), (NAN, 0.0), (1.1, -0.3), (1.7, 5.0)] {
+        let mut memory =
+            two_column::Memory { x: &mut carried.x, y: &mut carried.y, sums: &mut carried.sums };
+        carried.count = two_column::add(carried.count, &mut memory, x, y).unwrap_or(carried.count);
+    }
+    assert_eq!(carried.weight, [MARK; 4]);
+    assert_eq!(carried.carry(), Ok(3));
+    let mut book = Book::new(4, &[(0.5, 2.0), (1.1, -0.3), (1.7, 5.0)]);
+    for book in [&mut carried, &mut book] {
+        assert_eq!(book.correct(1, 0.25), Ok(3));
+        assert_eq!(book.add_weighted(weighing(2.0, 1.0, 0.5)), Ok(4));
+        assert_eq!(book.withdraw(0), Ok(3));
+    }
+    assert_eq!(carried.report(AIC_1), book.report(AIC_1));
+    assert_eq!((&carried.x[..3], &carried.y[..3]), (&book.x[..3], &book.y[..3]));
+    assert_eq!((&carried.weight[..3], carried.sums), (&book.weight[..3], book.sums));
+    assert_eq!((carried.coefficients, carried.errors), (book.coefficients, book.errors));
 }
