@@ -5,6 +5,9 @@
 //! and to write what its definition says, for every input. [`Book`] owns all memory that these
 //! functions are lent, so that none of it is too short and none overlaps.
 //!
+//! [`TwoColumnBook`] is for a season that was begun before samples had weights; it is carried into a
+//! [`Book`].
+//!
 //! A call needs at most 32 KB of stack. What it takes in time, and how both were measured, is said
 //! in `include/stakebook.h`.
 //!
@@ -41,15 +44,19 @@
 mod refusal;
 mod settings;
 pub mod sys;
+mod two_column;
 
 pub use refusal::Refusal;
 pub use settings::{Confidence, Criterion, DegreeBound, PruningRule, Settings, Tolerance};
+pub use two_column::{NotCarried, TwoColumnBook};
 
 /// The most samples that a book can hold.
 pub const MOST: usize = 4096;
 
-/// The places of the sums, and of coefficients, errors and pruning bytes.
-const SUMS: usize = 272;
+/// The places of the sums.
+pub const SUMS: usize = 272;
+
+/// The places of coefficients, errors and pruning bytes.
 const TERMS: usize = 16;
 
 /// The samples of one season, with the sums over them.
@@ -131,6 +138,7 @@ macro_rules! lend {
         unsafe { sys::$function($($number),*, $($slice.as_mut_ptr(), $slice.len()),*) }
     };
 }
+pub(crate) use lend;
 
 /// The answer, unless it is a refusal.
 fn judged(answer: u64) -> Result<u64, Refusal> {
@@ -144,12 +152,21 @@ impl Book {
     /// An empty book with room for so many samples, at most 4,096.
     pub fn with_capacity(capacity: usize) -> Book {
         let room = capacity.min(MOST);
-        let mut book = Book {
-            count: 0,
-            xs: vec![0.0; room],
-            ys: vec![0.0; room],
-            ws: vec![0.0; room],
-            sums: [0.0; SUMS],
+        let column = || vec![0.0; room];
+        let mut book = Book::carried(0, [column(), column(), column()], [0.0; SUMS]);
+        book.clear();
+        book
+    }
+
+    /// The samples below the count in these columns, with their sums, and room for all that is read.
+    fn carried(count: usize, [xs, ys, ws]: [Vec<f64>; 3], sums: [f64; SUMS]) -> Book {
+        let room = xs.len().min(ys.len()).min(ws.len()).min(MOST);
+        Book {
+            count,
+            xs,
+            ys,
+            ws,
+            sums,
             scratch: vec![0.0; room],
             coefficients: [0.0; TERMS],
             errors: [0.0; TERMS],
@@ -157,9 +174,7 @@ impl Book {
             lower: vec![0.0; room],
             upper: vec![0.0; room],
             outliers: vec![0; room],
-        };
-        book.clear();
-        book
+        }
     }
 
     /// Takes all samples out.
@@ -179,7 +194,7 @@ impl Book {
     }
 
     pub fn capacity(&self) -> usize {
-        self.xs.len()
+        self.scratch.len()
     }
 
     /// The x's of the samples, in the order in which they were added.

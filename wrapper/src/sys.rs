@@ -118,6 +118,17 @@ extern "C" {
         sums: *mut f64,
         sums_len: usize,
     ) -> u64;
+    pub fn stakebook_carry(
+        count: usize,
+        xs: *const f64,
+        xs_len: usize,
+        ys: *const f64,
+        ys_len: usize,
+        ws: *mut f64,
+        ws_len: usize,
+        sums: *const f64,
+        sums_len: usize,
+    ) -> u64;
     pub fn stakebook_fit(
         count: usize,
         degree: usize,

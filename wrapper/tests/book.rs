@@ -1,7 +1,8 @@
 //! The wrapper's own part: what it owns, what it hands out, and which refusals it tells.
 
 use stakebook::{
-    Book, Confidence, Criterion, DegreeBound, PruningRule, Refusal, Settings, Tolerance,
+    Book, Confidence, Criterion, DegreeBound, NotCarried, PruningRule, Refusal, Settings,
+    Tolerance, TwoColumnBook, SUMS,
 };
 
 const SETTINGS: Settings = Settings {
@@ -186,4 +187,69 @@ fn capacities() {
     let mut none = Book::with_capacity(0);
     assert_eq!(none.add(0.0, 0.0), Err(Refusal::Full));
     assert_eq!(none.fit(0), Err(Refusal::NoSamples));
+}
+
+/// Samples that were added, corrected and withdrawn without weights, then carried: from there on it is a book
+/// that had them from the start.
+#[test]
+fn carried_in_mid_season() {
+    let mut frame = vec![0, 17, 1];
+    frame.extend([1.5, 4.5].iter().flat_map(|&number: &f64| number.to_be_bytes()));
+    let mut two = TwoColumnBook::with_capacity(5);
+    for (x, y) in [(9.0, 9.0), (0.0, 1.0), (1.0, 3.0)] {
+        assert_eq!(two.add(x, y), Ok(()));
+    }
+    assert_eq!(two.add(f64::NAN, 0.0), Err(Refusal::NotFinite));
+    assert_eq!(two.correct(3, 0.0), Err(Refusal::NoSuchSample));
+    assert_eq!((two.correct(2, 3.5), two.withdraw(0)), (Ok(()), Ok(())));
+    assert_eq!((two.add_frame(&frame), two.len(), two.capacity()), (Ok(()), 3, 5));
+    assert_eq!(two.add_frame(&[0, 1, 2]), Err(Refusal::FrameVersion));
+    let mut carried = two.carry().expect("room for its samples");
+    let mut book = book_of(&[(0.0, 1.0), (1.0, 3.5), (1.5, 4.5)]);
+    assert_eq!((carried.len(), carried.capacity(), carried.ws()), (3, 5, &[1.0; 3][..]));
+    for book in [&mut carried, &mut book] {
+        assert_eq!(book.add_weighted(2.0, 5.0, 2.0), Ok(()));
+        assert_eq!(book.correct(1, 3.0), Ok(()));
+        assert_eq!(book.withdraw(0), Ok(()));
+    }
+    let columns = |book: &Book| [book.xs(), book.ys(), book.ws(), book.sums()].concat();
+    assert_eq!(columns(&carried), columns(&book));
+    assert_eq!(carried.report(SETTINGS), book.report(SETTINGS));
+    assert_eq!((carried.add(3.0, 7.0), carried.add(4.0, 9.0)), (Ok(()), Ok(())));
+    assert_eq!(carried.add(5.0, 11.0), Err(Refusal::Full));
+}
+
+/// A full book and an empty one are carried, and columns of two lengths keep their capacity.
+#[test]
+fn carried_full_or_empty() {
+    let empty = TwoColumnBook::with_capacity(0).carry().expect("no samples");
+    assert_eq!((empty.len(), empty.capacity()), (0, 0));
+    let mut full = TwoColumnBook::with_capacity(1);
+    assert_eq!(
+        (full.is_empty(), full.add(2.0, 7.0), full.add(0.0, 0.0)),
+        (true, Ok(()), Err(Refusal::Full))
+    );
+    let (count, xs, mut ys, sums) = full.into_parts();
+    ys.extend([0.0; 4]);
+    let mut carried = TwoColumnBook::from_parts(count, xs, ys, sums).carry().expect("one sample");
+    assert_eq!((carried.len(), carried.capacity(), carried.ws()), (1, 1, &[1.0][..]));
+    assert_eq!(carried.add(0.0, 0.0), Err(Refusal::Full));
+    assert_eq!(carried.fit(0).expect("solved").coefficients(), [7.0]);
+}
+
+/// A count above what the columns hold: refused, and the book comes back as it was.
+#[test]
+fn not_carried() {
+    let sums = [0.5; SUMS];
+    for (count, x, y) in [(3, 2, 5), (3, 5, 2), (4097, 5000, 5000), (usize::MAX, 0, 0)] {
+        let mut kept = TwoColumnBook::from_parts(count, vec![1.5; x], vec![2.5; y], sums);
+        assert_eq!(kept.add(0.0, 0.0), Err(Refusal::Memory));
+        let book = Box::new(kept.clone());
+        let refused = NotCarried { book, refusal: Refusal::Memory };
+        assert_eq!(kept.carry().map(|book| book.len()), Err(refused));
+    }
+    let kept = TwoColumnBook::from_parts(4096, vec![1.5; 5000], vec![2.5; 5000], sums);
+    let carried = kept.carry().expect("as many samples as a book can hold");
+    assert_eq!((carried.len(), carried.capacity(), carried.sums()), (4096, 4096, &sums[..]));
+    assert!(carried.ws().iter().all(|&weight| weight == 1.0));
 }
