@@ -39,6 +39,7 @@ pub fn name(call: &Call) -> &'static str {
         Call::Withdraw { .. } => "withdraw",
         Call::AddFrame(_) => "add_frame",
         Call::AddLines(_) => "add_lines",
+        Call::Carry => "carry",
         Call::Fit { .. } => "fit",
         Call::Report(_) => "report",
         Call::Validate { .. } => "validate",
@@ -56,6 +57,7 @@ pub fn conditions(call: &Call, lengths: &Lengths, count: usize, samples: &[Sampl
         Call::Withdraw { index } => refusals::withdraw(lengths, count, *index),
         Call::AddFrame(frame) => refusals::add_frame(lengths, count, frame),
         Call::AddLines(text) => refusals::add_lines(lengths, count, text),
+        Call::Carry => refusals::carry(lengths, count),
         Call::Fit { degree } => refusals::fit(lengths, count, samples, *degree),
         Call::Report(settings) => refusals::report(lengths, count, samples, *settings),
         Call::Validate { folds, bound, .. } => {

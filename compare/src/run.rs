@@ -7,6 +7,7 @@ use judge::book::answer_of;
 use judge::fit::Report;
 use judge::ledger::Ledger;
 use judge::numbers::bits;
+use judge::refusals;
 use judge::sums::{folded_afresh, PLACES, TERMS};
 use judge::Sample;
 
@@ -128,6 +129,10 @@ impl Run<'_> {
             let (ledger, weight) = (Ledger::default(), self.memory.weight.clone());
             self.ledger_state = Some(LedgerState { ledger, x, y, weight });
         }
+        if step.call == Call::Carry && matches!(answer, Answer::Book(_)) {
+            let unweighted = |s: &LedgerState| s.ledger.samples.iter().all(|s| s.weight == 1.0);
+            self.ledger_state = self.ledger_state.take().filter(unweighted);
+        }
         match &mut self.ledger_state {
             Some(ledger_state) => ledger_state.follow(step, answer, &self.memory),
             None => Ok(()),
@@ -146,6 +151,11 @@ impl LedgerState {
             Call::Withdraw { index } => ledger.withdraw(lengths, *index),
             Call::AddFrame(frame) => ledger.add_frame(lengths, frame),
             Call::AddLines(text) => ledger.add_lines(lengths, text),
+            // A book with weights of 1 stays as it is; of any other the ledger knows no more.
+            Call::Carry => {
+                let count = ledger.samples.len();
+                refusals::judged(&refusals::carry(lengths, count)).map(|()| count)
+            }
             Call::Report(settings) => {
                 let report = ledger.report(lengths, *settings);
                 return check_report("ledger", report, answer, memory);
@@ -383,9 +393,13 @@ fn copy_book_places(
     expected: &mut Memory,
     after: &Memory,
 ) {
-    // A weight is written where an x is.
+    // A weight is written where an x is, but for a carry.
+    if *call == Call::Carry {
+        expected.weight[..count].fill(1.0);
+    }
     let (x, y, sums) = match call {
         Call::Open => (0..0, 0..0, 0..PLACES),
+        Call::Carry => (0..0, 0..0, 0..0),
         Call::Correct { index, .. } => (0..0, *index..*index + 1, PLACES - TERMS..PLACES),
         Call::Withdraw { index } => (*index..new_count, *index..new_count, 0..PLACES),
         _ => (count..new_count, count..new_count, 0..PLACES),

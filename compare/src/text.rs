@@ -49,7 +49,12 @@ fn written(call: &Call) -> Call {
             *folds = GREATEST.min(*folds);
             *bound = written_bound(*bound);
         }
-        Call::Open | Call::Add(_) | Call::AddFrame(_) | Call::AddLines(_) | Call::Reader(_) => {}
+        Call::Open
+        | Call::Add(_)
+        | Call::AddFrame(_)
+        | Call::AddLines(_)
+        | Call::Carry
+        | Call::Reader(_) => {}
     }
     call
 }

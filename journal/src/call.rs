@@ -22,6 +22,7 @@ pub enum Call {
     },
     AddFrame(Vec<u8>),
     AddLines(Vec<u8>),
+    Carry,
     Fit {
         degree: usize,
     },

@@ -224,6 +224,10 @@ impl Calls for Port {
         book(book_changed!(sys::stakebook_add_lines, lent, (count, bytes, length)))
     }
 
+    fn carry(&self, count: usize, lent: Lent) -> Answer {
+        book(book_changed!(sys::stakebook_carry, lent, (count)))
+    }
+
     fn fit(&self, count: usize, lent: Lent, asked: usize) -> Answer {
         degree(book_read!(sys::stakebook_fit, lent, (count, asked), (coefficients)))
     }

@@ -19,6 +19,7 @@ pub trait Calls {
     fn withdraw(&self, count: usize, lent: Lent, index: usize) -> Answer;
     fn add_frame(&self, count: usize, lent: Lent, frame: &[u8]) -> Answer;
     fn add_lines(&self, count: usize, lent: Lent, text: &[u8]) -> Answer;
+    fn carry(&self, count: usize, lent: Lent) -> Answer;
     fn fit(&self, count: usize, lent: Lent, degree: usize) -> Answer;
     fn report(&self, count: usize, lent: Lent, settings: Settings) -> Answer;
     fn validate(
@@ -59,6 +60,7 @@ impl<T: Calls> Side for T {
             Call::Withdraw { index } => self.withdraw(count, lent, *index),
             Call::AddFrame(frame) => self.add_frame(count, lent, frame),
             Call::AddLines(text) => self.add_lines(count, lent, text),
+            Call::Carry => self.carry(count, lent),
             Call::Fit { degree } => self.fit(count, lent, *degree),
             Call::Report(settings) => self.report(count, lent, *settings),
             Call::Validate { folds, bound, criterion } => {
@@ -115,6 +117,10 @@ impl Calls for Judge {
 
     fn add_lines(&self, count: usize, lent: Lent, text: &[u8]) -> Answer {
         answer(book::add_lines(count, &mut memory!(lent), text), Answer::Book)
+    }
+
+    fn carry(&self, count: usize, lent: Lent) -> Answer {
+        answer(book::carry(count, &mut memory!(lent)), Answer::Book)
     }
 
     fn fit(&self, count: usize, lent: Lent, degree: usize) -> Answer {
