@@ -14,6 +14,7 @@ use judge::sums::{a, folded_afresh, PLACES, TERMS};
 use judge::Sample;
 
 use crate::call::name;
+use crate::carry;
 use crate::lines;
 use crate::replay;
 use crate::run::passes_nine;
@@ -43,7 +44,7 @@ pub struct Coverage {
 }
 
 /// What each call may answer, besides being let through, in checking order.
-const REFUSALS: [(&str, &[u8]); 11] = [
+pub const REFUSALS: [(&str, &[u8]); 11] = [
     ("open", &[1]),
     ("add", &[1, 4, 15, 5]),
     ("correct", &[1, 4, 6]),
@@ -199,6 +200,7 @@ impl Coverage {
             let refused = |number| format!("two columns: {call} refused by {number}");
             keys.extend(numbers.iter().map(refused));
         }
+        keys.extend(carry::events());
         keys.extend((0..replay::WAYS).map(|way| format!("replay: too short in way {way}")));
         for (memory, calls) in LENGTHS {
             for call in calls {
@@ -284,6 +286,17 @@ impl Coverage {
             self.note(format!("two columns: a frame of version 2 {outcome}"));
         }
         self.note_if(past, "two columns: room past the weight column used");
+    }
+
+    /// What happened where a book was carried over.
+    pub fn note_carry(&mut self, event: &str) {
+        self.note(format!("carry: {event}"));
+    }
+
+    pub fn note_carry_if(&mut self, holds: bool, event: &str) {
+        if holds {
+            self.note_carry(event);
+        }
     }
 
     /// Buffers of a replay that are too short in this way.

@@ -13,6 +13,7 @@
 mod arguments;
 mod bench;
 mod call;
+mod carry;
 mod coverage;
 mod generate;
 mod gsl;

@@ -103,7 +103,9 @@ pub fn first_difference(name: &str, mine: &[f64], theirs: &[f64]) -> Option<Stri
     if mine.len() != theirs.len() {
         return Some(format!("{name}: {} and {} values", mine.len(), theirs.len()));
     }
-    let at = (0..mine.len()).find(|&at| bits(mine[at]) != bits(theirs[at]))?;
+    // Mostly the patterns are the same already.
+    let same = |a: f64, b: f64| a.to_bits() == b.to_bits() || bits(a) == bits(b);
+    let at = (0..mine.len()).find(|&at| !same(mine[at], theirs[at]))?;
     let (a, b) = (mine[at], theirs[at]);
     Some(format!("{name}[{at}]: {a:?} and {b:?} ({:016X} and {:016X})", bits(a), bits(b)))
 }

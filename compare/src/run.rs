@@ -1,8 +1,8 @@
 //! Runs a list of calls: the judge on its own memory, and beside it the plain ledger, polyfit, and
-//! every other side on memory of its own; then its calls as one replay, and its changes on a book of two
-//! columns. Ends at the first difference.
+//! every other side on memory of its own; then its calls as one replay, its changes on a book of two columns,
+//! and all of it on a book that is carried over from two columns to three. Ends at the first difference.
 
-use journal::{Answer, Buffers, Call, Judge, Memory, Side};
+use journal::{Answer, Buffers, Call, Judge, Memory, Port, Side};
 use judge::book::answer_of;
 use judge::fit::Report;
 use judge::ledger::Ledger;
@@ -12,6 +12,7 @@ use judge::sums::{folded_afresh, PLACES, TERMS};
 use judge::Sample;
 
 use crate::call::{conditions, List, Step};
+use crate::carry::{self, Caller};
 use crate::coverage::{Coverage, Seen};
 use crate::memory::{difference, filled, first_difference, poke, samples};
 use crate::{lines, reference, replay, two_column};
@@ -50,7 +51,9 @@ pub fn run(list: &List, others: &[&dyn Side], coverage: &mut Coverage) -> Result
     let past = list.steps.len();
     let at_end = |what| Difference { step: past, what };
     replay::check(list, Buffers::replay, coverage).map_err(at_end)?;
-    two_column::check(list, two_column::port, coverage).map_err(at_end)
+    two_column::check(list, two_column::port, coverage).map_err(at_end)?;
+    let port = Caller { two_column: two_column::port, side: &Port };
+    carry::check(list, port, coverage).map_err(at_end)
 }
 
 impl Run<'_> {
@@ -198,7 +201,7 @@ fn check_parsed(call: &Call, answer: &Answer, count: usize, memory: &Memory) -> 
     Ok(())
 }
 
-fn is_reading(call: &Call) -> bool {
+pub fn is_reading(call: &Call) -> bool {
     matches!(call, Call::Fit { .. } | Call::Report(_) | Call::Validate { .. } | Call::Band { .. })
 }
 
@@ -212,7 +215,7 @@ fn same_number(a: f64, b: f64) -> bool {
 }
 
 /// Equal answers, NaNs as one value.
-fn same_answer(a: &Answer, b: &Answer) -> bool {
+pub fn same_answer(a: &Answer, b: &Answer) -> bool {
     match (a, b) {
         (
             Answer::Band { value, lower, upper },

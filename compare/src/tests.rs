@@ -4,6 +4,7 @@ use journal::{Answer, Buffers, Call, Judge, Lent, Port, Side};
 use judge::lines::{samples, too_many_digits};
 
 use crate::call::List;
+use crate::carry::{self, Caller};
 use crate::coverage::Coverage;
 use crate::generate;
 use crate::replay::{self, Replays};
@@ -291,6 +292,95 @@ fn faults_of_two_columns() {
         }
         answer
     }));
+}
+
+/// The judge with another carry.
+struct Carries(fn(usize, Lent) -> Answer);
+
+impl Side for Carries {
+    fn name(&self) -> &'static str {
+        "faulty"
+    }
+    fn make(&self, call: &Call, count: usize, lent: Lent) -> Answer {
+        match call {
+            Call::Carry => (self.0)(count, lent),
+            _ => Judge.make(call, count, lent),
+        }
+    }
+}
+
+#[test]
+fn faults_of_a_carry() {
+    let by = |two_column: two_column::Calls, carries| {
+        let caller = Caller { two_column, side: &Carries(carries) };
+        let fails = |number| {
+            let list = generate::list(7, number);
+            carry::check(&list, caller, &mut Coverage::default()).is_err()
+        };
+        (1..200).any(fails)
+    };
+    let right = |count, lent: Lent| Judge.make(&Call::Carry, count, lent);
+    let found = |carries| by(two_column::port, carries);
+    assert!(!found(right));
+    // Weights past the count are set.
+    assert!(found(|count, mut lent| {
+        let answer = Judge.make(&Call::Carry, count, again(&mut lent));
+        if answer != Answer::Refused(1) {
+            lent.weight.fill(1.0);
+        }
+        answer
+    }));
+    // Weights are left as they were, all of them or the last.
+    assert!(found(|count, mut lent| {
+        let before = lent.weight.to_vec();
+        let answer = Judge.make(&Call::Carry, count, again(&mut lent));
+        lent.weight.copy_from_slice(&before);
+        answer
+    }));
+    assert!(found(|count, mut lent| {
+        let before = lent.weight.to_vec();
+        let answer = Judge.make(&Call::Carry, count, again(&mut lent));
+        if let (Answer::Book(_), Some(last)) = (&answer, count.checked_sub(1)) {
+            lent.weight[last] = before[last];
+        }
+        answer
+    }));
+    // The sums are folded, which of a book's own sums nobody sees.
+    assert!(found(|count, mut lent| {
+        let answer = Judge.make(&Call::Carry, count, again(&mut lent));
+        if let Answer::Book(_) = answer {
+            let (x, y) = (&lent.x[..count], &lent.y[..count]);
+            let of = |(&x, &y)| judge::Sample::unweighted(x, y);
+            let samples: Vec<judge::Sample> = x.iter().zip(y).map(of).collect();
+            judge::sums::fold(lent.sums, &samples);
+        }
+        answer
+    }));
+    // A full book is refused, or one in a weight column that is too short is not.
+    assert!(found(|count, lent| {
+        let full = count == lent.x.len().min(lent.y.len()).min(lent.weight.len());
+        match Judge.make(&Call::Carry, count, lent) {
+            Answer::Book(_) if full => Answer::Refused(1),
+            answer => answer,
+        }
+    }));
+    assert!(found(|count, lent| {
+        let short = lent.weight.len() < count && count <= lent.x.len().min(lent.y.len());
+        match Judge.make(&Call::Carry, count, lent) {
+            Answer::Refused(1) if short => Answer::Book(count),
+            answer => answer,
+        }
+    }));
+    // The book of two columns had other sums.
+    let other_sums: two_column::Calls = |call, count, lent| {
+        let (x, y, sums) = (&mut *lent.x, &mut *lent.y, &mut *lent.sums);
+        let answer = two_column::port(call, count, two_column::Lent { x, y, sums });
+        if let (Call::Withdraw { .. }, Some(Answer::Book(_))) = (call, &answer) {
+            lent.sums[1] += 1.0;
+        }
+        answer
+    };
+    assert!(by(other_sums, right));
 }
 
 /// Every list is the same when made again, and so is its run.

@@ -4,6 +4,7 @@
 //! the book of three columns can read, goes to the other two alone, and after it its samples in version 1.
 
 use journal::{Answer, Call, Judge, Memory, Side};
+use judge::refusals::Lengths;
 use judge::{frame, two_column, Sample};
 use stakebook::sys;
 
@@ -34,7 +35,7 @@ pub const EVENTS: [&str; 3] = [
 ];
 
 /// By document 01.
-fn judge(call: &Call, count: usize, mut lent: Lent) -> Option<Answer> {
+pub fn judge(call: &Call, count: usize, mut lent: Lent) -> Option<Answer> {
     let lent = &mut lent;
     let result = match call {
         Call::Open => two_column::open(lent.sums),
@@ -86,12 +87,12 @@ pub fn port(call: &Call, count: usize, lent: Lent) -> Option<Answer> {
     })
 }
 
-/// The memory, as far as the step lends it to a book of two columns.
-fn lend<'a>(memory: &'a mut Memory, step: &Step) -> Lent<'a> {
+/// The memory, as far as the lengths lend it to a book of two columns.
+pub fn lend<'a>(memory: &'a mut Memory, lengths: &Lengths) -> Lent<'a> {
     Lent {
-        x: &mut memory.x[..step.lengths.x],
-        y: &mut memory.y[..step.lengths.y],
-        sums: &mut memory.sums[..step.lengths.sums],
+        x: &mut memory.x[..lengths.x],
+        y: &mut memory.y[..lengths.y],
+        sums: &mut memory.sums[..lengths.sums],
     }
 }
 
@@ -110,7 +111,7 @@ fn is_version_2(call: &Call) -> bool {
 }
 
 /// The calls of a step: after a right frame of version 2 its samples in version 1.
-fn calls_of(step: &Step) -> Vec<Call> {
+pub fn calls_of(step: &Step) -> Vec<Call> {
     let mut calls = vec![step.call.clone()];
     if let Call::AddFrame(bytes) = &step.call {
         if is_version_2(&step.call) && frame::Reader::new(bytes).is_ok() {
@@ -133,11 +134,11 @@ impl Books {
     fn make(&mut self, call: &Call, step: &Step, calls: Calls) -> Result<Option<Answer>, String> {
         let count = step.count.unwrap_or(self.count);
         let before = [self.mine.x.clone(), self.mine.y.clone(), self.mine.sums.clone()];
-        let answer = match judge(call, count, lend(&mut self.mine, step)) {
+        let answer = match judge(call, count, lend(&mut self.mine, &step.lengths)) {
             Some(answer) => answer,
             None => return Ok(None),
         };
-        let other = calls(call, count, lend(&mut self.theirs, step));
+        let other = calls(call, count, lend(&mut self.theirs, &step.lengths));
         if other.as_ref() != Some(&answer) {
             return Err(format!("judge answers {answer:?}, port {other:?}"));
         }
