@@ -51,6 +51,11 @@ FAULTS = [
     ("version 1 at weight 2", "frame.rs", "if frame[2] == 2 { number_at(frame, at + 16) } else { 1.0 }", "if frame[2] == 2 { number_at(frame, at + 16) } else { 2.0 }"),
     ("capacity by two columns", "refusals.rs", "lengths.x.min(lengths.y).min(lengths.weight)", "lengths.x.min(lengths.y)"),
     ("two columns: version 2 let through", "two_column.rs", "refuse_if(frame[2] != 1, 3)?;", "refuse_if(frame[2] != 1 && frame[2] != 2, 3)?;"),
+    ("carry: weights past the count set", "book.rs", "memory.weight[..count].fill(1.0);", "memory.weight.fill(1.0);"),
+    ("carry: weights left", "book.rs", "memory.weight[..count].fill(1.0);", ""),
+    ("carry: sums folded", "book.rs", "memory.weight[..count].fill(1.0);",
+     "memory.weight[..count].fill(1.0); let samples = memory.samples(count); sums::fold(memory.sums, &samples);"),
+    ("carry: a full book refused", "refusals.rs", "vec![(1, short_book(lengths, count))]\n}", "vec![(1, short_book(lengths, count) || count == capacity(lengths))]\n}"),
     ("two columns: a correction that folds A", "two_column.rs", "memory.sums[G..PLACES].fill(0.0);", "memory.sums[..PLACES].fill(0.0); for i in 0..count { memory.add_to_a(memory.x[i]); }"),
 ]
 
