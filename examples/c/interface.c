@@ -1,5 +1,5 @@
-/* Checks of the C interface that no list of calls reaches: a frame read sample by sample, a replay beside its single calls, and the calls of two
- * columns beside those of three at weight 1. What is expected is worked out by hand here, or is what the other calls leave. It prints what fails, and
+/* Checks of the C interface that no list of calls reaches: a frame read sample by sample, a replay beside its single calls, the calls of two
+ * columns beside those of three at weight 1, and a book carried over from two columns to three. What is expected is worked out by hand here, or is what the other calls leave. It prints what fails, and
  * ends with 1 if anything does. */
 #include <math.h>
 #include <stdio.h>
@@ -284,11 +284,78 @@ static void check_two_columns(void) {
     CHECK(stakebook_two_column_add_frame(5, frame, 0, two.xs, ROOM, two.ys, ROOM, two.sums, STAKEBOOK_SUMS) == (uint64_t)1 << 56);
 }
 
+/* ---- from two columns to three */
+
+/* a carry on so much memory */
+static uint64_t carry(struct book *book, size_t xs_len, size_t ys_len, size_t ws_len, size_t sums_len) {
+    return stakebook_carry(book->count, book->xs, xs_len, book->ys, ys_len, book->ws, ws_len, book->sums, sums_len);
+}
+
+static void check_carry(void) {
+    static const double numbers[] = {1.1, 322.5, 1.3, 331};
+    uint8_t frame[LONGEST];
+    struct book two = {0}, three = {0};
+    CHECK(changed(&two, stakebook_two_column_open(two.sums, STAKEBOOK_SUMS)) == 0 && opened(&three) == 0);
+    for (size_t i = 0; i < ROOM; i++) two.ws[i] = -1;
+
+    /* no samples: no weight is written */
+    CHECK(carry(&two, ROOM, ROOM, ROOM, STAKEBOOK_SUMS) == 0 && carry(&two, 0, 0, 0, STAKEBOOK_SUMS) == 0);
+    CHECK(two.ws[0] == -1 && same_samples(&two, &three));
+
+    CHECK(two_column_add(&two, 9, 9) == 0 && two_column_add_frame(&two, frame, framed(frame, 1, numbers, 4)) == 0);
+    CHECK(two_column_add(&two, NAN, 1) == 4 && two_column_add_frame(&two, frame, framed(frame, 2, numbers, 3)) == 2);
+    CHECK(two_column_correct(&two, 1, 320) == 0 && two_column_withdraw(&two, 0) == 0 && two.count == 2);
+    /* sums that are not the samples' are left, too */
+    const double last = two.sums[STAKEBOOK_SUMS - 1];
+    two.sums[STAKEBOOK_SUMS - 1] = -1;
+    memcpy(&three, &two, sizeof two);
+
+    /* 1: each column one place short of the count, and the sums; nothing is written */
+    const uint64_t refused = (uint64_t)1 << 56;
+    CHECK(carry(&two, 1, ROOM, ROOM, STAKEBOOK_SUMS) == refused && carry(&two, ROOM, 1, ROOM, STAKEBOOK_SUMS) == refused);
+    CHECK(carry(&two, ROOM, ROOM, 1, STAKEBOOK_SUMS) == refused && carry(&two, ROOM, ROOM, 0, STAKEBOOK_SUMS) == refused);
+    CHECK(carry(&two, ROOM, ROOM, ROOM, STAKEBOOK_SUMS - 1) == refused && carry(&two, ROOM, ROOM, ROOM, 0) == refused);
+    two.count = ROOM + 1;
+    CHECK(carry(&two, ROOM, ROOM, ROOM, STAKEBOOK_SUMS) == refused);
+    two.count = SIZE_MAX;
+    CHECK(carry(&two, ROOM, ROOM, ROOM, STAKEBOOK_SUMS) == refused);
+    two.count = 2;
+    CHECK(memcmp(&two, &three, sizeof two) == 0);
+
+    /* the weights below the count become 1, and no other place changes, also where no more is lent than the count: a full book */
+    CHECK(carry(&two, 2, 2, 2, STAKEBOOK_SUMS) == 2 && two.ws[0] == 1 && two.ws[1] == 1);
+    two.ws[0] = NAN;
+    two.ws[1] = INFINITY;
+    CHECK(carry(&two, ROOM, ROOM, ROOM, STAKEBOOK_SUMS) == 2);
+    three.ws[0] = three.ws[1] = 1;
+    CHECK(memcmp(&two, &three, sizeof two) == 0 && two.ws[2] == -1 && two.ws[3] == -1);
+
+    /* from there on, what a book with weights from the start gives */
+    two.sums[STAKEBOOK_SUMS - 1] = last;
+    memset(&three, 0, sizeof three);
+    CHECK(opened(&three) == 0 && add(&three, 9, 9, 1) == 0 && add_frame(&three, frame, framed(frame, 1, numbers, 4)) == 0);
+    CHECK(correct(&three, 1, 320) == 0 && withdraw(&three, 0) == 0);
+    CHECK(same_samples(&two, &three) && same_weights(&two, &three));
+    CHECK(add(&two, 2, 5, 0.5) == 0 && add(&three, 2, 5, 0.5) == 0 && correct(&two, 0, 319) == 0 && correct(&three, 0, 319) == 0);
+    CHECK(same_samples(&two, &three) && same_weights(&two, &three) && two.ws[3] == -1);
+    CHECK(report(&two) == report(&three) && stakebook_refusal(report(&two)) == 0);
+    CHECK(same_numbers(two.coefficients, three.coefficients, STAKEBOOK_TERMS) && same_numbers(two.errors, three.errors, STAKEBOOK_TERMS));
+    CHECK(same_numbers(two.lower, three.lower, two.count) && same_numbers(two.upper, three.upper, two.count));
+
+    /* at most 4,096 samples, however long the columns */
+    static double columns[3][4100];
+    static const double sums[STAKEBOOK_SUMS];
+    CHECK(stakebook_carry(4097, columns[0], 4100, columns[1], 4100, columns[2], 4100, sums, STAKEBOOK_SUMS) == refused && columns[2][0] == 0);
+    CHECK(stakebook_carry(4096, columns[0], 4100, columns[1], 4100, columns[2], 4100, sums, STAKEBOOK_SUMS) == 4096);
+    CHECK(columns[2][0] == 1 && columns[2][4095] == 1 && columns[2][4096] == 0);
+}
+
 int main(void) {
     check_weights();
     check_frames();
     check_replay();
     check_two_columns();
+    check_carry();
     printf("C interface: %d checks, %d failed\n", checks, failures);
     return failures != 0;
 }

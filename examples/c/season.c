@@ -1,10 +1,6 @@
 /* A season of one stake through the C interface: depth in m, density in kg/m3, and as weight how many people dug. It prints each answer and number as
  * the program `journal` does (docs/JOURNAL.md), so that its output can be compared, bit for bit, with what the judge prints for season.calls. */
-#include <inttypes.h>
-#include <stdio.h>
-#include <string.h>
-
-#include "stakebook.h"
+#include "printed.h"
 
 #define ROOM 20
 
@@ -14,36 +10,7 @@ static double coefficients[STAKEBOOK_TERMS], errors[STAKEBOOK_TERMS], lower[ROOM
 static uint8_t pruned[STAKEBOOK_TERMS], outliers[ROOM];
 static size_t count;
 
-static void print_number(double number) {
-    uint64_t bits;
-    memcpy(&bits, &number, sizeof bits);
-    printf(" %016" PRIX64, number != number ? UINT64_C(0x7FF8000000000000) : bits);
-}
-
-static void print_numbers(const char *name, const double *numbers, size_t many) {
-    printf("%s", name);
-    for (size_t i = 0; i < many; i++) print_number(numbers[i]);
-    printf("\n");
-}
-
-static void print_bytes(const char *name, const uint8_t *bytes, size_t many) {
-    printf("%s", name);
-    for (size_t i = 0; i < many; i++) printf(" %d", bytes[i]);
-    printf("\n");
-}
-
-/* true if the call was refused, which is then printed */
-static int refused(uint64_t answer) {
-    if (stakebook_refusal(answer) != 0) printf("refused %u\n", stakebook_refusal(answer));
-    return stakebook_refusal(answer) != 0;
-}
-
-/* a call that changes the book: the count is kept where it was refused */
-static void changed(uint64_t answer) {
-    if (refused(answer)) return;
-    count = stakebook_count(answer);
-    printf("book %zu\n", count);
-}
+static void changed(uint64_t answer) { count = changed_count(count, answer); }
 
 /* what an observer wrote, without the NUL at the end of the string */
 static void add_lines(const char *text) {
