@@ -1,15 +1,17 @@
 #!/usr/bin/env bash
-# The C interface: the static library, the C example against the judge's answers, checks in C of what no list of calls reaches (frames read sample by
-# sample, a replay, the calls of two columns), and the Rust wrapper's tests.
+# The C interface: the static library, the C examples against the judge's answers, checks in C of what no list of calls reaches (frames read sample by
+# sample, a replay, the calls of two columns, a book carried over from them), and the Rust wrapper's tests.
 set -euo pipefail
 cd "$(dirname "$0")/.."
 rt staticlib capi | tail -n 1
 
-# the judge still prints the committed answers, and the C example prints them too
-cargo run --release --quiet -p journal -- --judge < examples/c/season.calls | cmp - examples/c/season.answers
+# the judge still prints the committed answers, and the C examples print them too
 make --silent --always-make -C examples/c
-target/season | cmp - examples/c/season.answers
-echo "C example: as the judge"
+for example in season update; do
+    cargo run --release --quiet -p journal -- --judge <"examples/c/$example.calls" | cmp - "examples/c/$example.answers"
+    "target/$example" | cmp - "examples/c/$example.answers"
+    echo "C example $example: as the judge"
+done
 target/interface
 
 cargo test --release --quiet -p stakebook-rs
