@@ -440,6 +440,30 @@ fn texts_are_judged() {
     assert!(missing.is_empty(), "{missing:?}");
 }
 
+/// The ledger stays with a book whose weights are 1, and leaves one whose weights the carry changes.
+#[test]
+fn texts_with_a_carry() {
+    missing_in("../examples/c/update.calls", |_| false);
+    let one = "3FF0000000000000";
+    let two = "4000000000000000";
+    let text = format!(
+        "open\nadd {one} {one}\ncarry\nadd {two} {two} {two}\nlent ws 1\ncarry\nlent ws 3\n\
+         put ws 2 {two}\ncarry\nfit 1\nadd {one} {two}\nlent sums 271\ncarry\n"
+    );
+    let list = text::list_of(text.as_bytes());
+    assert!(run(&list, &[&Port], &mut Coverage::default()).is_ok());
+    // A carry that folds the sums, where they are not those of weights of 1.
+    let folds = Carries(|count, mut lent| {
+        let answer = Judge.make(&Call::Carry, count, again(&mut lent));
+        if answer == Answer::Book(2) {
+            lent.sums[0] = 2.0;
+        }
+        answer
+    });
+    let difference = run(&list, &[&folds], &mut Coverage::default()).unwrap_err();
+    assert_eq!(difference.step, 5, "{difference:?}");
+}
+
 #[test]
 fn fixed_list_is_as_made() {
     assert!(text::write(5, 3000).as_bytes() == file("fixed.calls"));
