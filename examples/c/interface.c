@@ -1,6 +1,6 @@
 /* Checks of the C interface that no list of calls reaches: a frame read sample by sample, a replay beside its single calls, the calls of two
- * columns beside those of three at weight 1, and a book carried over from two columns to three. What is expected is worked out by hand here, or is what the other calls leave. It prints what fails, and
- * ends with 1 if anything does. */
+ * columns beside those of three at weight 1, and a book carried over from two columns to three. What is expected is worked out by hand here, or is what
+ * the other calls leave. It prints what fails, and ends with 1 if anything does. */
 #include <math.h>
 #include <stdio.h>
 #include <string.h>
