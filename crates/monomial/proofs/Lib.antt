@@ -3,3 +3,4 @@ pub mod Low
 pub mod Parts
 pub mod Surface
 pub mod Lines
+pub mod Upper

@@ -20,7 +20,7 @@ use Rattle.monomial.specs.Corner.{SameCorner, CornerSet}
 use Rattle.monomial.specs.CornerLaws.{corner-itself, corner-then, add-row-at, row-corner, length-add-rows}
 
 -- by the last of the numbers below b + 1, or an earlier one
-below-last : (c b : ℕ) {G : Type 0} → c < b + 1 → (c < b → G) → (c ≡ b → G) → G
+pub below-last : (c b : ℕ) {G : Type 0} → c < b + 1 → (c < b → G) → (c ≡ b → G) → G
 below-last c b {G} h f g = go (ltb c b) refl
   where
     go : (t : Bool) → ltb c b ≡ t → G

@@ -12,3 +12,5 @@ pub mod SumLaws
 pub mod PlainLaws
 pub mod Corner
 pub mod CornerLaws
+pub mod Upper
+pub mod UpperLaws

@@ -17,6 +17,7 @@ ghost use Rattle.monomial.specs.Terms.{surfaceTerms, termsAt};
 ghost use Rattle.monomial.specs.Rows.{weightedRow, weightedOf, weightAt, weightedRowsAt, fitted as fittedF};
 ghost use Rattle.monomial.specs.Sums.{weightedProduct, addRow, addRows, sumsOf};
 ghost use Rattle.monomial.specs.Corner.{CornerSet};
+ghost use Rattle.monomial.specs.Upper.{SameUpper, Symmetric};
 
 // Coefficient × term value, ascending, for the k coefficients.
 pub fn fitted(k: CoefficientCount, c: &[f64; TERMS], terms: &[f64; TERMS]) -> f64
@@ -278,7 +279,34 @@ pub fn add_corner(
     add_rows_corner(basis, xs, zs, ys, ws, start, end, k, sums);
 }
 
-// The 272 places become the sums over the first n places of the columns, folded afresh.
+// Adds the weighted products of two term values on and above the diagonal of A. A line begins at an even place, so that its places go in pairs.
+fn add_upper(sums: &mut [f64], terms: &[f64; TERMS], w: f64)
+    requires { ⌜ matrixPlaces ≤ length (now sums) ⌝ }
+    ensures { λ _. ⌜ SameUpper (now (sums .exit)) (each (λ k v. add binary64 v (weightedProduct (weightedRow (now (terms .entry)) zeroF w) k)) matrixPlaces (now (sums .entry))) ⌝ }
+{
+    for i in 0..TERMS {
+        let t = terms[i];
+        let even = i / 2 * 2;
+        for j in even..TERMS {
+            let at = 16 * i + j;
+            sums[at] = sums[at] + (t * terms[j]) * w;
+        }
+    }
+}
+
+// Copies what stands above the diagonal of A to the places below it.
+fn mirror(sums: &mut [f64])
+    requires { ⌜ matrixPlaces ≤ length (now sums) ⌝ }
+    ensures { λ _. ⌜ SameUpper (now (sums .exit)) (now (sums .entry)) × Symmetric (now (sums .exit)) ⌝ }
+{
+    for i in 0..TERMS {
+        for j in 0..i {
+            sums[16 * i + j] = sums[16 * j + i];
+        }
+    }
+}
+
+// The 272 places become the sums over the first n places of the columns, folded afresh. A is symmetric, so half of it is folded and then mirrored.
 pub fn fold_sums(xs: &[f64], ys: &[f64], ws: &[f64], n: usize, sums: &mut [f64])
     requires { ⌜ sumPlaces ≤ length (now sums) ⌝ }
     requires { ⌜ (n ≤ length (now xs)) × (n ≤ length (now ys)) ⌝ }
@@ -288,8 +316,12 @@ pub fn fold_sums(xs: &[f64], ys: &[f64], ws: &[f64], n: usize, sums: &mut [f64])
         sums[k] = 0.0;
     }
     for t in 0..n {
-        add_sample(&mut *sums, xs[t], ys[t], weight_at(ws, t));
+        let powers = value::powers(xs[t]);
+        let w = weight_at(ws, t);
+        add_upper(&mut *sums, &powers, w);
+        add_right(&mut sums[256..], &powers, ys[t], w);
     }
+    mirror(&mut *sums);
 }
 
 // The first 16 places become g over the first n places of the columns, folded afresh.
