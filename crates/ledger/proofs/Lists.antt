@@ -6,7 +6,7 @@ use native.Mathlib.Numerals.{add-one}
 use native.Mathlib.Omega.{arith}
 use lib.Dec.{lit≤}
 use lib.ListN.{length, getD, set, take, drop, length-append, length-drop}
-use lib.Seq.{take-suc-set, take-take, take-at, drop-at, drop-drop, getD-drop, paste, length-paste, take-nil, take-paste, drop-paste, length-take-le}
+use lib.Seq.{take-suc-set, take-take, take-at, drop-at, drop-drop, getD-drop, paste, take-nil, take-paste, drop-paste, length-take-le}
 use lib.Ieee.{Float, nan}
 use Rattle.loops.specs.Places.{table}
 use Rattle.loops.specs.PlaceLaws.{table-same}
@@ -92,10 +92,6 @@ module _ (f : Sample → Float) (l : List Sample) (n : ℕ) (c : List Float) (is
       ∙ sym (map-append f (take i l) (drop (i + 1) l))
 
 module _ (i n : ℕ) (c : List Float) (h : i < n) (k : n ≤ length c) where
-  pub length-without : length (withoutAt i n c) ≡ length c
-  unfolding withoutAt
-  length-without = length-paste c i (drop (i + 1) c) (n - 1 - i) (omega arith) (rw length-drop (omega arith))
-
   pub without-rest : drop (n - 1) (withoutAt i n c) ≡ drop (n - 1) c
   unfolding withoutAt
   without-rest =

@@ -32,7 +32,8 @@ use Rattle.book.specs.Many.{added, RoomFor}
 use Rattle.book.specs.ManyLaws.{room-one, room-rest, one-added, many-added, added-is}
 use Rattle.book.specs.Window.{windowRefusal, withPlace, windowOut}
 use Rattle.ledger.specs.Ledger.{Change, adds, corrects, withdraws, frames, texts, windows, Lent, lentBy, outOf, newY, without, changed, refusalOf}
-use Rattle.ledger.proofs.Lists.{length-new, new-same, new-y, length-less, column-add, column-without, length-without, without-rest, samples-are, sums-rest, sums-add, sums-correct, sums-long, drop-later}
+use Rattle.book.proofs.Gap.{length-without}
+use Rattle.ledger.proofs.Lists.{length-new, new-same, new-y, length-less, column-add, column-without, without-rest, samples-are, sums-rest, sums-add, sums-correct, sums-long, drop-later}
 
 -- ---- what a call that is not refused leaves
 
