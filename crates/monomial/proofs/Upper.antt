@@ -1,23 +1,24 @@
 -- The upper half of A, place after place: the products that are added there, and the copies that are made of it.
 use mathlib.Core.Path.{_≡_, refl, sym, ap, _∙_}
-use mathlib.Core.List.{List, _++_}
-use Prim.Native.Nat.{ℕ, _+_, _-_, _*_, _≤_, _<_}
+use mathlib.Core.List.{List, [], _∷_, _++_}
+use Prim.Native.Nat.{ℕ, zero, suc, _+_, _-_, _*_, _≤_, _<_}
 use native.Mathlib.Omega.{arith}
 use lib.ListN.{length, getD, set, take, drop, length-set, length-append, length-drop, List·getD-append}
-use lib.Seq.{ext-getD, getD-set-same, getD-set-other, getD-take, getD-drop, getD-append-add, length-take-le}
-use lib.Ieee.{Float, nan}
+use lib.Seq.{ext-getD, getD-set-same, getD-set-other, getD-take, getD-drop, getD-append-add, length-take-le, take-at, drop-at}
+use lib.Ieee.{Float, nan, binary64, add}
 use Rattle.loops.specs.Places.{each, table}
-use Rattle.loops.specs.PlaceLaws.{each-at, each-past, length-each, tail-through}
-use Rattle.value.specs.Numbers.{zeroF}
+use Rattle.loops.specs.PlaceLaws.{each-at, each-past, each-rest, each-same, each-split, length-each, tail-through}
 use Rattle.value.specs.Power.{powerF}
 use Rattle.basis.specs.declared.Basis.the-variants.{Curve}
 use Rattle.monomial.specs.Terms.{termsAt}
-use Rattle.monomial.specs.Rows.{WeightedRow, weightedRow, rowAt, weightAt, weightedAt, weightedRowsAt}
-use Rattle.monomial.specs.Sums.{addRow, addRows}
+use Rattle.monomial.specs.Rows.{WeightedRow, weightedRow, weightedOf, rowAt, rowOf, weightAt, weightedAt, weightedRowsAt}
+use Rattle.monomial.specs.Sums.{weightedProduct, addRow, addRows}
+use Rattle.monomial.specs.Parts.{withoutY}
+use Rattle.monomial.specs.SumLaws.{length-add-row, weighted-no-y}
 use Rattle.monomial.specs.Upper.{SameUpper, Symmetric}
 use Rattle.monomial.specs.UpperLaws.{upper-itself, upper-then, row-upper}
 use Rattle.monomial.proofs.Lines.{below-last, gains}
-use Rattle.monomial.proofs.Parts.{addedA, addedG, add-parts, fold-rows-again}
+use Rattle.monomial.proofs.Parts.{addedG, fold-rows-again}
 
 -- ---- f says what becomes of a place
 
@@ -87,7 +88,7 @@ mirrored-line i s t w = record { same = w .same; lower = λ r c a b h. w .lower 
 pub mirrored-done : (s t : List Float) → Mirrored 256 s t → SameUpper t s × Symmetric t
 mirrored-done s t w = (w .same, record { turned = λ i j a b. w .lower j i a b (omega arith) ∙ sym (w .same .matrix i j (omega arith) b) })
 
--- ---- one row more
+-- ---- rows
 
 -- g in the tail that is lent
 upper-tail : (m u : List Float) (g : List Float → List Float) → 256 ≤ length m → SameUpper m u → SameUpper (take 256 m ++ g (drop 256 m)) (take 256 u ++ g (drop 256 u))
@@ -123,22 +124,62 @@ upper-tail m u g l w = rw same-tail both
           behind = λ p a. tail m p l a ∙ sym (tail u p k a);
         }
 
--- the upper half of a row's A is added, and then its g
-upper-row : (u m : List Float) (r : WeightedRow) → 256 ≤ length u → SameUpper m (addedA (r .row .terms) (r .weight) 256 u)
-    → SameUpper (take 256 m ++ (addedG r 16 (take (length m - 256) (drop 256 m)) ++ drop (length m - 256) (drop 256 m))) (addRow u r)
-upper-row u m r h w =
-    let e : take 256 a ++ addedG r 16 (drop 256 a) ≡ addRow u r = sym (tail-through (addedG r 16) 256 a) ∙ add-parts u a r h refl in
-    rw (tail-through (addedG r 16) 256 m) (rw e at (upper-tail m a (addedG r 16) (omega (arith, w .long, length-each (gains (weightedRow (r .row .terms) zeroF (r .weight))) 256 u)) w))
-  where
-    a : List Float
-    a = addedA (r .row .terms) (r .weight) 256 u
+-- two steps at each place are one
+each-twice : (f g : ℕ → Float → Float) (n : ℕ) (s : List Float) → each g n (each f n s) ≡ each (λ k v. g k (f k v)) n s
+unfolding each
+each-twice f g zero s = refl
+each-twice f g (suc n) [] = refl
+each-twice f g (suc n) (v ∷ vs) = ap (λ l. g 0 (f 0 v) ∷ l) (each-twice (λ k. f (suc k)) (λ k. g (suc k)) n vs)
 
-pub upper-more : (t : ℕ) (xs ys ws s u m terms : List Float) (w : Float) → 272 ≤ length u → SameUpper u (addRows s (weightedRowsAt Curve t xs xs ys ws))
-    → terms ≡ table (powerF (getD xs t nan)) 16 → w ≡ weightAt ws t → SameUpper m (addedA terms w 256 u)
-    → SameUpper
-    (take 256 m ++ (addedG (weightedRow terms (getD ys t nan) w) 16 (take (length m - 256) (drop 256 m)) ++ drop (length m - 256) (drop 256 m)))
-    (addRows s (weightedRowsAt Curve (t + 1) xs xs ys ws))
-unfolding rowAt weightedAt termsAt
-upper-more t xs ys ws s u m terms w h i e b g =
-    rw (fold-rows-again addRow s Curve t xs xs ys ws)
-    (upper-then (upper-row u m (weightedRow terms (getD ys t nan) w) (omega arith) g) (rw (e, b) (row-upper u (addRows s (weightedRowsAt Curve t xs xs ys ws)) (weightedAt Curve xs xs ys ws t) h i)))
+-- A with the products of two rows, one after the other at each place
+abbrev addedTwo : WeightedRow → WeightedRow → List Float → List Float
+addedTwo r q s = each (λ k e. gains (withoutY q) k (gains (withoutY r) k e)) 256 s
+
+-- two rows are added to A, and then to g
+two-parts : (u : List Float) (r q : WeightedRow) → 256 ≤ length u → take 256 (addedTwo r q u) ++ addedG q 16 (addedG r 16 (drop 256 (addedTwo r q u))) ≡ addRow (addRow u r) q
+unfolding addRow
+two-parts u r q h =
+    rw (each-rest (λ k e. gains (withoutY q) k (gains (withoutY r) k e)) 256 u, each-twice (λ i v. add binary64 v (weightedProduct r (256 + i))) (λ i v. add binary64 v (weightedProduct q (256 + i))) 16 (drop 256 u))
+    (sym
+    (each-twice (gains r) (gains q) 272 u
+    ∙ each-split (λ k e. gains q k (gains r k e)) 256 16 u h
+    ∙ ap (λ l. take 256 l ++ each (λ k e. gains q (256 + k) (gains r (256 + k) e)) 16 (drop 256 u))
+    (each-same (λ k e. gains q k (gains r k e)) (λ k e. gains (withoutY q) k (gains (withoutY r) k e)) 256 u
+    (λ k e b. rw (weighted-no-y r k b, weighted-no-y q k b)))))
+
+-- a list whose tail was lent for g
+abbrev lentTail : WeightedRow → List Float → List Float
+lentTail r m = take 256 m ++ (addedG r 16 (take (length m - 256) (drop 256 m)) ++ drop (length m - 256) (drop 256 m))
+
+tails : (m : List Float) (r q : WeightedRow) → 256 ≤ length m → lentTail q (lentTail r m) ≡ take 256 m ++ addedG q 16 (addedG r 16 (drop 256 m))
+tails m r q h =
+    rw (tail-through (addedG r 16) 256 m, tail-through (addedG q 16) 256 (take 256 m ++ addedG r 16 (drop 256 m)), take-at (take 256 m) (addedG r 16 (drop 256 m)) 256 (length-take-le 256 m h), drop-at (take 256 m) (addedG r 16 (drop 256 m)) 256 (length-take-le 256 m h))
+
+pub two-added : (u m terms later : List Float) (x y w next z v : Float) → 256 ≤ length u → terms ≡ table (powerF x) 16 → later ≡ table (powerF next) 16
+    → SameUpper m (addedTwo (weightedRow terms y w) (weightedRow later z v) u)
+    → SameUpper (lentTail (weightedRow later z v) (lentTail (weightedRow terms y w) m)) (addRow (addRow u (weightedOf (record { x = x; y = y; w = w }))) (weightedOf (record { x = next; y = z; w = v })))
+unfolding rowOf
+two-added u m terms later x y w next z v h e d g =
+    rw (sym e, sym d, tails m r q l)
+    (rw (two-parts u r q h) at (upper-tail m (addedTwo r q u) (λ t. addedG q 16 (addedG r 16 t)) l g))
+  where
+    r : WeightedRow
+    r = weightedRow terms y w
+
+    q : WeightedRow
+    q = weightedRow later z v
+
+    l : 256 ≤ length m
+    l = omega (arith, g .long, length-each (λ k e. gains (withoutY q) k (gains (withoutY r) k e)) 256 u)
+
+-- one row more of the columns, and two
+pub one-more : (t : ℕ) (xs ys ws s u : List Float) (w : Float) → 272 ≤ length u → SameUpper u (addRows s (weightedRowsAt Curve t xs xs ys ws)) → w ≡ weightAt ws t
+    → SameUpper (addRow u (weightedOf (record { x = getD xs t nan; y = getD ys t nan; w = w }))) (addRows s (weightedRowsAt Curve (t + 1) xs xs ys ws))
+unfolding rowAt rowOf weightedAt termsAt
+one-more t xs ys ws s u w h i e = rw (e, fold-rows-again addRow s Curve t xs xs ys ws) (row-upper u (addRows s (weightedRowsAt Curve t xs xs ys ws)) (weightedAt Curve xs xs ys ws t) h i)
+
+pub two-more : (t : ℕ) (xs ys ws s u o : List Float) (w v : Float) → 272 ≤ length u → SameUpper u (addRows s (weightedRowsAt Curve t xs xs ys ws)) → w ≡ weightAt ws t → v ≡ weightAt ws (t + 1)
+    → SameUpper o (addRow (addRow u (weightedOf (record { x = getD xs t nan; y = getD ys t nan; w = w }))) (weightedOf (record { x = getD xs (t + 1) nan; y = getD ys (t + 1) nan; w = v })))
+    → SameUpper o (addRows s (weightedRowsAt Curve (t + 1 + 1) xs xs ys ws))
+two-more t xs ys ws s u o w v h i e d g =
+    upper-then g (one-more (t + 1) xs ys ws s (addRow u (weightedOf (record { x = getD xs t nan; y = getD ys t nan; w = w }))) v (omega (arith, length-add-row u (weightedOf (record { x = getD xs t nan; y = getD ys t nan; w = w })))) (one-more t xs ys ws s u w h i e) d)

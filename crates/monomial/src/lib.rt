@@ -279,19 +279,33 @@ pub fn add_corner(
     add_rows_corner(basis, xs, zs, ys, ws, start, end, k, sums);
 }
 
-// Adds the weighted products of two term values on and above the diagonal of A. A line begins at an even place, so that its places go in pairs.
-fn add_upper(sums: &mut [f64], terms: &[f64; TERMS], w: f64)
+// Adds the weighted products of two term values, first those of one row and then those of another, on and above the diagonal of A. A line begins at an
+// even place, so that its places go in pairs.
+fn add_upper(sums: &mut [f64], terms: &[f64; TERMS], w: f64, later: &[f64; TERMS], v: f64)
     requires { ⌜ matrixPlaces ≤ length (now sums) ⌝ }
-    ensures { λ _. ⌜ SameUpper (now (sums .exit)) (each (λ k v. add binary64 v (weightedProduct (weightedRow (now (terms .entry)) zeroF w) k)) matrixPlaces (now (sums .entry))) ⌝ }
+    ensures { λ _. ⌜ SameUpper (now (sums .exit)) (each (λ k e. add binary64 (add binary64 e (weightedProduct (weightedRow (now (terms .entry)) zeroF w) k)) (weightedProduct (weightedRow (now (later .entry)) zeroF v) k)) matrixPlaces (now (sums .entry))) ⌝ }
 {
     for i in 0..TERMS {
         let t = terms[i];
+        let u = later[i];
         let even = i / 2 * 2;
         for j in even..TERMS {
             let at = 16 * i + j;
-            sums[at] = sums[at] + (t * terms[j]) * w;
+            sums[at] = (sums[at] + (t * terms[j]) * w) + (u * later[j]) * v;
         }
     }
+}
+
+// Adds two samples' weighted products on and above the diagonal of A and in g, one sample after the other at each place: a place is read and written once.
+fn add_two(sums: &mut [f64], x: f64, y: f64, w: f64, next: f64, z: f64, v: f64)
+    requires { ⌜ sumPlaces ≤ length (now sums) ⌝ }
+    ensures { λ _. ⌜ SameUpper (now (sums .exit)) (addRow (addRow (now (sums .entry)) (weightedOf (record { x = x; y = y; w = w }))) (weightedOf (record { x = next; y = z; w = v }))) ⌝ }
+{
+    let terms = value::powers(x);
+    let later = value::powers(next);
+    add_upper(&mut *sums, &terms, w, &later, v);
+    add_right(&mut sums[256..], &terms, y, w);
+    add_right(&mut sums[256..], &later, z, v);
 }
 
 // Copies what stands above the diagonal of A to the places below it.
@@ -315,11 +329,24 @@ pub fn fold_sums(xs: &[f64], ys: &[f64], ws: &[f64], n: usize, sums: &mut [f64])
     for k in 0..SUMS {
         sums[k] = 0.0;
     }
-    for t in 0..n {
-        let powers = value::powers(xs[t]);
-        let w = weight_at(ws, t);
-        add_upper(&mut *sums, &powers, w);
-        add_right(&mut sums[256..], &powers, ys[t], w);
+    let pairs = n / 2;
+    for p in 0..pairs {
+        let t = 2 * p;
+        let next = t + 1;
+        add_two(
+            &mut *sums,
+            xs[t],
+            ys[t],
+            weight_at(ws, t),
+            xs[next],
+            ys[next],
+            weight_at(ws, next),
+        );
+    }
+    // the last of an odd number
+    let rest = 2 * pairs;
+    for t in rest..n {
+        add_sample(&mut *sums, xs[t], ys[t], weight_at(ws, t));
     }
     mirror(&mut *sums);
 }
