@@ -10,6 +10,7 @@ use basis::SUMS;
 use basis::TERMS;
 use book::Book;
 use fit::Choice;
+pub use refusals::settings_refusal;
 use settings::Settings;
 ghost use Prim.Native.Nat.{_+_, _≤_, _<_};
 ghost use lib.ListN.{length};
@@ -55,7 +56,7 @@ pub struct Chosen {
 }
 
 // Chooses a degree, solves it again and measures it. Of scratch, only the first n places change.
-fn choose(
+pub fn choose(
     n: usize,
     settings: Settings,
     xs: &[f64],
