@@ -10,20 +10,15 @@ use Rattle.loops.specs.Fold.{fold}
 use Rattle.loops.specs.Places.{table}
 use Rattle.value.specs.Numbers.{zeroF}
 use Rattle.basis.specs.declared.Basis.the-variants.{Curve}
-use Rattle.monomial.specs.Rows.{WeightedRow, weightedRowsAt}
+use Rattle.monomial.specs.Rows.{weightedRowsAt}
 use Rattle.monomial.specs.RowLaws.{weighted-at-take}
 use Rattle.monomial.specs.Sums.{addRows, sumsOf}
-use Rattle.monomial.specs.SumLaws.{length-sums, sums-append}
 use Rattle.monomial.specs.Corner.{SameCorner}
-use Rattle.monomial.specs.CornerLaws.{corner-itself, corner-then, rows-corner}
+use Rattle.monomial.specs.CornerLaws.{corner-itself, corner-append}
 use Rattle.folds.specs.Folds.{startOf, endOf, othersOf}
 use Rattle.folds.specs.FoldLaws.{first-start, next-start, start-end, end-below}
 
 module _ (k : ℕ) (fits : k ≤ 16) (xs ys ws s t : List Float) (long : 272 ≤ length s) where
-  -- rows behind others
-  added : (rs qs : List WeightedRow) → SameCorner k s (sumsOf rs) → SameCorner k t (addRows s qs) → SameCorner k t (sumsOf (rs ++ qs))
-  added rs qs w m = rw (sums-append rs qs) (corner-then m (rows-corner k fits s (sumsOf rs) qs long (omega (arith, length-sums rs)) w))
-
   module _ (n folds f start end : ℕ) (inside : f < folds) (begins : start ≡ startOf n folds f) (w : SameCorner k s (sumsOf (weightedRowsAt Curve (startOf n folds f) xs xs ys ws))) where
     from-start : SameCorner k s (sumsOf (weightedRowsAt Curve start xs xs ys ws))
     from-start = rw begins w
@@ -33,11 +28,11 @@ module _ (k : ℕ) (fits : k ≤ 16) (xs ys ws s t : List Float) (long : 272 ≤
     unfolding othersOf
     others-same m =
         rw (weighted-at-take Curve xs xs ys ws start n (omega (arith, begins, start-end n folds f inside, end-below n folds f inside)))
-        (added (weightedRowsAt Curve start xs xs ys ws) (drop end (weightedRowsAt Curve n xs xs ys ws)) from-start m)
+        (corner-append k fits s t (weightedRowsAt Curve start xs xs ys ws) (drop end (weightedRowsAt Curve n xs xs ys ws)) long from-start m)
 
     -- the fold's own
     pub passed-same : end ≡ endOf n folds f → SameCorner k t (addRows s (drop start (weightedRowsAt Curve end xs xs ys ws))) → SameCorner k t (sumsOf (weightedRowsAt Curve (endOf n folds f) xs xs ys ws))
-    passed-same ends m = rw (← ends, ← join) (added (weightedRowsAt Curve start xs xs ys ws) (drop start (weightedRowsAt Curve end xs xs ys ws)) from-start m)
+    passed-same ends m = rw (← ends, ← join) (corner-append k fits s t (weightedRowsAt Curve start xs xs ys ws) (drop start (weightedRowsAt Curve end xs xs ys ws)) long from-start m)
       where
         join : weightedRowsAt Curve start xs xs ys ws ++ drop start (weightedRowsAt Curve end xs xs ys ws) ≡ weightedRowsAt Curve end xs xs ys ws
         join =

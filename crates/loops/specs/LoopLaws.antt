@@ -52,13 +52,16 @@ turns-last step i (suc n) s =
     let e : i + 1 + n ≡ i + suc n = omega arith in
     turns-last step (i + 1) n (step i s) ∙ ap (λ j. step j (turns step (i + 1) n (step i s))) e
 
-pub last : {S : Type 0} (step : ℕ → S → S) (b : ℕ) (s : S) → from step 0 (suc b) s ≡ step b (from step 0 b s)
+-- the last turn of a loop that has one
+pub last-from : {S : Type 0} (step : ℕ → S → S) (i b : ℕ) (s : S) → i ≤ b → from step i (suc b) s ≡ step b (from step i b s)
 unfolding from
-last step b s =
-    let e : suc b - 0 ≡ suc b = omega arith in
-    let g : b - 0 ≡ b = omega arith in
-    let z : 0 + b ≡ b = omega arith in
-    rw (e, g) (turns-last step 0 b s ∙ ap (λ j. step j (turns step 0 b s)) z)
+last-from step i b s h =
+    let e : suc b - i ≡ suc (b - i) = omega arith in
+    let z : i + (b - i) ≡ b = omega arith in
+    rw e (turns-last step i (b - i) s ∙ ap (λ j. step j (turns step i (b - i) s)) z)
+
+pub last : {S : Type 0} (step : ℕ → S → S) (b : ℕ) (s : S) → from step 0 (suc b) s ≡ step b (from step 0 b s)
+last step b s = last-from step 0 b s (omega arith)
 
 -- two loops whose turns agree below b
 pub from-same : {S : Type 0} (f g : ℕ → S → S) (b : ℕ) (s : S) → ((i : ℕ) (t : S) → i < b → f i t ≡ g i t) → from f 0 b s ≡ from g 0 b s

@@ -164,6 +164,28 @@ unfolding table
 table-same f g zero h = refl
 table-same f g (suc n) h = rw (h 0 (omega arith)) (ap (λ l. g 0 ∷ l) (table-same (λ k. f (suc k)) (λ k. g (suc k)) n (λ k q. h (suc k) (omega arith))))
 
+-- a slice from place b on
+pub slice-from : {A : Type 0} (b : ℕ) (l : List A) → take (length l - b) (drop b l) ≡ drop b l
+slice-from b l = take-all (length l - b) (drop b l) (omega (arith, length-drop b l))
+
+-- a table without its first places, and a map
+pub drop-table : {A : Type 0} (f : ℕ → A) (b n : ℕ) → b ≤ n → drop b (table f n) ≡ table (λ k. f (b + k)) (n - b)
+unfolding table
+drop-table f zero n h =
+    let e : n - 0 ≡ n = omega arith in
+    rw e (table-same f (λ k. f (0 + k)) n (λ k q. let z : k ≡ 0 + k = omega arith in ap f z))
+drop-table f (suc b) zero h = absurd (omega arith)
+drop-table f (suc b) (suc n) h =
+    let e : suc n - suc b ≡ n - b = omega arith in
+    rw e
+    (drop-table (λ k. f (suc k)) b n (omega arith)
+    ∙ table-same (λ k. f (suc (b + k))) (λ k. f (suc b + k)) (n - b) (λ k q. let z : suc (b + k) ≡ suc b + k = omega arith in ap f z))
+
+pub drop-map : {A B : Type 0} (f : A → B) (b : ℕ) (l : List A) → drop b (map f l) ≡ map f (drop b l)
+drop-map f zero l = refl
+drop-map f (suc b) [] = refl
+drop-map f (suc b) (x ∷ l) = drop-map f b l
+
 -- a place within a list holds the same whatever stands for a missing one
 pub getD-within : {A : Type 0} (l : List A) (i : ℕ) (d e : A) → i < length l → getD l i d ≡ getD l i e
 getD-within [] i d e h = absurd (omega arith)

@@ -1,6 +1,6 @@
 -- Laws of the corner: a smaller one lies in a larger, and rows added to sums that agree there leave sums that do.
 use mathlib.Core.Path.{_≡_, refl, sym, ap, _∙_}
-use mathlib.Core.List.{List, [], _∷_}
+use mathlib.Core.List.{List, [], _∷_, _++_}
 use Prim.Native.Nat.{ℕ, _+_, _*_, _≤_, _<_}
 use native.Mathlib.Omega.{arith}
 use lib.ListN.{length, getD}
@@ -8,8 +8,8 @@ use lib.Ieee.{Float, nan, binary64, add}
 use Rattle.loops.specs.Fold.{fold}
 use Rattle.loops.specs.PlaceLaws.{each-at}
 use Rattle.monomial.specs.Rows.{WeightedRow}
-use Rattle.monomial.specs.Sums.{weightedProduct, addRow, addRows}
-use Rattle.monomial.specs.SumLaws.{length-add-row}
+use Rattle.monomial.specs.Sums.{weightedProduct, addRow, addRows, sumsOf}
+use Rattle.monomial.specs.SumLaws.{length-sums, length-add-row, sums-append}
 use Rattle.monomial.specs.Corner.{SameCorner}
 
 pub corner-itself : (k : ℕ) (s : List Float) → SameCorner k s s
@@ -46,3 +46,7 @@ module _ (k : ℕ) (fits : k ≤ 16) where
   rows-corner s t [] h g w = w
   rows-corner s t (r ∷ rs) h g w =
       rows-corner (addRow s r) (addRow t r) rs (omega (arith, length-add-row s r)) (omega (arith, length-add-row t r)) (row-corner s t r h g w)
+
+  -- s has the sums of the rows rs there; with the rows qs added it has those of both
+  pub corner-append : (s t : List Float) (rs qs : List WeightedRow) → 272 ≤ length s → SameCorner k s (sumsOf rs) → SameCorner k t (addRows s qs) → SameCorner k t (sumsOf (rs ++ qs))
+  corner-append s t rs qs long w m = rw (sums-append rs qs) (corner-then m (rows-corner s (sumsOf rs) qs long (omega (arith, length-sums rs)) w))

@@ -1,12 +1,13 @@
 -- Laws of Rows.antt.
 use mathlib.Core.Path.{_≡_, sym, ap, _∙_}
 use mathlib.Core.List.{List, [], _∷_, _++_, map}
-use Prim.Native.Nat.{ℕ, _+_, _≤_}
+use Prim.Native.Nat.{ℕ, _+_, _-_, _≤_}
 use native.Mathlib.Omega.{arith}
 use lib.ListN.{length, take, drop}
+use lib.Seq.{getD-drop}
 use lib.Ieee.{Float, nan}
 use Rattle.loops.specs.Places.{each, table}
-use Rattle.loops.specs.PlaceLaws.{table-again, take-table, length-table, map-table, table-same, table-take, each-write, getD-within}
+use Rattle.loops.specs.PlaceLaws.{table-again, take-table, length-table, map-table, table-same, drop-table, table-take, each-write, getD-within}
 use Rattle.value.specs.Numbers.{oneF}
 use Rattle.basis.specs.declared.Basis.{Basis}
 use Rattle.basis.specs.declared.Basis.the-variants.{Curve}
@@ -39,6 +40,15 @@ module _ (basis : Basis) (xs zs ys : List Float) where
   pub each-rows-at : {B : Type 0} (g : Row → B) (n : ℕ) (s : List B) → n ≤ length s
       → each (λ t _. g (rowAt basis xs zs ys t)) n s ≡ map g (rowsAt basis n xs zs ys) ++ drop n s
   each-rows-at g n s h = each-write (λ t. g (rowAt basis xs zs ys t)) n s h ∙ ap (λ l. l ++ drop n s) (map-rows-at g n)
+
+-- the rows of the columns from place b on
+pub rows-at-drop : (basis : Basis) (b n : ℕ) (xs zs ys : List Float) → b ≤ n
+    → rowsAt basis (n - b) (drop b xs) (drop b zs) (drop b ys) ≡ drop b (rowsAt basis n xs zs ys)
+unfolding rowsAt rowAt
+rows-at-drop basis b n xs zs ys h =
+    table-same (rowAt basis (drop b xs) (drop b zs) (drop b ys)) (λ k. rowAt basis xs zs ys (b + k)) (n - b)
+    (λ k q. rw (getD-drop b xs k nan, getD-drop b zs k nan, getD-drop b ys k nan))
+    ∙ sym (drop-table (rowAt basis xs zs ys) b n h)
 
 -- a curve's rows are those of the samples, whatever is lent for zs
 pub curve-rows : (n : ℕ) (xs zs ys ws : List Float) → rowsAt Curve n xs zs ys ≡ rowsOf (samplesOf n (columnsOf xs ys ws))

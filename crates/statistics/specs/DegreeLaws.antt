@@ -1,15 +1,15 @@
 -- Laws of Degrees.antt.
 use mathlib.Core.Path.{_≡_, sym, subst, _∙_}
 use mathlib.Core.Logic.{⊎-elim}
-use Prim.Native.Nat.{ℕ, zero, suc, _-_, _*_, _^_, _≤_, _<_}
+use Prim.Native.Nat.{ℕ, zero, suc, _-_, _*_, _/_, _^_, _≤_, _<_, min}
 use native.Mathlib.Nat.{le-trans, le-antisymm, lt-irrefl, lt-of-lt-of-le, not-suc-le-zero, le-of-suc-le-suc, eq-or-lt-of-le, pow-suc, one-le-pow, mul-zero, mul-le-mul-right, one-mul}
 use native.Mathlib.Omega.{arith}
-use lib.Dec.{leb}
+use lib.Dec.{leb, lit<}
 use borrow.Author.Tests.{leb-true, leb-false}
 use Rattle.loops.specs.Cases.{choose}
 use Rattle.statistics.specs.declared.DegreeBound.{DegreeBound}
 use Rattle.statistics.specs.declared.DegreeBound.the-variants.{Conservative, Relaxed, Aggressive, Custom}
-use Rattle.statistics.specs.Degrees.{Largest, rootUpTo, root, maxDegree}
+use Rattle.statistics.specs.Degrees.{Largest, rootUpTo, root, leastBound, maxDegree}
 
 upto-holds : (p n k : ℕ) → rootUpTo (suc p) n k ^ suc p ≤ n
 unfolding rootUpTo
@@ -54,3 +54,23 @@ max-degree-below Conservative n h = omega arith
 max-degree-below Relaxed n h = omega arith
 max-degree-below Aggressive n h = omega arith
 max-degree-below (Custom d) n h = omega arith
+
+-- a part of a list
+root-grows : (p m n : ℕ) → 0 < p → m ≤ n → root p m ≤ root p n
+root-grows p m n h l = root-largest p n h .most (root p m) (le-trans (root-largest p m h .holds) l)
+
+min-grows : (a b c d : ℕ) → a ≤ b → c ≤ d → min a c ≤ min b d
+min-grows a b c d h k = omega arith
+
+least-grows : (r s ratio top top′ m n : ℕ) → r ≤ s → m / ratio ≤ n / ratio → top ≤ top′ → m ≤ n → leastBound r ratio top m ≤ leastBound s ratio top′ n
+least-grows r s ratio top top′ m n a q c l =
+    min-grows (min (min r (m / ratio - 1)) top) (min (min s (n / ratio - 1)) top′) (m - 1) (n - 1)
+    (min-grows (min r (m / ratio - 1)) (min s (n / ratio - 1)) top top′ (min-grows r s (m / ratio - 1) (n / ratio - 1) a (omega arith)) c) (omega arith)
+
+-- the bound of a part of a list is at most that of the list
+pub max-degree-grows : (b : DegreeBound) (m n : ℕ) → m ≤ n → maxDegree b m ≤ maxDegree b n
+unfolding maxDegree
+max-degree-grows Conservative m n l = least-grows (root 5 m) (root 5 n) 15 8 8 m n (root-grows 5 m n (lit< tt) l) (omega arith) (omega arith) l
+max-degree-grows Relaxed m n l = least-grows (root 3 m) (root 3 n) 8 15 15 m n (root-grows 3 m n (lit< tt) l) (omega arith) (omega arith) l
+max-degree-grows Aggressive m n l = least-grows (root 1 m) (root 1 n) 8 (m - 1) (n - 1) m n (root-grows 1 m n (lit< tt) l) (omega arith) (omega arith) l
+max-degree-grows (Custom d) m n l = omega arith
