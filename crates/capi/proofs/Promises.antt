@@ -19,12 +19,15 @@ use Rattle.query.specs.Bands.{BandOut, BandIs}
 use Rattle.report.specs.declared.ReportAnswer.{ReportAnswer}
 use Rattle.report.specs.Reports.{ReportOut, Does}
 use Rattle.report.specs.Outputs.{LentOutputs}
+use Rattle.split.specs.declared.SplitAnswer.{SplitAnswer}
+use Rattle.split.specs.declared.SplitAnswer.the-variants as splits
+use Rattle.split.specs.Splits.{SplitOut, LentSplit, splitRefused, Does as SplitDoes}
 use Rattle.replay.specs.declared.Replayed.{Replayed}
 use Rattle.replay.specs.Records.{callsOf}
 use Rattle.replay.specs.Replay.{LentMemory, Ran, ReplayIs}
 use Rattle.lent.specs.Slices.{Slice, before, after, contents}
 use Rattle.lent.specs.Written.{over}
-use Rattle.capi.specs.Packed.{packedRefusal, packedBook, packedFit, packedBand, packedReport, bandNumbers, bandInto, BookPacked, PairPacked, FitPacked, BandPacked, ReportPacked, packedRead, readNumbers, ReadPacked, packedReplay, ReplayPacked}
+use Rattle.capi.specs.Packed.{packedRefusal, packedBook, packedFit, packedBand, packedReport, bandNumbers, bandInto, BookPacked, PairPacked, FitPacked, BandPacked, ReportPacked, packedSplit, splitTotal, splitInto, SplitPacked, packedRead, readNumbers, ReadPacked, packedReplay, ReplayPacked}
 use Rattle.samples.specs.Columns.{Columns}
 
 pub book-packed : {o : Out} {a : Answer} {r : ℕ} {columns : Columns} {sums : List Float} → Is o a columns sums → r ≡ packedBook a → BookPacked o r columns sums
@@ -63,6 +66,29 @@ module _ (o : BandOut) (places : ℕ) (s v : Slice Float) where
         answer = e ∙ ap packedBand (i .answer);
         lent = record { answer = refl; scratch = i .scratch };
         numbers = n ∙ ap (λ (b : BandAnswer). over (bandNumbers b) (before v)) (i .answer);
+      })
+
+-- one place is written
+pub one-written : (v : Float) (l : List Float) → 1 ≤ length l → set l 0 v ≡ over (v ∷ []) l
+one-written v [] h = absurd (omega arith)
+one-written v (a ∷ l) h = refl
+
+-- a split whose total has no place, and one
+module _ (o : SplitOut) (places : ℕ) (w : LentSplit) (v : Slice Float) where
+  pub split-short : ltb places 1 ≡ true → (left-alone : SplitDoes (splitRefused 1 []) (splits.Refused 1) w) → after v ≡ before v → (r : ℕ) → r ≡ packedRefusal 1
+      → SplitPacked (splitInto places o) r w v
+  unfolding splitInto packedSplit splitTotal
+  split-short h alone ev r e = rw h (record { answer = e; lent = alone; total = ev })
+
+  pub split-packed : ltb places 1 ≡ false → (a : SplitAnswer) (r : ℕ) → SplitDoes o a w → r ≡ packedSplit a → after v ≡ over (splitTotal a) (before v)
+      → SplitPacked (splitInto places o) r w v
+  unfolding splitInto
+  split-packed h a r i e n =
+      rw h
+      (record {
+        answer = e ∙ ap packedSplit (i .answer);
+        lent = record { answer = refl; scratch = i .scratch; before = i .before; after = i .after };
+        total = n ∙ ap (λ (b : SplitAnswer). over (splitTotal b) (before v)) (i .answer);
       })
 
 -- a sample into too few places, and into enough

@@ -7,3 +7,4 @@ pub mod ReplayFitting
 pub mod Reading
 pub mod ReadingLaws
 pub mod ReportByLaws
+pub mod SplitFitting

@@ -27,6 +27,10 @@ use Rattle.report.specs.declared.ReportAnswer.{ReportAnswer}
 use Rattle.report.specs.declared.ReportAnswer.the-variants as reports
 use Rattle.report.specs.Reports.{ReportOut, reportOut, Does}
 use Rattle.report.specs.Outputs.{LentOutputs, placesOf}
+use Rattle.split.specs.declared.SplitAnswer.{SplitAnswer}
+use Rattle.split.specs.declared.SplitAnswer.the-variants as splits
+use Rattle.split.specs.Rooms.{mostTests}
+use Rattle.split.specs.Splits.{SplitOut, LentSplit, splitRefused, splitOut, placesOf as splitPlaces, Does as SplitDoes}
 use Rattle.settings.specs.declared.Settings.{Settings}
 use Rattle.replay.specs.declared.Replayed.{Replayed}
 use Rattle.replay.specs.declared.Replayed.the-variants as replays
@@ -74,6 +78,24 @@ bandNumbers (bands.Refused k) = []
 unfoldable pub bandInto : ℕ → BandOut → BandOut
 bandInto places o = cond (ltb places 3) (bandRefused 1) o
 
+-- a split: the degree before the break in bits 0 to 7, the one after it in bits 8 to 15, the number of samples before it in bits 16 to 31, the pivot tests
+-- in bits 32 to 55
+abbrev pub packedBreak : ℕ → ℕ → ℕ → ℕ → ℕ
+packedBreak before after at tests = before + after * 0x100 + at * 0x1_0000 + tests * 0x1_0000_0000
+
+unfoldable pub packedSplit : SplitAnswer → ℕ
+packedSplit (splits.Split total at tests d e) = packedBreak (d .0) (e .0) at tests
+packedSplit (splits.Refused k) = packedRefusal k
+
+-- its total; a refused call writes none
+unfoldable pub splitTotal : SplitAnswer → List Float
+splitTotal (splits.Split total at tests d e) = total ∷ []
+splitTotal (splits.Refused k) = []
+
+-- a split whose total has so many places: 1 judges them with the other lengths, before all else
+unfoldable pub splitInto : ℕ → SplitOut → SplitOut
+splitInto places o = cond (ltb places 1) (splitRefused 1 []) o
+
 -- a reader: the offset of its next sample
 unfoldable pub packedOpened : Opened → ℕ
 packedOpened (readers.Cursor c) = c .at
@@ -118,6 +140,10 @@ unfoldable pub ReportFits : ReportAnswer → Type 0
 ReportFits (reports.Report d solved outliers pruned) = (d .0 ≤ 15) × (solved ≤ maxTerms) × (outliers ≤ maxSamples) × (pruned ≤ maxTerms)
 ReportFits (reports.Refused k) = RefusalFits k
 
+unfoldable pub SplitFits : SplitAnswer → Type 0
+SplitFits (splits.Split total at tests d e) = (d .0 ≤ 15) × (e .0 ≤ 15) × (at ≤ maxSamples) × (tests ≤ mostTests)
+SplitFits (splits.Refused k) = RefusalFits k
+
 -- ---- what each call promises: the packed answer of the book's own call, and every lent list as that call leaves it
 
 -- of a call that changes a book, with weights or without: a, c and s are its answer, the columns and the sums that it leaves
@@ -151,6 +177,17 @@ pub record ReportPacked (o : ReportOut) (r : ℕ) (w : LentOutputs) : Type 0 whe
 -- of a report of these columns and sums
 abbrev pub ReportPackedIs : ℕ → Settings → Columns → List Float → ℕ → LentOutputs → Type 0
 ReportPackedIs n settings columns sums r w = ReportPacked (reportOut n settings columns sums (placesOf (w .found))) r w
+
+-- v: the lent place for the total
+pub record SplitPacked (o : SplitOut) (r : ℕ) (w : LentSplit) (v : Slice Float) : Type 0 where
+  pub answer : r ≡ packedSplit (o .answer)
+  pub lent : SplitDoes o (o .answer) w
+  pub total : after v ≡ over (splitTotal (o .answer)) (before v)
+
+-- of a split of these columns
+abbrev pub SplitPackedIs : ℕ → Settings → ℕ → Columns → List Float → ℕ → LentSplit → Slice Float → Type 0
+SplitPackedIs n settings limit columns sums r w v =
+    SplitPacked (splitInto (length (before v)) (splitOut n settings limit columns (length sums) (splitPlaces w))) r w v
 
 -- v: the lent places for x, y and the weight
 pub record ReadPacked (a : Read) (r : ℕ) (v : Slice Float) : Type 0 where

@@ -13,6 +13,8 @@ use Rattle.query.specs.declared.BandAnswer.{BandAnswer}
 use Rattle.query.specs.declared.BandAnswer.the-variants as bands
 use Rattle.report.specs.declared.ReportAnswer.{ReportAnswer}
 use Rattle.report.specs.declared.ReportAnswer.the-variants as reports
+use Rattle.split.specs.declared.SplitAnswer.{SplitAnswer}
+use Rattle.split.specs.declared.SplitAnswer.the-variants as splits
 
 -- the number of the refusal, 0 if there is none
 abbrev pub numberIn : ℕ → ℕ
@@ -36,6 +38,16 @@ prunedIn p = p / 0x1_0000 % 0x100
 abbrev pub outliersIn : ℕ → ℕ
 outliersIn p = p / 0x1_0000_0000 % 0x1_0000
 
+-- a split's degree after the break, the samples before it, and the pivot tests
+abbrev pub afterIn : ℕ → ℕ
+afterIn p = p / 0x100 % 0x100
+
+abbrev pub breakIn : ℕ → ℕ
+breakIn p = p / 0x1_0000 % 0x1_0000
+
+abbrev pub testsIn : ℕ → ℕ
+testsIn p = p / 0x1_0000_0000 % 0x100_0000
+
 -- ---- what is read of a number p is the answer
 
 unfoldable pub BookRead : ℕ → Answer → Type 0
@@ -54,6 +66,11 @@ unfoldable pub ReportRead : ℕ → ReportAnswer → Type 0
 ReportRead p (reports.Report d solved outliers pruned) =
     (numberIn p ≡ 0) × (degreeIn p ≡ d .0) × (solvedIn p ≡ solved) × (prunedIn p ≡ pruned) × (outliersIn p ≡ outliers)
 ReportRead p (reports.Refused k) = numberIn p ≡ k
+
+unfoldable pub SplitRead : ℕ → SplitAnswer → Type 0
+SplitRead p (splits.Split total at tests d e) =
+    (numberIn p ≡ 0) × (degreeIn p ≡ d .0) × (afterIn p ≡ e .0) × (breakIn p ≡ at) × (testsIn p ≡ tests)
+SplitRead p (splits.Refused k) = numberIn p ≡ k
 
 unfoldable pub OpenedRead : ℕ → Opened → Type 0
 OpenedRead p (readers.Cursor c) = (numberIn p ≡ 0) × (countIn p ≡ c .at)

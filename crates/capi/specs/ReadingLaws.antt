@@ -48,17 +48,17 @@ use Rattle.capi.specs.Reading.{numberIn, degreeIn, solvedIn, prunedIn, o
 
 -- a number of a low part below m and a high part
 module _ (m low high : ℕ) (below : low < m) where
-  upper-part : (low + high * m) / m ≡ high
+  pub upper-part : (low + high * m) / m ≡ high
   upper-part =
       let e = add-mul-div-right low high {z = m} (omega arith) in
       omega (arith, e, div-eq-of-lt below)
 
-  lower-part : (low + high * m) % m ≡ low
+  pub lower-part : (low + high * m) % m ≡ low
   lower-part =
       let e = mod-eq-sub-div-mul (low + high * m) m in
       e ∙ ap (λ q. low + high * m - q * m) upper-part ∙ add-sub-cancel low (high * m)
 
-refusal-read : (k : ℕ) → numberIn (packedRefusal k) ≡ k
+pub refusal-read : (k : ℕ) → numberIn (packedRefusal k) ≡ k
 refusal-read k =
     let e : packedRefusal k ≡ 0 + k * 0x100_0000_0000_0000 = omega arith in
     ap numberIn e ∙ upper-part 0x100_0000_0000_0000 0 k (omega arith)

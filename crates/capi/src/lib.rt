@@ -8,6 +8,7 @@ use frame::Cursor;
 use frame::Read;
 use query::BandAnswer;
 use report::ReportAnswer;
+use split::SplitAnswer;
 ghost use mathlib.Core.Path.{_≡_};
 ghost use mathlib.Core.List.{[]};
 ghost use Prim.Native.Nat.{_≤_};
@@ -22,11 +23,13 @@ ghost use Rattle.query.specs.Fits.{fitOut, validateOut};
 ghost use Rattle.query.specs.Bands.{bandOut};
 ghost use Rattle.report.specs.Outputs.{outputs};
 ghost use Rattle.carried.specs.Carry.{carryOut};
+ghost use Rattle.split.specs.Rooms.{mostTests};
+ghost use Rattle.split.specs.Splits.{lentSplit};
 ghost use Rattle.two_column.specs.Pairs.{columns as pairColumns};
 ghost use Rattle.two_column.specs.Calls.{openOut as pairOpenOut, addOut as pairAddOut, correctOut as pairCorrectOut, withdrawOut as pairWithdrawOut, addFrameOut as pairFrameOut};
 ghost use Rattle.replay.specs.Replay.{memory};
 ghost use Rattle.settings.specs.Numbers.{boundOf, criterionOf, confidenceOf, toleranceOf, settingsOf, settingsIn};
-ghost use Rattle.capi.specs.Packed.{packedCounts, packedReport, ReportFits, packedBand, bandNumbers, BookPacked, PairPacked, FitPacked, BandPacked, bandInto, ReportPackedIs, packedOpened, packedRead, readNumbers, ReadPacked, ReplayPacked};
+ghost use Rattle.capi.specs.Packed.{packedCounts, packedReport, ReportFits, packedBand, bandNumbers, BookPacked, PairPacked, FitPacked, BandPacked, bandInto, ReportPackedIs, packedBreak, packedSplit, splitTotal, SplitFits, SplitPackedIs, packedOpened, packedRead, readNumbers, ReadPacked, ReplayPacked};
 
 // The places that a band is written to, and those of a reader's sample.
 const BAND: usize = 3;
@@ -71,6 +74,36 @@ fn packed_band(answer: BandAnswer, numbers: &mut [f64]) -> u64
             0
         }
         BandAnswer::Refused(k) => packed::refused(k),
+    }
+}
+
+// The four numbers of a split, each in its field.
+fn break_counts(earlier: usize, later: usize, at: usize, tests: usize) -> u64
+    requires { ⌜ (earlier ≤ highestDegree) × (later ≤ highestDegree) × (at ≤ maxSamples) × (tests ≤ mostTests) ⌝ }
+    ensures { λ r. ⌜ r ≡ packedBreak earlier later at tests ⌝ }
+{
+    let all = earlier + later * 0x100 + at * 0x1_0000 + tests * 0x1_0000_0000;
+    all as u64
+}
+
+// A split: both degrees in bits 0 to 15, the samples before the break in bits 16 to 31, the pivot tests in bits 32 to 55; its total is written.
+fn packed_split(answer: SplitAnswer, total: &mut [f64]) -> u64
+    requires { ⌜ SplitFits answer ⌝ }
+    requires { ⌜ 1 ≤ length (now total) ⌝ }
+    ensures { λ r. ⌜ (r ≡ packedSplit answer) × (after total ≡ over (splitTotal answer) (before total)) ⌝ }
+{
+    match answer {
+        SplitAnswer::Split {
+            total: sum,
+            at,
+            tests,
+            before,
+            after,
+        } => {
+            total[0] = sum;
+            break_counts(before.0, after.0, at, tests)
+        }
+        SplitAnswer::Refused(k) => packed::refused(k),
     }
 }
 
@@ -442,6 +475,43 @@ pub extern "C" fn stakebook_report_by(
         upper,
         outliers,
     ))
+}
+
+// A split of the book by lists of settings. Its total is written to one place.
+#[no_mangle]
+pub extern "C" fn stakebook_split(
+    count: usize,
+    words: &[u32],
+    values: &[f64],
+    limit: usize,
+    xs: &[f64],
+    ys: &[f64],
+    ws: &[f64],
+    sums: &[f64],
+    scratch: &mut [f64],
+    earlier: &mut [f64],
+    later: &mut [f64],
+    total: &mut [f64],
+) -> u64
+    ensures { λ r. ⌜ SplitPackedIs count (settingsIn (before words) (before values)) limit (columnsOf (before xs) (before ys) (before ws)) (before sums) r (lentSplit scratch earlier later) total ⌝ }
+{
+    if total.len() < 1 {
+        return packed::refused(1);
+    }
+    let settings = settings::listed(words, values);
+    let answer = split::split(
+        Book { count },
+        settings,
+        limit,
+        xs,
+        ys,
+        ws,
+        sums,
+        scratch,
+        earlier,
+        later,
+    );
+    packed_split(answer, total)
 }
 
 // A reader of a frame: the offset of its first sample.

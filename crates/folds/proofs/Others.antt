@@ -1,17 +1,17 @@
 -- The sums over the samples before a fold grow from fold to fold, and those from its end on are added to a copy of them: both in the corner of k rows
 -- and columns.
-use mathlib.Core.Path.{_≡_, sym, ap, _∙_}
-use mathlib.Core.List.{List, _++_}
+use mathlib.Core.Path.{_≡_}
+use mathlib.Core.List.{List}
 use Prim.Native.Nat.{ℕ, _+_, _≤_, _<_}
 use native.Mathlib.Omega.{arith}
-use lib.ListN.{length, replicate, drop, take-append-drop}
+use lib.ListN.{length, replicate, drop}
 use lib.Ieee.{Float}
 use Rattle.loops.specs.Fold.{fold}
 use Rattle.loops.specs.Places.{table}
 use Rattle.value.specs.Numbers.{zeroF}
 use Rattle.basis.specs.declared.Basis.the-variants.{Curve}
 use Rattle.monomial.specs.Rows.{weightedRowsAt}
-use Rattle.monomial.specs.RowLaws.{weighted-at-take}
+use Rattle.monomial.specs.RowLaws.{weighted-at-take, weighted-at-join}
 use Rattle.monomial.specs.Sums.{addRows, sumsOf}
 use Rattle.monomial.specs.Corner.{SameCorner}
 use Rattle.monomial.specs.CornerLaws.{corner-itself, corner-append}
@@ -32,12 +32,9 @@ module _ (k : ℕ) (fits : k ≤ 16) (xs ys ws s t : List Float) (long : 272 ≤
 
     -- the fold's own
     pub passed-same : end ≡ endOf n folds f → SameCorner k t (addRows s (drop start (weightedRowsAt Curve end xs xs ys ws))) → SameCorner k t (sumsOf (weightedRowsAt Curve (endOf n folds f) xs xs ys ws))
-    passed-same ends m = rw (← ends, ← join) (corner-append k fits s t (weightedRowsAt Curve start xs xs ys ws) (drop start (weightedRowsAt Curve end xs xs ys ws)) long from-start m)
-      where
-        join : weightedRowsAt Curve start xs xs ys ws ++ drop start (weightedRowsAt Curve end xs xs ys ws) ≡ weightedRowsAt Curve end xs xs ys ws
-        join =
-            ap (λ l. l ++ drop start (weightedRowsAt Curve end xs xs ys ws)) (sym (weighted-at-take Curve xs xs ys ws start end (omega (arith, begins, ends, start-end n folds f inside))))
-            ∙ take-append-drop start (weightedRowsAt Curve end xs xs ys ws)
+    passed-same ends m =
+        rw (← ends, ← weighted-at-join Curve xs xs ys ws start end (omega (arith, begins, ends, start-end n folds f inside)))
+        (corner-append k fits s t (weightedRowsAt Curve start xs xs ys ws) (drop start (weightedRowsAt Curve end xs xs ys ws)) long from-start m)
 
 -- none before the first fold
 pub begun : (k n folds : ℕ) (xs ys ws : List Float) → SameCorner k (replicate 272 zeroF) (sumsOf (weightedRowsAt Curve (startOf n folds 0) xs xs ys ws))

@@ -3,7 +3,7 @@ use mathlib.Core.Path.{_≡_, sym, ap, _∙_}
 use mathlib.Core.List.{List, [], _∷_, _++_, map}
 use Prim.Native.Nat.{ℕ, _+_, _-_, _≤_}
 use native.Mathlib.Omega.{arith}
-use lib.ListN.{length, take, drop}
+use lib.ListN.{length, take, drop, take-append-drop}
 use lib.Seq.{getD-drop}
 use lib.Ieee.{Float, nan}
 use Rattle.loops.specs.Places.{each, table}
@@ -74,6 +74,11 @@ module _ (basis : Basis) (xs zs ys ws : List Float) where
   pub weighted-at-take : (m n : ℕ) → m ≤ n → take m (weightedRowsAt basis n xs zs ys ws) ≡ weightedRowsAt basis m xs zs ys ws
   unfolding weightedRowsAt
   weighted-at-take m n h = take-table (weightedAt basis xs zs ys ws) m n h
+
+  -- and those behind them
+  pub weighted-at-join : (m n : ℕ) → m ≤ n → weightedRowsAt basis m xs zs ys ws ++ drop m (weightedRowsAt basis n xs zs ys ws) ≡ weightedRowsAt basis n xs zs ys ws
+  weighted-at-join m n h =
+      ap (λ l. l ++ drop m (weightedRowsAt basis n xs zs ys ws)) (sym (weighted-at-take m n h)) ∙ take-append-drop m (weightedRowsAt basis n xs zs ys ws)
 
   -- without their weights they are the rows
   pub rows-in-weighted : (n : ℕ) → rowsIn (weightedRowsAt basis n xs zs ys ws) ≡ rowsAt basis n xs zs ys

@@ -1,0 +1,4 @@
+pub mod Breaks
+pub mod Corners
+pub mod Searching
+pub mod Splitting
