@@ -56,11 +56,7 @@ pub fn settings_refusal(
     let samples = refusal::samples_finite(xs, ys, ws, n);
     let wrong = !(score & width & samples);
     let high = refusal::bound_too_high(bound, n);
-    refusal::first(
-        wrong,
-        4,
-        refusal::first(few, 7, refusal::first(high, 8, 0)),
-    )
+    refusal::first(wrong, 4, refusal::first(few, 7, refusal::first(high, 8, 0)))
 }
 
 pub fn report_refusal(
