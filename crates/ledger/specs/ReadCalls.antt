@@ -10,24 +10,27 @@ use Rattle.query.specs.Bands.{BandOut, bandFor}
 use Rattle.settings.specs.declared.Settings.{Settings}
 use Rattle.report.specs.declared.Places.{Places}
 use Rattle.report.specs.Reports.{ReportOut, reportOn}
+use Rattle.losses.specs.Losses.{LossOut, lossOn}
 use Rattle.ledger.specs.Ledger.{Reading}
 
--- a call that reads, with its arguments, then the lengths of the memory lent to it alone: of scratch and coefficients, of scratch, or of all that a
--- report writes
+-- a call that reads, with its arguments, then the lengths of the memory lent to it alone: of scratch and coefficients, of scratch, of all that a
+-- report writes, or of scratch and losses
 pub data ReadCall : Type 0 where
   fits : ℕ → ℕ → ℕ → ReadCall
   validates : ℕ → DegreeBound → Criterion → ℕ → ℕ → ReadCall
   bands : Float → ℕ → Confidence → Tolerance → ℕ → ReadCall
   reports : Settings → Places → ReadCall
+  losses : Settings → ℕ → ℕ → ReadCall
 
 -- the answer and every value written
 pub data Told : Type 0 where
   fitReply : FitOut → Told
   bandReply : BandOut → Told
   reportReply : ReportOut → Told
+  lossReply : LossOut → Told
 
 -- what each answers and writes, from the count, the samples, the 272 sums, and the lengths of the columns and of the sums: the definitions that the
--- contracts of `fit`, `validate`, `band` and `report` promise
+-- contracts of `fit`, `validate`, `band`, `report` and `losses` promise
 unfoldable pub readOn : Reading ReadCall Told
 readOn (fits degree scratch coefficients) n samples sums columns places = fitReply (fitOn n degree samples sums columns places scratch coefficients)
 readOn (validates folds bound criterion scratch coefficients) n samples sums columns places =
@@ -35,3 +38,4 @@ readOn (validates folds bound criterion scratch coefficients) n samples sums col
 readOn (bands x degree confidence tolerance scratch) n samples sums columns places =
     bandReply (bandFor n x degree confidence tolerance samples sums columns places scratch)
 readOn (reports settings lent) n samples sums columns places = reportReply (reportOn n settings samples sums columns places lent)
+readOn (losses settings scratch told) n samples sums columns places = lossReply (lossOn n settings samples sums columns places scratch told)
