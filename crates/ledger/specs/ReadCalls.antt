@@ -12,16 +12,18 @@ use Rattle.report.specs.declared.Places.{Places}
 use Rattle.report.specs.Reports.{ReportOut, reportOn}
 use Rattle.split.specs.declared.Places.{Places as SplitPlaces}
 use Rattle.split.specs.Splits.{SplitOut, splitOn}
+use Rattle.losses.specs.Losses.{LossOut, lossOn}
 use Rattle.ledger.specs.Ledger.{Reading}
 
--- a call that reads, with its arguments, then the lengths of the memory lent to it alone: of scratch and coefficients, of scratch, or of all that a
--- report or a split writes
+-- a call that reads, with its arguments, then the lengths of the memory lent to it alone: of scratch and coefficients, of scratch, of all that a
+-- report or a split writes, or of scratch and losses
 pub data ReadCall : Type 0 where
   fits : ℕ → ℕ → ℕ → ReadCall
   validates : ℕ → DegreeBound → Criterion → ℕ → ℕ → ReadCall
   bands : Float → ℕ → Confidence → Tolerance → ℕ → ReadCall
   reports : Settings → Places → ReadCall
   splits : Settings → ℕ → SplitPlaces → ReadCall
+  losses : Settings → ℕ → ℕ → ReadCall
 
 -- the answer and every value written
 pub data Told : Type 0 where
@@ -29,9 +31,10 @@ pub data Told : Type 0 where
   bandReply : BandOut → Told
   reportReply : ReportOut → Told
   splitReply : SplitOut → Told
+  lossReply : LossOut → Told
 
 -- what each answers and writes, from the count, the samples, the 272 sums, and the lengths of the columns and of the sums: the definitions that the
--- contracts of `fit`, `validate`, `band`, `report` and `split` promise
+-- contracts of `fit`, `validate`, `band`, `report`, `split` and `losses` promise
 unfoldable pub readOn : Reading ReadCall Told
 readOn (fits degree scratch coefficients) n samples sums columns places = fitReply (fitOn n degree samples sums columns places scratch coefficients)
 readOn (validates folds bound criterion scratch coefficients) n samples sums columns places =
@@ -40,3 +43,4 @@ readOn (bands x degree confidence tolerance scratch) n samples sums columns plac
     bandReply (bandFor n x degree confidence tolerance samples sums columns places scratch)
 readOn (reports settings lent) n samples sums columns places = reportReply (reportOn n settings samples sums columns places lent)
 readOn (splits settings limit lent) n samples sums columns places = splitReply (splitOn n settings limit samples columns places lent)
+readOn (losses settings scratch told) n samples sums columns places = lossReply (lossOn n settings samples sums columns places scratch told)

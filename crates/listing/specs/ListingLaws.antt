@@ -1,7 +1,7 @@
 -- Laws of Listing.antt.
-use mathlib.Core.Path.{_≡_, refl}
+use mathlib.Core.Path.{_≡_, refl, ap, _∙_}
 use mathlib.Core.List.{List, [], _∷_, _++_, flatten}
-use Prim.Native.Nat.{ℕ, zero, suc, _+_, _*_, _≤_, _<_}
+use Prim.Native.Nat.{ℕ, zero, suc, _+_, _*_, _≤_, _<_, min}
 use native.Mathlib.Omega.{arith}
 use lib.Ieee.{Float, nan, ofBits, toBits}
 use lib.ListN.{length, getD, replicate, length-append}
@@ -12,8 +12,8 @@ use Rattle.loops.specs.Places.{table}
 use Rattle.value.specs.Numbers.{zeroF, oneF}
 use Rattle.listing.specs.WritingLaws.{flatten-again}
 use Rattle.listing.specs.Text.{ascii, decimal, decimalIn, hexadecimal, bitsOf, fields, line}
-use Rattle.listing.specs.TextLaws.{length-decimal, length-bits, length-line}
-use Rattle.listing.specs.Listing.{cLine, cLines, cCount, listing, refusedLine}
+use Rattle.listing.specs.TextLaws.{length-decimal, length-small, length-bits, length-line}
+use Rattle.listing.specs.Listing.{cLine, cLines, cCount, listing, lossLine, lossLines, totalLine, lossCount, lossListing, refusedLine}
 
 pub c-none : (cs es : List Float) → [] ≡ cLines 0 cs es
 unfolding cLines flatten table
@@ -73,10 +73,51 @@ pub refused-short : (r : ℕ) → length (refusedLine r) ≤ 29
 unfolding refusedLine ascii
 refused-short r = omega (arith, length-line (ascii "refused") (decimal r), length-decimal r)
 
--- 01's example, x = y = 0, 1, 2, 3, 4: the report writes 16 coefficients and 16 errors
-pub example : listing 5 1 (zeroF ∷ oneF ∷ replicate 14 zeroF) (replicate 16 zeroF) 0 0
-    ≡ ascii "n 5\ndegree 1\nc 0 0000000000000000 0000000000000000\nc 1 3FF0000000000000 0000000000000000\noutliers 0\npruned 0\n"
-unfolding countOf listing cLines cLine flatten table line fields ascii decimal decimalIn bitsOf hexadecimal digits toBits ofBits
+-- ---- the losses
+
+pub loss-none : (ls : List Float) → [] ≡ lossLines 0 ls
+unfolding lossLines flatten table
+loss-none ls = refl
+
+-- one loss line more
+pub loss-again : (i : ℕ) (ls : List Float) → lossLines i ls ++ lossLine i (getD ls i nan) ≡ lossLines (i + 1) ls
+unfolding lossLines
+loss-again i ls = flatten-again (λ j. lossLine j (getD ls j nan)) i
+
+-- a line for each of n losses
+pub loss-count : (n : ℕ) (ls : List Float) → length ls ≡ n → lossCount n ls ≡ n
+loss-count n ls h = omega arith
+
+-- a loss line of an index below 10,000 has at most 27 bytes, the line of the total 23
+pub length-loss : (i : ℕ) (v : Float) → i < 10000 → length (lossLine i v) ≤ 27
+unfolding lossLine line fields ascii
+length-loss i v h =
+    let n = length-small i h in
+    let b = length-bits v in
+    simp length-append (omega arith)
+
+pub length-losses : (n : ℕ) (ls : List Float) → n ≤ 10000 → length (lossLines n ls) ≤ 27 * n
+length-losses zero ls h = rw (← loss-none ls) (omega arith)
+length-losses (suc n) ls h =
+    let e : n + 1 ≡ suc n = omega arith in
+    let l = length-append (lossLines n ls) (lossLine n (getD ls n nan)) in
+    rw (← e, ← loss-again n ls) (omega (arith, length-losses n ls (omega arith), length-loss n (getD ls n nan) (omega arith)))
+
+pub length-total : (v : Float) → length (totalLine v) ≡ 23
+unfolding totalLine ascii
+length-total v = length-line (ascii "total") (bitsOf v) ∙ ap (λ z. 5 + (z + 2)) (length-bits v)
+
+-- the losses of 4,095 samples at most
+pub losses-short : (n : ℕ) (ls : List Float) (total : Float) → n ≤ 4095 → length (lossListing n ls total) ≤ 4095 * 27 + 23
+unfolding lossListing
+losses-short n ls total h =
+    let k = lossCount n ls in
+    omega (arith, length-append (lossLines k ls) (totalLine total), length-losses k ls (omega arith), length-total total)
+
+-- 01's example, x = y = 0, 1, 2, 3, 4: the report writes 16 coefficients and 16 errors; every loss is +0
+pub example : listing 5 1 (zeroF ∷ oneF ∷ replicate 14 zeroF) (replicate 16 zeroF) 0 0 ++ lossListing 5 (replicate 5 zeroF) zeroF
+    ≡ ascii "n 5\ndegree 1\nc 0 0000000000000000 0000000000000000\nc 1 3FF0000000000000 0000000000000000\noutliers 0\npruned 0\nloss 0 0000000000000000\nloss 1 0000000000000000\nloss 2 0000000000000000\nloss 3 0000000000000000\nloss 4 0000000000000000\ntotal 0000000000000000\n"
+unfolding countOf listing cLines cLine lossListing lossLines lossLine totalLine flatten table line fields ascii decimal decimalIn bitsOf hexadecimal digits toBits ofBits
 example = refl
 
 pub nan-prints : bitsOf nan ≡ ascii "7FF8000000000000"

@@ -13,7 +13,7 @@ pub use writing::put_text;
 ghost use mathlib.Core.Path.{_≡_};
 ghost use Prim.Native.Nat.{_+_, _≤_, min};
 ghost use lib.ListN.{length};
-ghost use Rattle.listing.specs.Listing.{cLine, cLines, listing, refusedLine};
+ghost use Rattle.listing.specs.Listing.{cLine, cLines, listing, lossLine, lossLines, totalLine, lossListing, refusedLine};
 ghost use Rattle.listing.specs.Writing.{Wrote};
 use basis::Degree;
 
@@ -81,6 +81,50 @@ pub fn write_listing(
     let e = put_line(out, c, word3, outliers as u64);
     let word4 = b"pruned";
     put_line(out, e, word4, pruned as u64)
+}
+
+// A loss line: index and loss.
+fn put_loss_line(out: &mut [u8], at: usize, i: u64, loss: f64) -> usize
+    ensures { λ r. ⌜ Wrote (now (out .entry)) at (lossLine i loss) (now (out .exit)) r ⌝ }
+{
+    let word = b"loss";
+    let a = put_text(out, at, word);
+    let b = put_number(out, a, i);
+    let c = put_double(out, b, loss);
+    put_byte(out, c, b'\n')
+}
+
+// The first n loss lines.
+fn put_loss_lines(out: &mut [u8], at: usize, n: usize, losses: &[f64]) -> usize
+    requires { ⌜ n ≤ length (now losses) ⌝ }
+    ensures { λ r. ⌜ Wrote (now (out .entry)) at (lossLines n (now (losses .entry))) (now (out .exit)) r ⌝ }
+{
+    let mut here = at;
+    let mut i = 0;
+    while i < n {
+        here = put_loss_line(out, here, i as u64, losses[i]);
+        i += 1;
+    }
+    here
+}
+
+// The line of the total of the losses.
+fn put_total(out: &mut [u8], at: usize, total: f64) -> usize
+    ensures { λ r. ⌜ Wrote (now (out .entry)) at (totalLine total) (now (out .exit)) r ⌝ }
+{
+    let word = b"total";
+    let a = put_text(out, at, word);
+    let b = put_double(out, a, total);
+    put_byte(out, b, b'\n')
+}
+
+// The losses of n samples, line by line, and their total, from a place on. Answers the place behind them.
+pub fn write_losses(out: &mut [u8], at: usize, n: usize, losses: &[f64], total: f64) -> usize
+    ensures { λ r. ⌜ Wrote (now (out .entry)) at (lossListing n (now (losses .entry)) total) (now (out .exit)) r ⌝ }
+{
+    let k = smaller(n, losses.len());
+    let a = put_loss_lines(out, at, k, losses);
+    put_total(out, a, total)
 }
 
 // The line of a refusal. Answers its length.

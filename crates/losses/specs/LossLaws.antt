@@ -1,0 +1,188 @@
+-- Laws of Losses.antt: what the losses may answer, that they answer where a report does, and that their total is the one that the chosen score is made of.
+use mathlib.Core.Path.{_≡_, refl, sym, ap, _∙_}
+use mathlib.Core.Bool.{Bool, true, false, cond}
+use mathlib.Core.List.{List, [], _∷_, List·Memᴰ, List·Memᴰ·head, Memᴰ·append-right}
+use Prim.Native.Nat.{ℕ, zero, suc, _+_}
+use native.Mathlib.Omega.{arith}
+use lib.ListN.{length, length-map}
+use lib.Ieee.{Float}
+use Rattle.loops.specs.PlaceLaws.{table-at}
+use Rattle.basis.specs.Counts.{countOf}
+use Rattle.basis.specs.declared.Basis.the-variants.{Curve}
+use Rattle.basis.specs.declared.Degree.{Degree}
+use Rattle.basis.specs.declared.OptionDegree.{OptionDegree}
+use Rattle.basis.specs.declared.OptionDegree.the-variants.{Some, None}
+use Rattle.value.specs.Total.{totalF}
+use Rattle.statistics.specs.Degrees.{maxDegree}
+use Rattle.statistics.specs.Losses.{huberConst, huberLoss, losses}
+use Rattle.statistics.specs.Medians.{medianAbsoluteDeviation}
+use Rattle.samples.specs.Samples.{Sample}
+use Rattle.monomial.specs.Rows.{Row, rowOf, rowsOf}
+use Rattle.solve.specs.Solve.{solve}
+use Rattle.score.specs.Score.{scoreOf}
+use Rattle.score.specs.declared.Criterion.{Criterion}
+use Rattle.choice.specs.Laws.{score-some}
+use Rattle.fit.specs.Residuals.{residual, residuals}
+use Rattle.fit.specs.Solved.{isSolved, scoreOn, scoredBy}
+use Rattle.fit.specs.Chosen.{choiceOf, countsOf, tried}
+use Rattle.refusal.specs.Refusals.{settle, firstOf}
+use Rattle.refusal.specs.Tests.{tooShort}
+use Rattle.refusal.specs.Laws.{settled-among}
+use Rattle.measure.specs.Measures.{inverseFails, covarianceAt}
+use Rattle.lent.specs.Written.{zeros}
+use Rattle.settings.specs.declared.Settings.{Settings}
+use Rattle.report.specs.declared.Places.{Places}
+use Rattle.report.specs.Refusals.{reportNeeds, reportRefusal}
+use Rattle.report.specs.Reports.{ReportOut, reportNumber, refusedLate, refusedEarly, writtenBy, reportOf, reportPast, reportOn}
+use Rattle.report.specs.Chosen.{reportChoice}
+use Rattle.report.specs.ChosenLaws.{chosen-solved}
+use Rattle.losses.specs.declared.LossAnswer.the-variants as answers
+use Rattle.losses.specs.Refusals.{lossNeeds, lossRefusal}
+use Rattle.losses.specs.RefusalLaws.{loss-numbers}
+use Rattle.losses.specs.Losses.{LossOut, lossNumber, lossLate, lossRefused, lossesAt, lossesBy, lossOf, lossPast, lossOn}
+
+-- ---- what they may answer, by document 01's numbers
+
+by-number : (n : ℕ) (settings : Settings) (rows : List Row) (sums : List Float) (degree : ℕ) → lossNumber (lossesBy n settings rows sums degree .answer) ≡ 0
+unfolding lossesBy
+by-number n settings rows sums degree = refl
+
+past-number : (n : ℕ) (settings : Settings) (rows : List Row) (sums : List Float) (o : OptionDegree)
+    → List·Memᴰ (lossNumber (lossOf n settings rows sums o .answer)) (0 ∷ 1 ∷ 4 ∷ 7 ∷ 8 ∷ 11 ∷ 12 ∷ [])
+unfolding lossOf
+past-number n settings rows sums None = Memᴰ·append-right (0 ∷ 1 ∷ 4 ∷ 7 ∷ 8 ∷ []) (List·Memᴰ·head refl)
+past-number n settings rows sums (Some d) = go (inverseFails sums (countOf Curve (d .0))) _ (by-number n settings rows sums (d .0))
+  where
+    go : (t : Bool) (w : LossOut) → lossNumber (w .answer) ≡ 0 → List·Memᴰ (lossNumber (cond t (lossLate n 12) w .answer)) (0 ∷ 1 ∷ 4 ∷ 7 ∷ 8 ∷ 11 ∷ 12 ∷ [])
+    go true w h = Memᴰ·append-right (0 ∷ 1 ∷ 4 ∷ 7 ∷ 8 ∷ 11 ∷ []) (List·Memᴰ·head refl)
+    go false w h = List·Memᴰ·head h
+
+pub loss-answers : (n : ℕ) (settings : Settings) (samples : List Sample) (sums : List Float) (columns : List ℕ) (places scratch losses : ℕ)
+    → List·Memᴰ (lossNumber (lossOn n settings samples sums columns places scratch losses .answer)) (0 ∷ 1 ∷ 4 ∷ 7 ∷ 8 ∷ 11 ∷ 12 ∷ [])
+unfolding lossOn lossPast
+loss-answers n settings samples sums columns places scratch losses =
+    settled-among (λ (o : LossOut). lossNumber (o .answer)) (lossRefusal n settings samples columns places scratch losses) (lossPast n settings (rowsOf samples) sums) _
+    (0 ∷ 1 ∷ 4 ∷ 7 ∷ 8 ∷ []) (11 ∷ 12 ∷ []) (loss-numbers n settings samples columns places scratch losses) (past-number n settings (rowsOf samples) sums _) refl
+
+-- ---- they answer where a report answers, and are refused by its number where it is refused
+
+written-number : (n : ℕ) (settings : Settings) (rows : List Row) (degree solved : ℕ) (c v : List Float) → reportNumber (writtenBy n settings rows degree solved c v .answer) ≡ 0
+unfolding writtenBy
+written-number n settings rows degree solved c v = refl
+
+pub same-number : (n : ℕ) (settings : Settings) (rows : List Row) (sums : List Float) (solved : ℕ) (o : OptionDegree)
+    → lossNumber (lossOf n settings rows sums o .answer) ≡ reportNumber (reportOf n settings rows sums solved o .answer)
+unfolding lossOf reportOf
+same-number n settings rows sums solved None = refl
+same-number n settings rows sums solved (Some d) =
+    go (inverseFails sums k) _ _ (by-number n settings rows sums (d .0)) (written-number n settings rows (d .0) solved (solve sums k .c) (covarianceAt sums rows k))
+  where
+    k : ℕ
+    k = countOf Curve (d .0)
+
+    go : (t : Bool) (a : LossOut) (b : ReportOut) → lossNumber (a .answer) ≡ 0 → reportNumber (b .answer) ≡ 0
+        → lossNumber (cond t (lossLate n 12) a .answer) ≡ reportNumber (cond t (refusedLate n 12) b .answer)
+    go true a b h q = refl
+    go false a b h q = h ∙ sym q
+
+-- past 1
+pub same-refusal : (n : ℕ) (settings : Settings) (samples : List Sample) (columns : List ℕ) (places scratch losses : ℕ) (lent : Places)
+    → tooShort n columns (lossNeeds n places scratch losses) ≡ false → tooShort n columns (reportNeeds n places lent) ≡ false
+    → lossRefusal n settings samples columns places scratch losses ≡ reportRefusal n settings samples columns places lent
+unfolding lossRefusal reportRefusal firstOf
+same-refusal n settings samples columns places scratch losses lent h q = rw (h, q)
+
+settled-same : (r : ℕ) (a : LossOut) (b : ReportOut) → lossNumber (a .answer) ≡ reportNumber (b .answer)
+    → lossNumber (settle r a (lossRefused r) .answer) ≡ reportNumber (settle r b (refusedEarly r) .answer)
+settled-same zero a b h = h
+settled-same (suc r) a b h = refl
+
+pub same-answer : (n : ℕ) (settings : Settings) (samples : List Sample) (sums : List Float) (columns : List ℕ) (places scratch losses : ℕ) (lent : Places)
+    → tooShort n columns (lossNeeds n places scratch losses) ≡ false → tooShort n columns (reportNeeds n places lent) ≡ false
+    → lossNumber (lossOn n settings samples sums columns places scratch losses .answer) ≡ reportNumber (reportOn n settings samples sums columns places lent .answer)
+unfolding lossOn reportOn lossPast reportPast
+same-answer n settings samples sums columns places scratch losses lent h q =
+    let rows = rowsOf samples in
+    let choice = reportChoice n settings rows sums in
+    rw (same-refusal n settings samples columns places scratch losses lent h q)
+    (settled-same (reportRefusal n settings samples columns places lent) (lossPast n settings rows sums) (reportPast n settings rows sums)
+    (same-number n settings rows sums (choice .solved) (choice .chosen)))
+
+-- ---- the total
+
+known-score : (criterion : Criterion) (rows : List Row) (sums : List Float) (k j : ℕ) → j ≡ k → isSolved sums rows k ≡ true
+    → scoreOf criterion (length rows) k (totalF (lossesAt sums rows k)) ≡ scoredBy criterion sums rows rows j .score
+unfolding scoredBy scoreOn lossesAt
+known-score criterion rows sums k j e h = rw (e, h)
+
+-- the score of the choice is made of the total of the chosen degree's losses
+pub chosen-total : (settings : Settings) (rows : List Row) (sums : List Float) (d : Degree) → reportChoice (length rows) settings rows sums .chosen ≡ Some d
+    → scoreOf (settings .criterion) (length rows) (countOf Curve (d .0)) (totalF (lossesAt sums rows (countOf Curve (d .0))))
+    ≡ reportChoice (length rows) settings rows sums .score
+unfolding reportChoice choiceOf tried
+chosen-total settings rows sums d h =
+    let b = maxDegree (settings .bound) (length rows) in
+    let s = chosen-solved (length rows) settings rows sums d h in
+    known-score (settings .criterion) rows sums (countOf Curve (d .0)) _ (table-at (countOf Curve) (b + 1) (d .0) 0 (omega (arith, s .0))) (s .1)
+    ∙ score-some (λ e. tried (settings .criterion) sums rows (countsOf Curve b) e .score) _ d h
+
+told-by : (n : ℕ) (settings : Settings) (rows : List Row) (sums : List Float) (d : Degree)
+    → reportChoice n settings rows sums .chosen ≡ Some d → inverseFails sums (countOf Curve (d .0)) ≡ false
+    → lossPast n settings rows sums ≡ lossesBy n settings rows sums (d .0)
+unfolding lossPast lossOf
+told-by n settings rows sums d h f = rw (h, f)
+
+score-of-rows : (settings : Settings) (rows : List Row) (sums : List Float) (d : Degree)
+    → reportChoice (length rows) settings rows sums .chosen ≡ Some d → inverseFails sums (countOf Curve (d .0)) ≡ false
+    → lossPast (length rows) settings rows sums .answer
+    ≡ answers.Losses d (totalF (lossPast (length rows) settings rows sums .losses)) (reportChoice (length rows) settings rows sums .score)
+unfolding lossesBy
+score-of-rows settings rows sums d h f =
+    rw (told-by (length rows) settings rows sums d h f)
+    (ap (λ v. answers.Losses d (totalF (lossesAt sums rows (countOf Curve (d .0)))) v) (chosen-total settings rows sums d h))
+
+-- and so it is the score that is answered
+pub score-is-chosen : (n : ℕ) (settings : Settings) (rows : List Row) (sums : List Float) (d : Degree) → n ≡ length rows
+    → reportChoice n settings rows sums .chosen ≡ Some d → inverseFails sums (countOf Curve (d .0)) ≡ false
+    → lossPast n settings rows sums .answer ≡ answers.Losses d (totalF (lossPast n settings rows sums .losses)) (reportChoice n settings rows sums .score)
+score-is-chosen n settings rows sums d l h f = rw l (score-of-rows settings rows sums d (rw l at h) f)
+
+-- ---- how many are written
+
+pub length-losses-at : (sums : List Float) (rows : List Row) (k : ℕ) → length (lossesAt sums rows k) ≡ length rows
+unfolding lossesAt losses residuals
+length-losses-at sums rows k =
+    let rs = residuals k (solve sums k .c) rows in
+    length-map rs (λ r. huberLoss r huberConst (medianAbsoluteDeviation rs)) ∙ length-map rows (residual k (solve sums k .c))
+
+-- ---- where they are told, the total is that of the losses written, and these are n
+
+abbrev Told : ℕ → LossOut → Type 0
+Told n o = (d : Degree) (total score : Float) → o .answer ≡ answers.Losses d total score → (total ≡ totalF (o .losses)) × (length (o .losses) ≡ n)
+
+none-told : (n r : ℕ) (s : List Float) → Told n (record { answer = answers.Refused r; scratch = s; losses = [] })
+none-told n r s d total score h = absurd (let z : _≡_ {A = ℕ} 0 1 = cc in omega arith)
+
+by-told : (n : ℕ) (settings : Settings) (rows : List Row) (sums : List Float) (degree : ℕ) → length rows ≡ n → Told n (lossesBy n settings rows sums degree)
+unfolding lossesBy
+by-told n settings rows sums degree l d total score h = (cc, length-losses-at sums rows (countOf Curve degree) ∙ l)
+
+of-told : (n : ℕ) (settings : Settings) (rows : List Row) (sums : List Float) (o : OptionDegree) → length rows ≡ n → Told n (lossOf n settings rows sums o)
+unfolding lossOf
+of-told n settings rows sums None l = none-told n 11 (zeros n)
+of-told n settings rows sums (Some d) l = go (inverseFails sums (countOf Curve (d .0))) _ (by-told n settings rows sums (d .0) l)
+  where
+    go : (t : Bool) (w : LossOut) → Told n w → Told n (cond t (lossLate n 12) w)
+    go true w h = none-told n 12 (zeros n)
+    go false w h = h
+
+settled-told : (n r : ℕ) (w : LossOut) → Told n w → Told n (settle r w (lossRefused r))
+settled-told n zero w h = h
+settled-told n (suc r) w h = none-told n (suc r) []
+
+pub losses-told : (n : ℕ) (settings : Settings) (samples : List Sample) (sums : List Float) (columns : List ℕ) (places scratch losses : ℕ) → length samples ≡ n
+    → (d : Degree) (total score : Float) → lossOn n settings samples sums columns places scratch losses .answer ≡ answers.Losses d total score
+    → (total ≡ totalF (lossOn n settings samples sums columns places scratch losses .losses)) × (length (lossOn n settings samples sums columns places scratch losses .losses) ≡ n)
+unfolding lossOn lossPast
+losses-told n settings samples sums columns places scratch losses l =
+    settled-told n (lossRefusal n settings samples columns places scratch losses) _ (of-told n settings (rowsOf samples) sums _ (length-map samples rowOf ∙ l))

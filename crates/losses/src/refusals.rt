@@ -1,0 +1,30 @@
+// Refusals 1 to 9 of the losses: the number of the first test that holds, 0 if none does.
+use basis::SUMS;
+ghost use mathlib.Core.Path.{_≡_};
+ghost use Rattle.samples.specs.Columns.{samplesOf, columnsOf, lengths};
+ghost use Rattle.lent.specs.Slices.{before};
+ghost use Rattle.losses.specs.Refusals.{lossRefusal};
+use settings::Settings;
+
+pub fn loss_refusal(
+    n: usize,
+    settings: Settings,
+    xs: &[f64],
+    ys: &[f64],
+    ws: &[f64],
+    sums: usize,
+    scratch: usize,
+    losses: usize,
+) -> u8
+    ensures { λ r. ⌜ r ≡ lossRefusal n settings (samplesOf n (columnsOf (before xs) (before ys) (before ws))) (lengths (columnsOf (before xs) (before ys) (before ws))) sums scratch losses ⌝ }
+{
+    let memory = refusal::short(
+        SUMS,
+        sums,
+        refusal::short(n, scratch, refusal::short(n, losses, false)),
+    );
+    if refusal::too_short(n, xs.len(), ys.len(), ws.len(), memory) {
+        return 1;
+    }
+    report::settings_refusal(n, settings, xs, ys, ws, n == 0)
+}
