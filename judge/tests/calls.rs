@@ -95,6 +95,12 @@ impl Book {
         self.keep(answer)
     }
 
+    fn add_window(&mut self, sample: Sample) -> Result<usize, u8> {
+        let count = self.count;
+        let answer = book::add_window(count, &mut self.memory(), sample);
+        self.keep(answer)
+    }
+
     fn correct(&mut self, index: usize, y: f64) -> Result<usize, u8> {
         let count = self.count;
         book::correct(count, &mut self.memory(), index, y)
@@ -719,6 +725,72 @@ fn capacity_by_the_weights() {
     assert_eq!((book.correct(0, 1.0), book.withdraw(0)), (Err(1), Err(1)));
     assert_eq!((book.fit(1), book.validate(2, 1)), (Err(1), Err(1)));
     assert_eq!((book.report(AIC_1), book.band(0.0, 1)), (Err(1), Err(1)));
+}
+
+/// Document 02, E11: with room it is an add; at a full book sample 0 goes first, and all sums are folded afresh.
+#[test]
+fn window_keeps_the_newest() {
+    let mut book = Book::new(3, &[]);
+    for (i, &(x, y)) in LINE.iter().enumerate() {
+        assert_eq!(book.add_window(Sample::unweighted(x, y)), Ok(i + 1));
+    }
+    assert!(book.is_folded(&LINE));
+    book.sums[0] = MARK;
+    assert_eq!(book.add_window(weighing(7.0, 8.0, 1.0)), Ok(3));
+    assert_eq!((&book.x[..], &book.y[..]), (&[1.0, 2.0, 7.0][..], &[3.0, 5.0, 8.0][..]));
+    assert!(book.is_folded(&[LINE[1], LINE[2], (7.0, 8.0)]));
+    // Frames, lines and plain adds still find no room.
+    assert_eq!(book.add(9.0, 9.0), Err(5));
+    assert_eq!(book.add_frame(&encode(&[Sample::unweighted(9.0, 9.0)])), Err(5));
+    assert_eq!(book.add_lines("9 9\n"), Err(5));
+    // Room again: the place past the count held what the withdrawal left.
+    assert_eq!((book.withdraw(1), book.x[2]), (Ok(2), 7.0));
+    assert_eq!(book.add_window(weighing(9.0, 9.0, 0.5)), Ok(3));
+    assert_eq!((&book.x[..], &book.weight[..]), (&[1.0, 7.0, 9.0][..], &[1.0, 1.0, 0.5][..]));
+}
+
+/// A refused one withdraws nothing; 5 comes where capacity is zero, and nowhere else.
+#[test]
+fn window_is_refused_in_order() {
+    let mut book = Book::new(2, &LINE[..2]);
+    let wrong = [
+        (weighing(NAN, 1.0, 0.0), 4),
+        (weighing(1.0, INFINITY, 1.0), 4),
+        (weighing(1.0, 1.0, NAN), 4),
+        (weighing(1.0, 1.0, 0.0), 15),
+        (weighing(1.0, 1.0, -1.0), 15),
+    ];
+    for (sample, number) in wrong {
+        assert_eq!(book.add_window(sample), Err(number));
+    }
+    assert_eq!((book.count, &book.x[..]), (2, &[0.0, 1.0][..]));
+    assert!(book.is_folded(&LINE[..2]));
+    book.count = 3;
+    assert_eq!(book.add_window(weighing(NAN, 1.0, 0.0)), Err(1));
+    book.count = 2;
+    book.sums.truncate(PLACES - 1);
+    assert_eq!(book.add_window(weighing(1.0, 1.0, 1.0)), Err(1));
+    assert_eq!(book.x, [0.0, 1.0]);
+    let mut none = Book::new(0, &[]);
+    assert_eq!(none.add_window(weighing(1.0, 1.0, 1.0)), Err(5));
+    assert_eq!(none.add_window(weighing(1.0, 1.0, 0.0)), Err(15));
+    assert_eq!(none.add_window(weighing(1.0, NAN, 0.0)), Err(4));
+}
+
+/// A window of one holds the last sample, and one of 4,096 in longer columns leaves the places past them.
+#[test]
+fn windows_of_1_and_4096() {
+    let mut book = Book::new(1, &[]);
+    for i in 0..3 {
+        let sample = weighing(f64::from(i), 2.0, 3.0);
+        assert_eq!(book.add_window(sample), Ok(1));
+        assert_eq!((book.x[0], book.sums[..PLACES].to_vec()), (sample.x, folded_afresh(&[sample])));
+    }
+    let mut book = Book::new(4100, &[]);
+    for i in 0..4098 {
+        assert_eq!(book.add_window(weighing(f64::from(i), 1.0, 1.0)), Ok(4096.min(i as usize + 1)));
+    }
+    assert_eq!((book.x[0], book.x[4095], book.x[4096]), (2.0, 4097.0, MARK));
 }
 
 /// Document 02, E6: the weights below the count become 1, and nothing else changes, whatever stands there.
