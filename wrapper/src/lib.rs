@@ -5,6 +5,9 @@
 //! and to write what its definition says, for every input. [`Book`] owns all memory that these
 //! functions are lent, so that none of it is too short and none overlaps.
 //!
+//! A book of capacity n is a window of the latest n samples, where they are added by
+//! [`Book::add_window`].
+//!
 //! [`TwoColumnBook`] is for a season that was begun before samples had weights; it is carried into a
 //! [`Book`].
 //!
@@ -236,6 +239,35 @@ impl Book {
     pub fn add_weighted(&mut self, x: f64, y: f64, weight: f64) -> Result<(), Refusal> {
         let answer =
             lend!(stakebook_add(self.count, x, y, weight; self.xs, self.ys, self.ws, self.sums));
+        self.changed(answer)
+    }
+
+    /// One sample of weight 1 at the end of a book that is a window of as many samples as its
+    /// capacity: where it is full, sample 0 goes first and the others move down one, so that the
+    /// newest stay. Refused by [`Refusal::NotFinite`]; by [`Refusal::Full`] only in a book of no
+    /// places. A refused one takes no sample out. [`add`](Book::add), [`add_frame`](Book::add_frame)
+    /// and [`add_lines`](Book::add_lines) make no room: they are refused where there is none.
+    ///
+    /// At a full book it takes as long as a [withdrawal](Book::withdraw).
+    ///
+    /// ```
+    /// let mut latest = stakebook::Book::with_capacity(3);
+    /// for day in 0..5 {
+    ///     latest.add_window(f64::from(day), 0.5 * f64::from(day))?;
+    /// }
+    /// assert_eq!((latest.xs(), latest.ys()), (&[2.0, 3.0, 4.0][..], &[1.0, 1.5, 2.0][..]));
+    /// # Ok::<(), stakebook::Refusal>(())
+    /// ```
+    pub fn add_window(&mut self, x: f64, y: f64) -> Result<(), Refusal> {
+        self.add_window_weighted(x, y, 1.0)
+    }
+
+    /// The same with a weight. Refused by [`Refusal::WeightNotAboveZero`] too.
+    pub fn add_window_weighted(&mut self, x: f64, y: f64, weight: f64) -> Result<(), Refusal> {
+        let answer = lend!(stakebook_add_window(
+            self.count, x, y, weight;
+            self.xs, self.ys, self.ws, self.sums
+        ));
         self.changed(answer)
     }
 

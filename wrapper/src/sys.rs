@@ -23,6 +23,20 @@ extern "C" {
         sums: *mut f64,
         sums_len: usize,
     ) -> u64;
+    pub fn stakebook_add_window(
+        count: usize,
+        x: f64,
+        y: f64,
+        weight: f64,
+        xs: *mut f64,
+        xs_len: usize,
+        ys: *mut f64,
+        ys_len: usize,
+        ws: *mut f64,
+        ws_len: usize,
+        sums: *mut f64,
+        sums_len: usize,
+    ) -> u64;
     pub fn stakebook_correct(
         count: usize,
         i: usize,

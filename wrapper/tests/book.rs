@@ -111,6 +111,36 @@ fn pruning_by_either_rule() {
     assert_eq!(report.solved, 4);
 }
 
+/// A window of the latest three: the oldest goes, and the sums are those of what stays.
+#[test]
+fn a_window_of_three() {
+    let mut book = Book::with_capacity(3);
+    for i in 0..3 {
+        assert_eq!(book.add_window(f64::from(i), 0.1), Ok(()));
+    }
+    assert_eq!(book.add(9.0, 9.0), Err(Refusal::Full));
+    assert_eq!(book.add_lines(b"9 9\n"), Err(Refusal::Full));
+    for (x, y, weight) in [(f64::NAN, 1.0, 1.0), (1.0, 1.0, f64::INFINITY)] {
+        assert_eq!(book.add_window_weighted(x, y, weight), Err(Refusal::NotFinite));
+    }
+    assert_eq!(book.add_window_weighted(9.0, 9.0, 0.0), Err(Refusal::WeightNotAboveZero));
+    assert_eq!((book.len(), book.xs()), (3, &[0.0, 1.0, 2.0][..]));
+    assert_eq!(book.add_window_weighted(3.0, 0.7, 2.0), Ok(()));
+    assert_eq!((book.xs(), book.ws()), (&[1.0, 2.0, 3.0][..], &[1.0, 1.0, 2.0][..]));
+    let mut stays = book_of(&[(1.0, 0.1), (2.0, 0.1)]);
+    stays.add_weighted(3.0, 0.7, 2.0).expect("room");
+    assert_eq!(book.sums(), stays.sums());
+    assert_eq!(book.fit(1), stays.fit(1));
+    // Room again: nothing goes.
+    assert_eq!((book.withdraw(0), book.add_window(4.0, 0.2)), (Ok(()), Ok(())));
+    assert_eq!(book.xs(), [2.0, 3.0, 4.0]);
+    let mut none = Book::with_capacity(0);
+    assert_eq!(none.add_window(0.0, 0.0), Err(Refusal::Full));
+    let mut one = Book::with_capacity(1);
+    assert_eq!((one.add_window(1.0, 2.0), one.add_window(3.0, 4.0)), (Ok(()), Ok(())));
+    assert_eq!((one.xs(), one.ys()), (&[3.0][..], &[4.0][..]));
+}
+
 #[test]
 fn a_frame_is_its_samples() {
     let mut frame = vec![0, 33, 1];
