@@ -13,6 +13,7 @@ use crate::request::float_field;
 pub enum Call {
     Open,
     Add(Sample),
+    AddWindow(Sample),
     Correct {
         index: usize,
         y: f64,

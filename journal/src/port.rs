@@ -206,6 +206,11 @@ impl Calls for Port {
         book(book_changed!(sys::stakebook_add, lent, (count, x, y, weight)))
     }
 
+    fn add_window(&self, count: usize, lent: Lent, sample: Sample) -> Answer {
+        let Sample { x, y, weight } = sample;
+        book(book_changed!(sys::stakebook_add_window, lent, (count, x, y, weight)))
+    }
+
     fn correct(&self, count: usize, lent: Lent, index: usize, y: f64) -> Answer {
         book(book_changed!(sys::stakebook_correct, lent, (count, index, y)))
     }

@@ -96,9 +96,8 @@ fn request(fields: &mut Fields) -> Read<Request> {
 fn call(word: &[u8], fields: &mut Fields) -> Read<Call> {
     Ok(match word {
         b"open" => Call::Open,
-        b"add" => {
-            Call::Add(Sample { x: fields.float()?, y: fields.float()?, weight: fields.weight()? })
-        }
+        b"add" => Call::Add(fields.sample()?),
+        b"window" => Call::AddWindow(fields.sample()?),
         b"correct" => Call::Correct { index: fields.number()?, y: fields.float()? },
         b"withdraw" => Call::Withdraw { index: fields.number()? },
         b"frame" => Call::AddFrame(fields.bytes()?),
@@ -211,6 +210,10 @@ impl<'a> Fields<'a> {
             return self.malformed(Message::NotAFloat);
         }
         Ok(one_value(digits.iter().fold(0, |pattern, digit| pattern << 4 | u64::from(*digit))))
+    }
+
+    fn sample(&mut self) -> Read<Sample> {
+        Ok(Sample { x: self.float()?, y: self.float()?, weight: self.weight()? })
     }
 
     /// No field at all is weight 1.
@@ -358,6 +361,11 @@ fn weight_field(weight: f64) -> String {
     }
 }
 
+fn sample_fields(sample: Sample) -> String {
+    let Sample { x, y, weight } = sample;
+    format!("{} {}{}", float_field(x), float_field(y), weight_field(weight))
+}
+
 /// The space and the field of a rule; polyfit's has none.
 fn pruning_field(rule: PruningRule) -> &'static str {
     match rule {
@@ -396,10 +404,8 @@ impl fmt::Display for Call {
     fn fmt(&self, f: &mut fmt::Formatter<'_>) -> fmt::Result {
         match self {
             Call::Open => write!(f, "open"),
-            Call::Add(Sample { x, y, weight }) => {
-                let weight = weight_field(*weight);
-                write!(f, "add {} {}{weight}", float_field(*x), float_field(*y))
-            }
+            Call::Add(sample) => write!(f, "add {}", sample_fields(*sample)),
+            Call::AddWindow(sample) => write!(f, "window {}", sample_fields(*sample)),
             Call::Correct { index, y } => write!(f, "correct {index} {}", float_field(*y)),
             Call::Withdraw { index } => write!(f, "withdraw {index}"),
             Call::AddFrame(bytes) => write!(f, "frame{}", bytes_field(bytes)),
@@ -501,6 +507,11 @@ mod tests {
             (&format!("add {ONE} {ONE} 2"), "field 4: not a float"),
             (&format!("add {ONE} {ONE} {ONE}"), "fits"),
             (&format!("add {ONE} {ONE} {ONE} {ONE}"), "field 5: one too many"),
+            (&format!("window {ONE}"), "field 3: missing"),
+            (&format!("window {ONE} {ONE}"), "fits"),
+            (&format!("window {ONE} {ONE} 2"), "field 4: not a float"),
+            (&format!("window {ONE} {ONE} {ONE} 100"), "field 5: one too many"),
+            ("windows", "field 1: not a call"),
             ("lent ws 4200", "fits"),
             ("show ws 0 4200", "fits"),
             (&format!("put ws 4199 {ONE}"), "fits"),
@@ -590,6 +601,8 @@ mod tests {
             format!("add {ONE} 8000000000000000"),
             format!("add {ONE} {ONE} 0000000000000001"),
             format!("add {ONE} {ONE} 7FF8000000000000"),
+            format!("window {ONE} 8000000000000000"),
+            format!("window {ONE} {ONE} 0000000000000001"),
             "lent ws 5".to_string(),
             format!("correct 12 {ONE}"),
             "withdraw 0".to_string(),

@@ -15,6 +15,7 @@ pub trait Calls {
 
     fn open(&self, lent: Lent) -> Answer;
     fn add(&self, count: usize, lent: Lent, sample: Sample) -> Answer;
+    fn add_window(&self, count: usize, lent: Lent, sample: Sample) -> Answer;
     fn correct(&self, count: usize, lent: Lent, index: usize, y: f64) -> Answer;
     fn withdraw(&self, count: usize, lent: Lent, index: usize) -> Answer;
     fn add_frame(&self, count: usize, lent: Lent, frame: &[u8]) -> Answer;
@@ -56,6 +57,7 @@ impl<T: Calls> Side for T {
         match call {
             Call::Open => self.open(lent),
             Call::Add(sample) => self.add(count, lent, *sample),
+            Call::AddWindow(sample) => self.add_window(count, lent, *sample),
             Call::Correct { index, y } => self.correct(count, lent, *index, *y),
             Call::Withdraw { index } => self.withdraw(count, lent, *index),
             Call::AddFrame(frame) => self.add_frame(count, lent, frame),
@@ -101,6 +103,10 @@ impl Calls for Judge {
 
     fn add(&self, count: usize, lent: Lent, sample: Sample) -> Answer {
         answer(book::add(count, &mut memory!(lent), sample), Answer::Book)
+    }
+
+    fn add_window(&self, count: usize, lent: Lent, sample: Sample) -> Answer {
+        answer(book::add_window(count, &mut memory!(lent), sample), Answer::Book)
     }
 
     fn correct(&self, count: usize, lent: Lent, index: usize, y: f64) -> Answer {
