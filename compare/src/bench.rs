@@ -190,6 +190,8 @@ fn fold_in_c(xs: &[f64], ys: &[f64]) -> [f64; 272] {
 struct Further {
     /// A weighted withdrawal by an unweighted plain fold in Rust and by one in C, for each count.
     withdrawals: Vec<[f64; 2]>,
+    /// An add to a full window, weighted, by the same folds of as many, for each count.
+    windows: Vec<[f64; 2]>,
     /// The port's reports with the highest bound, for each count that allows it.
     reports: Vec<(usize, f64)>,
 }
@@ -203,6 +205,8 @@ fn print_rows(count: usize, port: &dyn Side, further: &mut Further) {
     print_row("correct", &Call::Correct { index: middle, y: 1.0 }, count, &samples, port);
     let withdraw = Call::Withdraw { index: middle };
     let withdrawal = print_row("withdraw", &withdraw, count, &samples, port);
+    let slide = Call::AddWindow(samples[middle]);
+    let window = print_row("add_window, full", &slide, count, &samples, port);
     let fold = best(|| {
         black_box(plain_fold(black_box(&samples)));
     });
@@ -212,6 +216,7 @@ fn print_rows(count: usize, port: &dyn Side, further: &mut Further) {
         black_box(fold_in_c(black_box(&xs), black_box(&ys)));
     });
     further.withdrawals.push([withdrawal / fold, withdrawal / in_c]);
+    further.windows.push([window / fold, window / in_c]);
     for degree in BOUNDS.into_iter().filter(|degree| *degree < count) {
         let bound = DegreeBound::Custom(degree);
         let (criterion, confidence) = (Criterion::Aic, Confidence::P95);
@@ -285,6 +290,9 @@ pub fn run(port: &dyn Side) {
     println!();
     for (count, [rust, c]) in COUNTS.iter().zip(further.withdrawals) {
         println!("A weighted withdrawal of {count} by an unweighted plain fold with powers once: {rust:.2} in Rust, {c:.2} in C");
+    }
+    for (count, [rust, c]) in COUNTS.iter().zip(further.windows) {
+        println!("A weighted add to a full window of {count} by an unweighted plain fold of as many: {rust:.2} in Rust, {c:.2} in C");
     }
     for pair in further.reports.windows(2) {
         let ((few, before), (many, after)) = (pair[0], pair[1]);

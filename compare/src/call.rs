@@ -35,6 +35,7 @@ pub fn name(call: &Call) -> &'static str {
     match call {
         Call::Open => "open",
         Call::Add(_) => "add",
+        Call::AddWindow(_) => "add_window",
         Call::Correct { .. } => "correct",
         Call::Withdraw { .. } => "withdraw",
         Call::AddFrame(_) => "add_frame",
@@ -53,6 +54,7 @@ pub fn conditions(call: &Call, lengths: &Lengths, count: usize, samples: &[Sampl
     match call {
         Call::Open => refusals::open(lengths),
         Call::Add(sample) => refusals::add(lengths, count, *sample),
+        Call::AddWindow(sample) => refusals::add_window(lengths, count, *sample),
         Call::Correct { index, y } => refusals::correct(lengths, count, *index, *y),
         Call::Withdraw { index } => refusals::withdraw(lengths, count, *index),
         Call::AddFrame(frame) => refusals::add_frame(lengths, count, frame),

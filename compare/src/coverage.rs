@@ -20,6 +20,7 @@ use crate::replay;
 use crate::run::passes_nine;
 use crate::two_column;
 use crate::weights;
+use crate::windows;
 
 /// One call, and what came of it.
 pub struct Seen<'a> {
@@ -39,14 +40,17 @@ pub struct Coverage {
     counts: BTreeMap<String, u64>,
     /// Confidences and degrees of freedom, 31 for more, with a term just below and above the score.
     beside: BTreeSet<(&'static str, usize, bool)>,
+    /// Whether sample 0 went from the book for a newer one.
+    slid: bool,
     pub calls: u64,
     pub by_reference: u64,
 }
 
 /// What each call may answer, besides being let through, in checking order.
-pub const REFUSALS: [(&str, &[u8]); 11] = [
+pub const REFUSALS: [(&str, &[u8]); 12] = [
     ("open", &[1]),
     ("add", &[1, 4, 15, 5]),
+    ("add_window", &[1, 4, 15, 5]),
     ("correct", &[1, 4, 6]),
     ("withdraw", &[1, 6]),
     ("add_frame", &[1, 2, 3, 4, 15, 5]),
@@ -81,6 +85,7 @@ const LENGTHS: [(&str, &[&str]); 8] = [
         &[
             "open",
             "add",
+            "add_window",
             "correct",
             "withdraw",
             "add_frame",
@@ -194,6 +199,7 @@ impl Coverage {
         keys.extend(EVENTS.map(String::from));
         keys.extend(lines::EVENTS.map(String::from));
         keys.extend(weights::events());
+        keys.extend(windows::events());
         keys.extend(two_column::EVENTS.map(String::from));
         for (call, numbers) in two_column::REFUSALS {
             keys.push(format!("two columns: {call} answered"));
@@ -255,6 +261,9 @@ impl Coverage {
             }
         }
         for event in weights::happened(seen) {
+            self.note(event);
+        }
+        for event in windows::happened(seen, &mut self.slid) {
             self.note(event);
         }
         if passes_nine(&seen.answer) {

@@ -150,6 +150,7 @@ impl LedgerState {
         let result = match &step.call {
             Call::Open => ledger.open(lengths),
             Call::Add(sample) => ledger.add(lengths, *sample),
+            Call::AddWindow(sample) => ledger.add_window(lengths, *sample),
             Call::Correct { index, y } => ledger.correct(lengths, *index, *y),
             Call::Withdraw { index } => ledger.withdraw(lengths, *index),
             Call::AddFrame(frame) => ledger.add_frame(lengths, frame),
@@ -405,6 +406,8 @@ fn copy_book_places(
         Call::Carry => (0..0, 0..0, 0..0),
         Call::Correct { index, .. } => (0..0, *index..*index + 1, PLACES - TERMS..PLACES),
         Call::Withdraw { index } => (*index..new_count, *index..new_count, 0..PLACES),
+        // A full window.
+        Call::AddWindow(_) if new_count == count => (0..count, 0..count, 0..PLACES),
         _ => (count..new_count, count..new_count, 0..PLACES),
     };
     expected.x[x.clone()].copy_from_slice(&after.x[x.clone()]);

@@ -91,6 +91,10 @@ fn simpler_samples(sample: Sample) -> Vec<Sample> {
 fn simpler_calls(call: &Call) -> Vec<Call> {
     match call {
         Call::Add(sample) => simpler_samples(*sample).into_iter().map(Call::Add).collect(),
+        Call::AddWindow(sample) => {
+            let window = simpler_samples(*sample).into_iter().map(Call::AddWindow);
+            std::iter::once(Call::Add(*sample)).chain(window).collect()
+        }
         Call::Correct { index, y } => {
             simpler_numbers(*y).into_iter().map(|y| Call::Correct { index: *index, y }).collect()
         }

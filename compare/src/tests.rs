@@ -107,6 +107,28 @@ fn full_before_not_finite() {
     assert!(list.steps.len() <= 3, "{list:?}");
 }
 
+#[test]
+fn full_window_refused() {
+    let list = found(|call, count, _, _, answer| match (call, &answer) {
+        (Call::AddWindow(_), Answer::Book(1)) if count == 1 => Answer::Refused(5),
+        _ => answer,
+    });
+    assert!(list.steps.len() <= 3, "{list:?}");
+}
+
+#[test]
+fn refused_window_withdraws() {
+    let list = found(|call, count, lent, _, answer| {
+        if let (Call::AddWindow(_), Answer::Refused(4 | 15)) = (call, &answer) {
+            if count == lent.x.len() && count > 1 {
+                lent.y[0] = lent.y[1];
+            }
+        }
+        answer
+    });
+    assert!(list.steps.len() <= 4, "{list:?}");
+}
+
 /// Adjusting sums by subtraction on withdrawal: bits drift.
 #[test]
 fn withdrawal_by_subtraction() {

@@ -51,6 +51,7 @@ fn written(call: &Call) -> Call {
         }
         Call::Open
         | Call::Add(_)
+        | Call::AddWindow(_)
         | Call::AddFrame(_)
         | Call::AddLines(_)
         | Call::Carry

@@ -264,7 +264,7 @@ pub fn happened(seen: &Seen) -> Vec<String> {
         Call::Fit { .. } | Call::Report(_) | Call::Validate { .. } | Call::Band { .. } => {
             note_reading(seen, &mut note_if)
         }
-        Call::Open | Call::AddLines(_) | Call::Carry => {}
+        Call::Open | Call::AddWindow(_) | Call::AddLines(_) | Call::Carry => {}
     }
     note_columns(seen, &mut note_if);
     keys
