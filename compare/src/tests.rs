@@ -435,11 +435,12 @@ fn missing_in(name: &str, asked: impl Fn(&str) -> bool) -> Vec<String> {
 #[test]
 fn texts_are_judged() {
     missing_in("edges.calls", |_| false);
-    // Every refusal of every call but lines, and every pair in order. A text has no reader. 15 is met with
+    // Every refusal of every call but lines and windows, and every pair in order. A text has no reader. 15 is met with
     // the weights.
     let refusal = |key: &str| {
         let refusal = key.contains(" before ") || key.contains(": refused by ");
-        let elsewhere = key.starts_with("reader") || key.starts_with("add_lines");
+        let elsewhere = ["reader", "add_lines", "add_window"];
+        let elsewhere = elsewhere.iter().any(|call| key.starts_with(call));
         refusal && !elsewhere && !key.contains("by polyfit")
     };
     let missing = missing_in("season.calls", |key| refusal(key) && !key.contains("15"));
@@ -452,6 +453,10 @@ fn texts_are_judged() {
     // The same of lines, and all that must happen with them.
     let missing =
         missing_in("lines.calls", |key| key.starts_with("add_lines") || key.starts_with("lines"));
+    assert!(missing.is_empty(), "{missing:?}");
+    let missing = missing_in("windows.calls", |key| {
+        key.starts_with("add_window") || key.starts_with("window")
+    });
     assert!(missing.is_empty(), "{missing:?}");
     // Every call and refusal, by polyfit too, every setting and event; the pairs are the season's.
     let missing = missing_in("fixed.calls", |key| {

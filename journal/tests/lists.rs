@@ -1,5 +1,6 @@
 //! The lists of tests/ at the top of the repository: their answers are the judge's and the proved
-//! library's, and the lists of edges, of lines and of weights meet the edges that their comments name.
+//! library's, and the lists of edges, of lines, of weights and of windows meet the edges that their
+//! comments name.
 
 use std::path::PathBuf;
 use std::process::Command;
@@ -27,7 +28,7 @@ fn printed(side: &dyn Side, name: &str) -> String {
 }
 
 fn check_answers(side: &dyn Side) {
-    for name in ["edges", "season", "lines", "weights", "fixed"] {
+    for name in ["edges", "season", "lines", "weights", "windows", "fixed"] {
         let answers = String::from_utf8(file(&format!("{name}.answers"))).unwrap();
         let printed = printed(side, name);
         for (number, (kept, new)) in answers.lines().zip(printed.lines()).enumerate() {
@@ -49,7 +50,7 @@ fn answers_are_the_librarys() {
 
 #[test]
 fn lists_are_as_made() {
-    for name in ["edges", "season", "lines", "weights"] {
+    for name in ["edges", "season", "lines", "weights", "windows"] {
         let made = Command::new(env!("CARGO_BIN_EXE_lists")).arg(name).output().unwrap();
         assert!(made.stdout == file(&format!("{name}.calls")), "{name}.calls");
     }
@@ -108,7 +109,7 @@ impl Edge {
     /// The samples added one by one.
     fn samples(&self) -> Vec<Sample> {
         let added = |request| match request {
-            Request::Call(Call::Add(sample)) => Some(sample),
+            Request::Call(Call::Add(sample) | Call::AddWindow(sample)) => Some(sample),
             _ => None,
         };
         self.requests().into_iter().filter_map(added).collect()
@@ -967,6 +968,129 @@ fn fields_of_weights() {
     ];
     assert_eq!(messages, expected);
     assert_eq!(part.shown("ws")[0], [0.75f64.to_bits(), NAN_BITS]);
+}
+
+/// A part of the list of windows.
+fn windows(comment: &str) -> Edge {
+    part("windows.calls", comment)
+}
+
+#[test]
+fn window_is_a_withdrawal_and_an_add() {
+    let (season, by_hand) = (windows("season: "), windows("by hand: "));
+    assert_eq!(season.of("window"), by_hand.of("add"));
+    // Once the book is full, nothing older stands past the count.
+    for name in ["xs", "ys", "ws"] {
+        assert_eq!(season.shown(name)[4..], by_hand.shown(name)[4..], "{name}");
+    }
+    for name in ["sums", "errors", "lower", "upper", "outliers"] {
+        assert_eq!(season.shown(name), by_hand.shown(name), "{name}");
+    }
+    assert_eq!(season.shown("ws")[7], bits_of(&[1.0, 0.5, 1.0, 3.0, 1.0, 77.0]));
+    let latest = &season.samples()[3..];
+    assert_eq!(season.shown("sums")[0][..272], bits_of(&folded_afresh(latest)));
+}
+
+#[test]
+fn windows_of_each_length() {
+    assert_eq!(numbers(&windows("no places: ").of("window")), [5, 15, 4, 1, 1, 1].repeat(3));
+    let one = windows("one: ");
+    assert_eq!(one.of("window"), ["book 1"; 3]);
+    for (sums, sample) in one.shown("sums").iter().zip(one.samples()) {
+        assert_eq!(sums[..], bits_of(&folded_afresh(&[sample]))[..3]);
+    }
+    for name in ["xs", "ys", "ws"] {
+        let two = windows(&format!("two: {name}"));
+        assert_eq!(two.of("window"), ["book 1", "book 2", "book 2", "book 2"]);
+        assert_eq!(two.shown("sums")[0], bits_of(&folded_afresh(&two.samples()[2..])));
+    }
+    let hundred = windows("a hundred: ");
+    assert_eq!(
+        hundred.of("window")[98..],
+        ["book 99", "book 100", "book 100", "book 100", "book 100"]
+    );
+    let xs = hundred.shown("xs");
+    assert_eq!(
+        (&xs[6][..], &xs[7][..]),
+        (&bits_of(&[3.0, 4.0])[..], &bits_of(&[101.0, 102.0, 77.0])[..])
+    );
+    assert_eq!(hundred.shown("sums")[0], bits_of(&folded_afresh(&hundred.samples()[3..])));
+    for length in [4096, 4199] {
+        let most = windows(&format!("most: 4,096 in columns of {length}"));
+        assert_eq!(most.of("window"), ["book 4096"; 3]);
+        assert_eq!(most.shown("xs")[5], bits_of(&[0.0, 1.0, 2.0, 78.0]));
+        assert_eq!(most.shown("xs")[4], bits_of(&[2.0, 3.0, 4.0]));
+        assert_eq!(numbers(&most.of("add")), [5]);
+    }
+    assert_eq!(windows("most: a count").of("window"), ["refused 1"]);
+}
+
+#[test]
+fn refused_windows_withdraw_nothing() {
+    let refused = windows("refused: ");
+    let numbered = numbers(&refused.of("window"));
+    assert_eq!(numbered[..10], [0, 0, 4, 4, 4, 4, 4, 15, 15, 15]);
+    assert_eq!((&numbered[10..20], numbered[20]), (&[1; 10][..], 0));
+    let first = &refused.samples()[..2];
+    let xs: Vec<f64> = first.iter().map(|sample| sample.x).chain([77.0]).collect();
+    assert_eq!(refused.shown("xs")[0], bits_of(&xs));
+    assert_eq!(refused.shown("sums")[0], bits_of(&folded_afresh(first))[..3]);
+    assert_eq!(refused.shown("ws")[1][..2], bits_of(&[1.0, 5e-324]));
+}
+
+#[test]
+fn plain_calls_on_full_windows() {
+    let full = windows("full: an add");
+    assert_eq!(numbers(&full.of("add")), [5, 5]);
+    assert_eq!(numbers(&full.of("frame")), [5, 5, 0]);
+    assert_eq!(numbers(&full.of("lines")), [5, 5, 0]);
+    let room = windows("full: a withdrawal");
+    assert_eq!(numbers(&room.of("frame")), [5, 0, 5]);
+    assert_eq!(room.of("window"), ["book 3"]);
+    assert_eq!(room.shown("xs")[0], bits_of(&[4.0, 5.0, 5.0, 77.0]));
+    let mixed = windows("mixed: ");
+    assert_eq!(numbers(&mixed.of("correct")), [0, 6]);
+    assert_eq!(numbers(&mixed.of("withdraw")), [0, 6]);
+    assert_eq!(mixed.shown("xs")[2], bits_of(&[5.0, 7.0, 8.0, 1.0, 77.0]));
+    assert_eq!(mixed.shown("ws")[3], bits_of(&[1.0, 1.0, 1.0, 1.0, 77.0]));
+}
+
+#[test]
+fn windows_are_folded_afresh() {
+    let edge = windows("afresh: the sums less");
+    let samples = edge.samples();
+    let mut less = folded_afresh(&samples[..3]);
+    for (place, product) in less.iter_mut().zip(folded_afresh(&samples[..1])) {
+        *place -= product;
+    }
+    judge::sums::add(&mut less, samples[3]);
+    let sums = &edge.shown("sums")[0];
+    assert_eq!(*sums, bits_of(&folded_afresh(&samples[1..])));
+    assert!(bits_of(&less)[..256] != sums[..256] && bits_of(&less)[256..] != sums[256..]);
+    let put = windows("afresh: sums put by hand");
+    let sums = put.shown("sums");
+    assert_eq!((sums[0][0], sums[0][256]), (78.0f64.to_bits(), NAN_BITS));
+    assert_eq!(sums[1], bits_of(&folded_afresh(&put.samples()[1..])));
+    assert_eq!(numbers(&windows("afresh: what is not finite").of("fit")), [4, 0].repeat(3));
+}
+
+#[test]
+fn fields_of_windows() {
+    let part = windows("fields: ");
+    let messages: Vec<&str> =
+        part.0.iter().filter_map(|(_, printed)| Some(printed.split_once(": ")?.1)).collect();
+    let expected = [
+        "field 2: missing",
+        "field 2: not a float",
+        "field 3: missing",
+        "field 4: not a float",
+        "field 4: not a float",
+        "field 5: one too many",
+        "field 2: not a float",
+        "field 1: not a call",
+    ];
+    assert_eq!(messages, expected);
+    assert_eq!(part.of("window")[7..], ["book 1", "book 2"]);
 }
 
 #[test]
