@@ -1,7 +1,7 @@
 //! Each call on small lent memory: what it answers, what it writes, and by which number it is
 //! refused where several would do. The expected values are worked out by hand from the documents.
 
-use judge::book::{self, Memory, ReportAnswer, ReportMemory};
+use judge::book::{self, LossesAnswer, Memory, ReportAnswer, ReportMemory};
 use judge::fit::{Band, Criterion, PruningRule, Settings};
 use judge::frame::{encode, encode_weighted};
 use judge::numbers::bits;
@@ -49,6 +49,7 @@ struct Book {
     lower: Vec<f64>,
     upper: Vec<f64>,
     outlier: Vec<u8>,
+    losses: Vec<f64>,
 }
 
 impl Book {
@@ -67,6 +68,7 @@ impl Book {
             lower: vec![MARK; capacity + 1],
             upper: vec![MARK; capacity + 1],
             outlier: vec![77; capacity + 1],
+            losses: vec![MARK; capacity + 1],
         };
         book.count = book::open(&mut book.sums).unwrap();
         for &(x, y) in samples {
@@ -145,6 +147,11 @@ impl Book {
             outlier: &mut self.outlier,
         };
         book::report(self.count, &memory, settings, &mut self.scratch, &mut out)
+    }
+
+    fn losses(&mut self, settings: Settings) -> Result<LossesAnswer, u8> {
+        let memory = memory!(self);
+        book::losses(self.count, &memory, settings, &mut self.scratch, &mut self.losses)
     }
 
     fn validate(&mut self, folds: usize, bound: usize) -> Result<usize, u8> {
@@ -468,6 +475,79 @@ fn report_by_size_with_a_negative_zero_error() {
     let places: Vec<usize> = (0..9).filter(minus_zero).collect();
     assert!(!places.is_empty() && places.iter().all(|j| book.pruned[*j] == 1));
     assert_eq!(size.pruned, positive.pruned + places.len());
+}
+
+/// Document 02, E12. Of y 0, 0, 4 and 8 the mean is 3: sizes 3, 3, 1 and 5, their median 3, distances 0, 0, 2
+/// and 2, their median 1. So 1 is below 1.345 and the rest are above.
+#[test]
+fn losses_of_the_chosen_degree() {
+    let mut book = Book::new(4, &[(0.0, 0.0), (0.0, 0.0), (0.0, 4.0), (0.0, 8.0)]);
+    let linear = |size: f64| 1.345 * (size - 0.5 * 1.345);
+    let losses = [linear(3.0), linear(3.0), 0.5, linear(5.0)];
+    let total = ((losses[0] + losses[1]) + losses[2]) + losses[3];
+    let answer = book.losses(AIC_1).unwrap();
+    assert_eq!((answer.degree, answer.total), (0, total));
+    assert_eq!((&book.losses[..4], book.losses[4]), (&losses[..], MARK));
+    let likelihood = judge::numbers::ln(total / 4.0);
+    assert_eq!(answer.score, 4.0 * likelihood + 2.0);
+    let bic = Settings { criterion: Criterion::Bic, ..AIC_1 };
+    let score = 4.0 * likelihood + judge::numbers::ln(4.0);
+    assert_eq!(book.losses(bic), Ok(LossesAnswer { degree: 0, total, score }));
+    // Scratch as a report leaves it; and no weight is seen by a loss, but by the curve.
+    assert_eq!((&book.scratch[..4], book.scratch[4]), (&[0.0; 4][..], MARK));
+    book.weight[3] = 5.0;
+    assert_eq!(book.losses(AIC_1).map(|answer| answer.total), Ok(total));
+    assert!(book.coefficients.iter().all(|c| *c == MARK));
+}
+
+/// As a report is refused; each memory of its own one place too short.
+#[test]
+fn losses_are_refused_as_a_report() {
+    let mut book = Book::new(17, &[]);
+    let nan_score = Settings { confidence: Confidence::Custom(NAN), ..AIC_1 };
+    let nan_tolerance = Settings { tolerance: Tolerance::Variance(NAN), ..AIC_1 };
+    let wide = Settings { bound: DegreeBound::Custom(20), ..AIC_1 };
+    assert_eq!(book.losses(AIC_1), Err(7));
+    assert_eq!(book.losses(nan_score), Err(4));
+    assert_eq!(book.losses(nan_tolerance), Err(4));
+    for i in 0..17 {
+        book.add(f64::from(i), 1.0).unwrap();
+    }
+    assert_eq!(book.losses(wide), Err(8));
+    book.y[3] = INFINITY;
+    assert_eq!(book.losses(wide), Err(4));
+    assert!(book.scratch.iter().all(|v| *v == MARK));
+    let shorten: [fn(&mut Book); 4] = [
+        |book| book.sums.truncate(PLACES - 1),
+        |book| book.scratch.truncate(2),
+        |book| book.losses.truncate(2),
+        |book| book.weight.truncate(2),
+    ];
+    for shorten in shorten {
+        let mut book = Book::new(3, &LINE);
+        // What only a report writes is not judged.
+        (book.coefficients, book.lower, book.outlier) = (vec![], vec![], vec![]);
+        assert!(book.losses(AIC_1).is_ok());
+        book.scratch.fill(MARK);
+        shorten(&mut book);
+        assert_eq!(book.losses(nan_score), Err(1));
+        assert!(book.scratch.iter().all(|v| *v == MARK));
+    }
+}
+
+/// 11 and 12 where a report has them; scratch is cleared, and no loss is written.
+#[test]
+fn losses_without_a_report() {
+    let mut book = Book::new(2, &[(0.0, f64::MAX), (0.0, f64::MAX)]);
+    assert_eq!((book.report(AIC_1), book.losses(AIC_1)), (Err(11), Err(11)));
+    assert_eq!((&book.scratch[..2], &book.losses[..2]), (&[0.0; 2][..], &[MARK; 2][..]));
+    let mut book = Book::new(2, &LINE[..2]);
+    let (p, above) = (1.0 / (1u64 << 26) as f64, 1.0 + 1.0 / 1024.0);
+    (book.sums[0], book.sums[1]) = (f64::EPSILON, p);
+    (book.sums[16], book.sums[17]) = (-p * above, -1.0);
+    (book.sums[256], book.sums[257]) = (f64::EPSILON + 2.0 * p, -p * above - 2.0);
+    assert_eq!((book.losses(AIC_1), book.report(AIC_1)), (Err(12), Err(12)));
+    assert_eq!((&book.scratch[..2], &book.losses[..2]), (&[0.0; 2][..], &[MARK; 2][..]));
 }
 
 #[test]
