@@ -77,6 +77,7 @@ pub struct Book {
     lower: Vec<f64>,
     upper: Vec<f64>,
     outliers: Vec<u8>,
+    losses: Vec<f64>,
 }
 
 /// A curve of some degree.
@@ -111,6 +112,19 @@ pub struct Report<'a> {
     pub upper: &'a [f64],
     pub outlying: &'a [u8],
     counts: (usize, usize),
+}
+
+/// The losses behind a report's choice. Their list is the book's, until the next call.
+#[derive(Debug, Clone, Copy, PartialEq)]
+pub struct Losses<'a> {
+    /// The chosen degree.
+    pub degree: usize,
+    /// The Huber loss of each sample's distance from the curve, in the order in which they were
+    /// added.
+    pub losses: &'a [f64],
+    /// The losses added up in that order from +0, and the score made of this total.
+    pub total: f64,
+    pub score: f64,
 }
 
 impl Fit {
@@ -177,6 +191,7 @@ impl Book {
             lower: vec![0.0; room],
             upper: vec![0.0; room],
             outliers: vec![0; room],
+            losses: vec![0.0; room],
         }
     }
 
@@ -391,14 +406,7 @@ impl Book {
     /// By polyfit's rule of pruning, the default, a negative term is never marked, however small;
     /// [`PruningRule::Size`] lets it face the test too.
     pub fn report(&mut self, settings: Settings) -> Result<Report<'_>, Refusal> {
-        let (bound, most) = settings.bound.numbers();
-        let (confidence, score) = settings.confidence.numbers();
-        let (tolerance, value) = settings.tolerance.numbers();
-        // No bound is above the count less 1, so that the greatest degree stands for all above it.
-        let most = u32::try_from(most).unwrap_or(u32::MAX);
-        let criterion = settings.criterion.number();
-        let words = [bound, most, criterion, confidence, tolerance, settings.pruning.number()];
-        let values = [score, value];
+        let (words, values) = settings.lists();
         let answer = lend!(stakebook_report_by(
             self.count, words.as_ptr(), words.len(), values.as_ptr(), values.len();
             self.xs, self.ys, self.ws, self.sums, self.scratch, self.coefficients, self.errors,
@@ -417,5 +425,35 @@ impl Book {
             outlying: &self.outliers[..n],
             counts: (sys::outliers(answer), sys::pruned(answer)),
         })
+    }
+
+    /// The losses from which the score of the report's chosen degree is made: to check the score by
+    /// adding them up. Takes a report's settings, and is refused where the report is.
+    ///
+    /// ```
+    /// # use stakebook::{Book, Confidence, Criterion, DegreeBound, PruningRule, Settings, Tolerance};
+    /// # let settings = Settings {
+    /// #     bound: DegreeBound::Custom(1),
+    /// #     criterion: Criterion::Aic,
+    /// #     confidence: Confidence::P95,
+    /// #     tolerance: Tolerance::None,
+    /// #     pruning: PruningRule::default(),
+    /// # };
+    /// let mut book = Book::with_capacity(10);
+    /// book.add_lines(b"1 212\n2 209.5\n3 208\n4 203.5\n5 202\n")?;
+    /// let losses = book.losses(settings)?;
+    /// assert_eq!(losses.losses.iter().fold(0.0, |sum, loss| sum + loss), losses.total);
+    /// # Ok::<(), stakebook::Refusal>(())
+    /// ```
+    pub fn losses(&mut self, settings: Settings) -> Result<Losses<'_>, Refusal> {
+        let (words, values) = settings.lists();
+        let mut numbers = [0.0; 2];
+        let answer = lend!(stakebook_losses(
+            self.count, words.as_ptr(), words.len(), values.as_ptr(), values.len();
+            self.xs, self.ys, self.ws, self.sums, self.scratch, self.losses, numbers
+        ));
+        let degree = sys::degree(judged(answer)?);
+        let [total, score] = numbers;
+        Ok(Losses { degree, losses: &self.losses[..self.count], total, score })
     }
 }
