@@ -104,13 +104,8 @@ fn call(word: &[u8], fields: &mut Fields) -> Read<Call> {
         b"lines" => Call::AddLines(fields.bytes()?),
         b"carry" => Call::Carry,
         b"fit" => Call::Fit { degree: fields.number()? },
-        b"report" => Call::Report(Settings {
-            bound: fields.bound()?,
-            criterion: fields.criterion()?,
-            confidence: fields.confidence()?,
-            tolerance: fields.tolerance()?,
-            pruning: fields.pruning()?,
-        }),
+        b"report" => Call::Report(fields.settings()?),
+        b"losses" => Call::Losses(fields.settings()?),
         b"validate" => Call::Validate {
             folds: fields.number()?,
             bound: fields.bound()?,
@@ -284,6 +279,16 @@ impl<'a> Fields<'a> {
         Ok(of(self.float()?))
     }
 
+    fn settings(&mut self) -> Read<Settings> {
+        Ok(Settings {
+            bound: self.bound()?,
+            criterion: self.criterion()?,
+            confidence: self.confidence()?,
+            tolerance: self.tolerance()?,
+            pruning: self.pruning()?,
+        })
+    }
+
     /// No field at all is polyfit's rule.
     fn pruning(&mut self) -> Read<PruningRule> {
         if self.rest.is_none() {
@@ -374,6 +379,17 @@ fn pruning_field(rule: PruningRule) -> &'static str {
     }
 }
 
+fn settings_fields(settings: Settings) -> String {
+    format!(
+        "{} {} {} {}{}",
+        bound_fields(settings.bound),
+        criterion_field(settings.criterion),
+        confidence_fields(settings.confidence),
+        tolerance_fields(settings.tolerance),
+        pruning_field(settings.pruning)
+    )
+}
+
 /// The space and the field of bytes; no bytes have none.
 fn bytes_field(bytes: &[u8]) -> String {
     let digits = bytes.iter().map(|byte| format!("{byte:02X}"));
@@ -412,15 +428,8 @@ impl fmt::Display for Call {
             Call::AddLines(text) => write!(f, "lines{}", bytes_field(text)),
             Call::Carry => write!(f, "carry"),
             Call::Fit { degree } => write!(f, "fit {degree}"),
-            Call::Report(settings) => write!(
-                f,
-                "report {} {} {} {}{}",
-                bound_fields(settings.bound),
-                criterion_field(settings.criterion),
-                confidence_fields(settings.confidence),
-                tolerance_fields(settings.tolerance),
-                pruning_field(settings.pruning)
-            ),
+            Call::Report(settings) => write!(f, "report {}", settings_fields(*settings)),
+            Call::Losses(settings) => write!(f, "losses {}", settings_fields(*settings)),
             Call::Validate { folds, bound, criterion } => {
                 let criterion = criterion_field(*criterion);
                 write!(f, "validate {folds} {} {criterion}", bound_fields(*bound))
@@ -544,6 +553,12 @@ mod tests {
                 &format!("report relaxed 0 aic p95 {ONE} none {ONE} size 1"),
                 "field 10: one too many",
             ),
+            (&format!("losses relaxed 0 aic p95 {ONE} none {ONE}"), "fits"),
+            (&format!("losses relaxed 0 aic p95 {ONE} none {ONE} sign"), "field 9: not a name"),
+            ("losses relaxed", "field 3: missing"),
+            ("loss", "field 1: not a call"),
+            ("lent losses 4200", "fits"),
+            (&format!("put losses 4199 {ONE}"), "fits"),
             ("validate 3 custom 2 bic", "fits"),
             ("validate 3 custom 2 bic 0", "field 6: one too many"),
         ];
@@ -614,6 +629,8 @@ mod tests {
             "fit 15".to_string(),
             format!("report custom 7 bic p999 0000000000000000 measurement {ONE}"),
             format!("report custom 7 bic p999 0000000000000000 measurement {ONE} size"),
+            format!("losses custom 7 bic p999 0000000000000000 measurement {ONE}"),
+            format!("losses custom 7 bic p999 0000000000000000 measurement {ONE} size"),
             "validate 10 aggressive 0 aic".to_string(),
             format!("band {ONE} 2 custom {ONE} none 0000000000000000"),
         ];

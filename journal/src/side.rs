@@ -23,6 +23,7 @@ pub trait Calls {
     fn carry(&self, count: usize, lent: Lent) -> Answer;
     fn fit(&self, count: usize, lent: Lent, degree: usize) -> Answer;
     fn report(&self, count: usize, lent: Lent, settings: Settings) -> Answer;
+    fn losses(&self, count: usize, lent: Lent, settings: Settings) -> Answer;
     fn validate(
         &self,
         count: usize,
@@ -65,6 +66,7 @@ impl<T: Calls> Side for T {
             Call::Carry => self.carry(count, lent),
             Call::Fit { degree } => self.fit(count, lent, *degree),
             Call::Report(settings) => self.report(count, lent, *settings),
+            Call::Losses(settings) => self.losses(count, lent, *settings),
             Call::Validate { folds, bound, criterion } => {
                 self.validate(count, lent, *folds, *bound, *criterion)
             }
@@ -151,6 +153,12 @@ impl Calls for Judge {
             outliers: a.outliers,
             pruned: a.pruned,
         })
+    }
+
+    fn losses(&self, count: usize, lent: Lent, settings: Settings) -> Answer {
+        let memory = memory!(lent);
+        let result = book::losses(count, &memory, settings, lent.scratch, lent.losses);
+        answer(result, |a| Answer::Losses { degree: a.degree, total: a.total, score: a.score })
     }
 
     fn validate(
