@@ -47,6 +47,7 @@ fn memory_of(samples: &[Sample]) -> Memory {
         lower: vec![0.0; count],
         upper: vec![0.0; count],
         outlier: vec![0; count],
+        losses: vec![0.0; count],
     }
 }
 
@@ -63,6 +64,7 @@ fn lent(memory: &mut Memory) -> Lent<'_> {
         lower: &mut memory.lower,
         upper: &mut memory.upper,
         outlier: &mut memory.outlier,
+        losses: &mut memory.losses,
     }
 }
 
@@ -97,6 +99,9 @@ fn by_reference(call: &Call, samples: &[Sample]) -> Option<f64> {
         Call::Fit { degree } => Some(best(|| drop(black_box(reference::fit(samples, degree))))),
         Call::Report(settings) => {
             Some(best(|| drop(black_box(reference::report(samples, settings)))))
+        }
+        Call::Losses(settings) => {
+            Some(best(|| drop(black_box(reference::losses(samples, settings)))))
         }
         Call::Validate { folds, bound, criterion } => Some(best(|| {
             drop(black_box(reference::validate(samples, folds, bound, criterion)));
@@ -230,6 +235,8 @@ fn print_rows(count: usize, port: &dyn Side, further: &mut Further) {
         if Some(&degree) == BOUNDS.last() {
             further.reports.push((count, reported));
         }
+        let losses = Call::Losses(settings);
+        print_row(&format!("losses, bound {degree}"), &losses, count, &samples, port);
         let validate = Call::Validate { folds: FOLDS, bound, criterion };
         print_row(&format!("validate, bound {degree}"), &validate, count, &samples, port);
     }

@@ -43,6 +43,7 @@ pub fn name(call: &Call) -> &'static str {
         Call::Carry => "carry",
         Call::Fit { .. } => "fit",
         Call::Report(_) => "report",
+        Call::Losses(_) => "losses",
         Call::Validate { .. } => "validate",
         Call::Band { .. } => "band",
         Call::Reader(_) => "reader",
@@ -62,6 +63,7 @@ pub fn conditions(call: &Call, lengths: &Lengths, count: usize, samples: &[Sampl
         Call::Carry => refusals::carry(lengths, count),
         Call::Fit { degree } => refusals::fit(lengths, count, samples, *degree),
         Call::Report(settings) => refusals::report(lengths, count, samples, *settings),
+        Call::Losses(settings) => refusals::losses(lengths, count, samples, *settings),
         Call::Validate { folds, bound, .. } => {
             refusals::validate(lengths, count, samples, *folds, *bound)
         }

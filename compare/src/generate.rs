@@ -91,6 +91,7 @@ impl<'a> Maker<'a> {
             lower: n + more(),
             upper: n + more(),
             outlier: n + more(),
+            losses: n + more(),
             x: self.x_length,
             y: self.y_length,
             weight: self.weight_length,
@@ -201,7 +202,7 @@ fn spoil_sample(random: &mut Random, source: &mut Source) -> Sample {
 fn shorten(random: &mut Random, lengths: &mut Lengths, n: usize) {
     let empty = random.one_in(5);
     let short = |places: usize| if empty { 0 } else { places.saturating_sub(1) };
-    match random.below(8) {
+    match random.below(9) {
         0 => lengths.sums = short(PLACES),
         1 => lengths.scratch = short(n),
         2 => lengths.coefficients = short(TERMS),
@@ -209,6 +210,7 @@ fn shorten(random: &mut Random, lengths: &mut Lengths, n: usize) {
         4 => lengths.pruned = short(TERMS),
         5 => lengths.lower = short(n),
         6 => lengths.upper = short(n),
+        7 => lengths.losses = short(n),
         _ => lengths.outlier = short(n),
     }
 }
@@ -496,6 +498,7 @@ fn overflowing_mean(random: &mut Random) -> Vec<Step> {
         let bound = DegreeBound::Custom(maker.random.between(0, 2));
         let settings = Settings { bound, ..arguments::settings(maker.random) };
         maker.call(Call::Report(settings));
+        maker.call(Call::Losses(settings));
         maker.read();
     }
     maker.steps
@@ -514,6 +517,7 @@ fn pivot_edge(random: &mut Random) -> Vec<Step> {
         let mut settings = arguments::settings(maker.random);
         settings.bound = DegreeBound::Custom(degree);
         maker.call(Call::Report(settings));
+        maker.call(Call::Losses(settings));
         let (confidence, tolerance) = (Confidence::P95, Tolerance::None);
         maker.call(Call::Band { x: samples[0].x, degree, confidence, tolerance });
         maker.read();
@@ -588,6 +592,7 @@ fn inverse_fails(random: &mut Random) -> Vec<Step> {
     ];
     let settings = Settings { bound: DegreeBound::Custom(1), ..arguments::settings(maker.random) };
     maker.step(sums_pokes(&places), Call::Report(settings));
+    maker.call(Call::Losses(settings));
     let (confidence, tolerance) = (arguments::confidence(maker.random), Tolerance::None);
     for x in [0.0, -1.0] {
         maker.call(Call::Band { x, degree: 1, confidence, tolerance });
@@ -685,7 +690,10 @@ fn spoiled_call(random: &mut Random, source: &mut Source, samples: &[Sample]) ->
         3 => Call::AddFrame(spoiled_frame(random, source)),
         4 => Call::Reader(spoiled_frame(random, source)),
         5 => Call::Fit { degree: random.pick(&[0, n, 16, usize::MAX]) },
-        6 => Call::Report(spoiled_settings(random, bad)),
+        6 => {
+            let settings = spoiled_settings(random, bad);
+            random.pick(&[Call::Report, Call::Losses])(settings)
+        }
         7 => Call::Validate {
             folds: random.pick(&[0, 1, 2, n + 1]),
             bound: DegreeBound::Custom(random.pick(&[1, 16, 20])),
@@ -777,6 +785,7 @@ fn full(random: &mut Random, version: u64) -> Vec<Step> {
     let bound = maker.random.pick(&bounds);
     let settings = Settings { bound, ..arguments::settings(maker.random) };
     maker.call(Call::Report(settings));
+    maker.call(Call::Losses(settings));
     let degree = maker.random.below(16);
     maker.call(Call::Fit { degree });
     let (folds, criterion) = (maker.random.between(2, 5), arguments::criterion(maker.random));

@@ -32,6 +32,7 @@ fn again<'a>(lent: &'a mut Lent<'_>) -> Lent<'a> {
         lower: lent.lower,
         upper: lent.upper,
         outlier: lent.outlier,
+        losses: lent.losses,
     }
 }
 
@@ -103,6 +104,28 @@ fn full_before_not_finite() {
     let list = found(|call, count, lent, _, answer| match (call, &answer) {
         (Call::Add(_), Answer::Refused(4)) if count == lent.x.len() => Answer::Refused(5),
         _ => answer,
+    });
+    assert!(list.steps.len() <= 3, "{list:?}");
+}
+
+#[test]
+fn mean_loss_for_the_total() {
+    let list = found(|_, count, _, _, answer| match answer {
+        Answer::Losses { degree, total, score } => {
+            Answer::Losses { degree, total: total / count as f64, score }
+        }
+        _ => answer,
+    });
+    assert!(list.steps.len() <= 4, "{list:?}");
+}
+
+#[test]
+fn last_loss_not_written() {
+    let list = found(|_, count, lent, _, answer| {
+        if let Answer::Losses { .. } = answer {
+            lent.losses[count - 1] += 1.0;
+        }
+        answer
     });
     assert!(list.steps.len() <= 3, "{list:?}");
 }
