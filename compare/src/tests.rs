@@ -458,11 +458,11 @@ fn missing_in(name: &str, asked: impl Fn(&str) -> bool) -> Vec<String> {
 #[test]
 fn texts_are_judged() {
     missing_in("edges.calls", |_| false);
-    // Every refusal of every call but lines and windows, and every pair in order. A text has no reader. 15 is met with
+    // Every refusal of every call but lines, windows and losses, and every pair in order. A text has no reader. 15 is met with
     // the weights.
     let refusal = |key: &str| {
         let refusal = key.contains(" before ") || key.contains(": refused by ");
-        let elsewhere = ["reader", "add_lines", "add_window"];
+        let elsewhere = ["reader", "add_lines", "add_window", "losses"];
         let elsewhere = elsewhere.iter().any(|call| key.starts_with(call));
         refusal && !elsewhere && !key.contains("by polyfit")
     };
@@ -479,6 +479,11 @@ fn texts_are_judged() {
     assert!(missing.is_empty(), "{missing:?}");
     let missing = missing_in("windows.calls", |key| {
         key.starts_with("add_window") || key.starts_with("window")
+    });
+    assert!(missing.is_empty(), "{missing:?}");
+    // No list has a 12 of the samples' own sums.
+    let missing = missing_in("losses.calls", |key| {
+        key.starts_with("losses") && key != "losses by polyfit: refused by 12"
     });
     assert!(missing.is_empty(), "{missing:?}");
     // Every call and refusal, by polyfit too, every setting and event; the pairs are the season's.

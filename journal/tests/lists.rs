@@ -1,6 +1,6 @@
 //! The lists of tests/ at the top of the repository: their answers are the judge's and the proved
-//! library's, and the lists of edges, of lines, of weights and of windows meet the edges that their
-//! comments name.
+//! library's, and the lists of edges, of lines, of weights, of windows and of losses meet the edges
+//! that their comments name.
 
 use std::path::PathBuf;
 use std::process::Command;
@@ -28,7 +28,7 @@ fn printed(side: &dyn Side, name: &str) -> String {
 }
 
 fn check_answers(side: &dyn Side) {
-    for name in ["edges", "season", "lines", "weights", "windows", "fixed"] {
+    for name in ["edges", "season", "lines", "weights", "windows", "losses", "fixed"] {
         let answers = String::from_utf8(file(&format!("{name}.answers"))).unwrap();
         let printed = printed(side, name);
         for (number, (kept, new)) in answers.lines().zip(printed.lines()).enumerate() {
@@ -50,7 +50,7 @@ fn answers_are_the_librarys() {
 
 #[test]
 fn lists_are_as_made() {
-    for name in ["edges", "season", "lines", "weights", "windows"] {
+    for name in ["edges", "season", "lines", "weights", "windows", "losses"] {
         let made = Command::new(env!("CARGO_BIN_EXE_lists")).arg(name).output().unwrap();
         assert!(made.stdout == file(&format!("{name}.calls")), "{name}.calls");
     }
@@ -923,17 +923,17 @@ fn the_shortest_of_three_columns() {
 #[test]
 fn weights_in_the_column() {
     let reads = weights("reads: a weight below");
-    for call in ["fit", "report", "band"] {
+    for call in ["fit", "report", "losses", "band"] {
         assert_eq!(numbers(&reads.of(call)), [4, 4, 1, 1].repeat(3), "{call}");
     }
     // By both criteria.
     assert_eq!(numbers(&reads.of("validate")), [4, 4, 4, 4, 1, 1, 1, 1].repeat(3));
     let nobodys = weights("reads: at the count");
-    for call in ["fit", "report", "validate", "band"] {
+    for call in ["fit", "report", "losses", "validate", "band"] {
         assert!(nobodys.of(call).iter().all(|answer| !answer.starts_with("refused")), "{call}");
     }
     let read = weights("as they are: weights of 0");
-    for call in ["report", "validate", "band", "correct", "withdraw", "fit"] {
+    for call in ["report", "losses", "validate", "band", "correct", "withdraw", "fit"] {
         assert!(read.of(call).iter().all(|answer| !answer.starts_with("refused")), "{call}");
     }
     for (ws, weight) in read.shown("ws").iter().zip([0.0f64, -0.0, -0.25]) {
@@ -1091,6 +1091,143 @@ fn fields_of_windows() {
     ];
     assert_eq!(messages, expected);
     assert_eq!(part.of("window")[7..], ["book 1", "book 2"]);
+}
+
+/// A part of the list of losses.
+fn losses(comment: &str) -> Edge {
+    part("losses.calls", comment)
+}
+
+/// The degree, the total and the score of each answer that is one.
+fn answered(edge: &Edge) -> Vec<(usize, f64, f64)> {
+    let number = |field: &str| f64::from_bits(u64::from_str_radix(field, 16).unwrap());
+    let of = |answer: &&str| {
+        let fields: Vec<&str> = answer.strip_prefix("losses ")?.split(' ').collect();
+        Some((fields[0].parse().unwrap(), number(fields[1]), number(fields[2])))
+    };
+    edge.of("losses").iter().filter_map(of).collect()
+}
+
+fn floats(bits: &[u64]) -> Vec<f64> {
+    bits.iter().map(|&bits| f64::from_bits(bits)).collect()
+}
+
+#[test]
+fn losses_add_up_to_the_total() {
+    for comment in ["season: ", "by hand: ", "chosen: ", "total: ", "sums: ", "bounds: ", "longest"]
+    {
+        let edge = losses(comment);
+        let answers = answered(&edge);
+        assert!(answers.len() == edge.of("losses").len() && !answers.is_empty());
+        let degrees = edge.of("report");
+        for (i, ((degree, total, _), shown)) in answers.iter().zip(edge.shown("losses")).enumerate()
+        {
+            let shown = floats(&shown);
+            let sum = shown[..shown.len() - 1].iter().fold(0.0, |sum, loss| sum + loss);
+            assert_eq!(sum.to_bits(), total.to_bits(), "{comment}");
+            // The report's choice.
+            if let Some(report) = degrees.get(i) {
+                assert!(report.starts_with(&format!("report {degree} ")), "{comment}");
+            }
+        }
+    }
+}
+
+#[test]
+fn losses_by_hand() {
+    let line = losses("by hand: document 01");
+    assert_eq!(line.shown("losses")[0], bits_of(&[0.0, 0.0, 0.0, 0.0, 0.0, 605.0]));
+    assert_eq!(line.shown("scratch")[0], bits_of(&[0.0, 0.0, 0.0, 0.0, 0.0, 505.0]));
+    let four = losses("by hand: 0, 0, 4 and 8");
+    let linear = |size: f64| HUBER_CONST * (size - 0.5 * HUBER_CONST);
+    let expected = [linear(3.0), linear(3.0), 0.5, linear(5.0)];
+    assert_eq!(four.shown("losses")[0][..4], bits_of(&expected));
+    let mean = expected.iter().fold(0.0, |sum, loss| sum + loss) / 4.0;
+    let scores: Vec<f64> = answered(&four).iter().map(|answer| answer.2).collect();
+    assert!((scores[0] - (4.0 * mean.ln() + 2.0)).abs() < 1e-12);
+    assert!((scores[1] - (4.0 * mean.ln() + 4f64.ln())).abs() < 1e-12);
+    let weighted = losses("by hand: weights");
+    assert_eq!(weighted.shown("losses")[0][..2], bits_of(&[linear(3.0), 0.5]));
+}
+
+#[test]
+fn losses_of_the_chosen_degree() {
+    let edge = losses("chosen: degree 0, though");
+    let samples = edge.samples();
+    let (degree, total, score) = answered(&edge)[0];
+    let scores = fit::scores(&samples, &folded_afresh(&samples), 1, Criterion::Aic);
+    assert_eq!((degree, Some(score)), (0, scores[0]));
+    let line = fit::solved(&samples, &folded_afresh(&samples), 1).unwrap();
+    let of_line = fit::total_loss(&fit::losses(&fit::residuals(&samples, &line)));
+    assert!(scores[1] < scores[0] && total > of_line && of_line > 0.0);
+    assert_eq!(answered(&losses("chosen: T11"))[0].1, 0.0);
+    assert_eq!(answered(&losses("chosen: degree 0 is unsolved"))[0].0, 1);
+    let order = &losses("total: in index order").shown("losses")[0];
+    let order = floats(&order[..11]);
+    let backwards = order.iter().rev().fold(0.0, |sum, loss| sum + loss);
+    assert!(backwards != fit::total_loss(&order));
+    let last = floats(&losses("total: without the last").shown("losses")[0]);
+    assert!(fit::total_loss(&last[..6]) != fit::total_loss(&last[..7]));
+    let lent = losses("sums: those that are lent");
+    let residuals: Vec<f64> = lent.samples().iter().map(|sample| sample.y - 250.0).collect();
+    assert_eq!(floats(&lent.shown("losses")[0])[..8], fit::losses(&residuals));
+}
+
+#[test]
+fn losses_are_refused_as_a_report_is() {
+    let same = losses("settings: confidence");
+    let answers = same.of("losses");
+    assert!(answers.len() == 4 && answers.iter().all(|answer| *answer == answers[0]));
+    assert_eq!(numbers(&losses("settings: and are judged").of("losses")), [4; 3]);
+    let short = losses("short: each memory");
+    assert_eq!(numbers(&short.of("losses")), [1, 1, 1, 4, 0, 0].repeat(4));
+    let unwritten: Vec<f64> = (0..4).map(|i| 600.0 + f64::from(i)).collect();
+    assert!(short.shown("losses").iter().step_by(2).all(|shown| *shown == bits_of(&unwritten)));
+    let unjudged = losses("short: what only a report writes");
+    assert_eq!(
+        (numbers(&unjudged.of("report")), numbers(&unjudged.of("losses"))),
+        (vec![1], vec![0])
+    );
+    assert_eq!(numbers(&losses("short: no samples").of("losses")), [1; 3]);
+    let early = losses("early: ");
+    assert_eq!(numbers(&early.of("losses")), [7, 4, 8, 4, 4, 4, 4, 4, 4, 4]);
+    assert_eq!(
+        (early.shown("losses")[0][0], early.shown("scratch")[0][0]),
+        (600f64.to_bits(), 500f64.to_bits())
+    );
+    for (comment, number, n) in
+        [("late: 11, where", 11, 2), ("late: 11 with", 11, 3), ("late: 12", 12, 3)]
+    {
+        let late = losses(comment);
+        assert_eq!(
+            (numbers(&late.of("report")), numbers(&late.of("losses"))),
+            (vec![number], vec![number])
+        );
+        assert_eq!(late.shown("losses")[0][0], 600f64.to_bits());
+        assert!(late.shown("scratch")[0][..n].iter().all(|place| *place == 0));
+        assert_eq!(late.shown("scratch")[0][n], (500.0 + n as f64).to_bits());
+    }
+}
+
+#[test]
+fn fields_of_losses() {
+    let part = losses("fields: ");
+    let messages: Vec<&str> =
+        part.0.iter().filter_map(|(_, printed)| Some(printed.split_once(": ")?.1)).collect();
+    let expected = [
+        "field 2: missing",
+        "field 2: not a name",
+        "field 8: missing",
+        "field 9: not a name",
+        "field 9: not a name",
+        "field 10: one too many",
+        "field 1: not a call",
+        "field 1: not a call",
+        "field 3: too large",
+        "field 3: too large",
+    ];
+    assert_eq!(messages, expected);
+    assert_eq!(answered(&part).len(), 3);
 }
 
 #[test]

@@ -5,10 +5,12 @@
 //! `lists lines`: readings as written in the field book, document 02's E1.
 //! `lists weights`: weighted samples, document 02's E5.
 //! `lists windows`: window books, document 02's E11.
+//! `lists losses`: losses line by line, document 02's E12.
 
 mod edges;
 mod lines;
 mod list;
+mod losses;
 mod season;
 mod weights;
 mod windows;
@@ -22,8 +24,9 @@ fn main() -> ExitCode {
         Some("lines") => lines::lines(),
         Some("weights") => weights::weights(),
         Some("windows") => windows::windows(),
+        Some("losses") => losses::losses(),
         _ => {
-            eprintln!("lists edges, season, lines, weights, or windows");
+            eprintln!("lists edges, season, lines, weights, windows, or losses");
             return ExitCode::FAILURE;
         }
     };
