@@ -68,6 +68,18 @@ FAULTS = [
     ("window: 5 at a full book", "refusals.rs", "capacity(lengths) == 0)", "count >= capacity(lengths))"),
     ("window: a book of one refused", "refusals.rs", "capacity(lengths) == 0)", "capacity(lengths) <= 1)"),
     ("window: no room made at 4,096", "book.rs", "let full = count == refusals::capacity(&lengths);", "let full = count == lengths.x.min(lengths.y).min(lengths.weight);"),
+    ("losses: of degree 0", "fit.rs", "let losses = losses(&residuals(samples, &coefficients));",
+     "let coefficients = solved(samples, sums, 0).unwrap_or(coefficients); let losses = losses(&residuals(samples, &coefficients));"),
+    ("losses: with weights", "fit.rs", "let losses = losses(&residuals(samples, &coefficients));",
+     "let losses: Vec<f64> = losses(&residuals(samples, &coefficients)).iter().zip(samples).map(|(loss, s)| loss * s.weight).collect();"),
+    ("losses: the total before the last sample", "fit.rs", "let total = total_loss(&losses);", "let total = total_loss(&losses[..losses.len() - 1]);"),
+    ("losses: the mean for the total", "fit.rs", "let total = total_loss(&losses);", "let total = total_loss(&losses) / losses.len() as f64;"),
+    ("losses: the total backwards", "fit.rs", "let total = total_loss(&losses);",
+     "let backwards: Vec<f64> = losses.iter().rev().copied().collect(); let total = total_loss(&backwards);"),
+    ("losses: 12 let through", "fit.rs", "let Choice { degree, coefficients, .. } = choice(samples, sums, settings)?;",
+     "let bound = max_degree(settings.bound, samples.len()); let degree = chosen(&scores(samples, sums, bound, settings.criterion)).ok_or(11)?; "
+     "let coefficients = solved(samples, sums, degree).ok_or(11)?;"),
+    ("losses: their memory not judged beside scratch", "refusals.rs", "lengths.scratch < count || lengths.losses < count", "lengths.scratch < count && lengths.losses < count"),
     ("two columns: a correction that folds A", "two_column.rs", "memory.sums[G..PLACES].fill(0.0);", "memory.sums[..PLACES].fill(0.0); for i in 0..count { memory.add_to_a(memory.x[i]); }"),
 ]
 
