@@ -56,6 +56,30 @@ FAULTS = [
     ("carry: sums folded", "book.rs", "memory.weight[..count].fill(1.0);",
      "memory.weight[..count].fill(1.0); let samples = memory.samples(count); sums::fold(memory.sums, &samples);"),
     ("carry: a full book refused", "refusals.rs", "vec![(1, short_book(lengths, count))]\n}", "vec![(1, short_book(lengths, count) || count == capacity(lengths))]\n}"),
+    ("window: the newest withdrawn", "book.rs", "if full { withdraw(count, memory, 0)? }", "if full { withdraw(count, memory, count - 1)? }"),
+    ("window: the add before the withdrawal", "book.rs", "let count = if full { withdraw(count, memory, 0)? } else { count };",
+     "if full { sums::add(memory.sums, sample); let count = withdraw(count, memory, 0)?; memory.put(count, sample); return Ok(count + 1); }"),
+    ("window: sums by subtraction", "book.rs", "if full { withdraw(count, memory, 0)? } else { count };",
+     "if full { let (mut less, before) = (vec![0.0; PLACES], memory.sums.to_vec()); sums::add(&mut less, memory.samples(count)[0]); let fewer = withdraw(count, memory, 0)?; "
+     "for i in 0..PLACES { memory.sums[i] = before[i] - less[i]; } fewer } else { count };"),
+    ("window: a withdrawal although 4 or 15 refuses", "book.rs", "refusals::judged(&refusals::add_window(&lengths, count, sample))?;\n    let full = count == refusals::capacity(&lengths);",
+     "let refused = refusals::judged(&refusals::add_window(&lengths, count, sample)); let full = count == refusals::capacity(&lengths); "
+     "if full && count > 0 && matches!(refused, Err(4 | 15)) { withdraw(count, memory, 0)?; } refused?;"),
+    ("window: 5 at a full book", "refusals.rs", "capacity(lengths) == 0)", "count >= capacity(lengths))"),
+    ("window: a book of one refused", "refusals.rs", "capacity(lengths) == 0)", "capacity(lengths) <= 1)"),
+    ("window: no room made at 4,096", "book.rs", "let full = count == refusals::capacity(&lengths);", "let full = count == lengths.x.min(lengths.y).min(lengths.weight);"),
+    ("losses: of degree 0", "fit.rs", "let losses = losses(&residuals(samples, &coefficients));",
+     "let coefficients = solved(samples, sums, 0).unwrap_or(coefficients); let losses = losses(&residuals(samples, &coefficients));"),
+    ("losses: with weights", "fit.rs", "let losses = losses(&residuals(samples, &coefficients));",
+     "let losses: Vec<f64> = losses(&residuals(samples, &coefficients)).iter().zip(samples).map(|(loss, s)| loss * s.weight).collect();"),
+    ("losses: the total before the last sample", "fit.rs", "let total = total_loss(&losses);", "let total = total_loss(&losses[..losses.len() - 1]);"),
+    ("losses: the mean for the total", "fit.rs", "let total = total_loss(&losses);", "let total = total_loss(&losses) / losses.len() as f64;"),
+    ("losses: the total backwards", "fit.rs", "let total = total_loss(&losses);",
+     "let backwards: Vec<f64> = losses.iter().rev().copied().collect(); let total = total_loss(&backwards);"),
+    ("losses: 12 let through", "fit.rs", "let Choice { degree, coefficients, .. } = choice(samples, sums, settings)?;",
+     "let bound = max_degree(settings.bound, samples.len()); let degree = chosen(&scores(samples, sums, bound, settings.criterion)).ok_or(11)?; "
+     "let coefficients = solved(samples, sums, degree).ok_or(11)?;"),
+    ("losses: their memory not judged beside scratch", "refusals.rs", "lengths.scratch < count || lengths.losses < count", "lengths.scratch < count && lengths.losses < count"),
     ("two columns: a correction that folds A", "two_column.rs", "memory.sums[G..PLACES].fill(0.0);", "memory.sums[..PLACES].fill(0.0); for i in 0..count { memory.add_to_a(memory.x[i]); }"),
 ]
 

@@ -141,6 +141,7 @@ pub fn reading(random: &mut Random, samples: &[Sample]) -> Call {
         0 | 1 => Call::Fit { degree: degree(random, samples.len()) },
         2 | 3 => band(random, samples),
         4 => validate(random, samples.len()),
+        5 => Call::Losses(settings(random)),
         _ => Call::Report(settings(random)),
     }
 }

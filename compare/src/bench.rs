@@ -47,6 +47,7 @@ fn memory_of(samples: &[Sample]) -> Memory {
         lower: vec![0.0; count],
         upper: vec![0.0; count],
         outlier: vec![0; count],
+        losses: vec![0.0; count],
     }
 }
 
@@ -63,6 +64,7 @@ fn lent(memory: &mut Memory) -> Lent<'_> {
         lower: &mut memory.lower,
         upper: &mut memory.upper,
         outlier: &mut memory.outlier,
+        losses: &mut memory.losses,
     }
 }
 
@@ -97,6 +99,9 @@ fn by_reference(call: &Call, samples: &[Sample]) -> Option<f64> {
         Call::Fit { degree } => Some(best(|| drop(black_box(reference::fit(samples, degree))))),
         Call::Report(settings) => {
             Some(best(|| drop(black_box(reference::report(samples, settings)))))
+        }
+        Call::Losses(settings) => {
+            Some(best(|| drop(black_box(reference::losses(samples, settings)))))
         }
         Call::Validate { folds, bound, criterion } => Some(best(|| {
             drop(black_box(reference::validate(samples, folds, bound, criterion)));
@@ -190,6 +195,8 @@ fn fold_in_c(xs: &[f64], ys: &[f64]) -> [f64; 272] {
 struct Further {
     /// A weighted withdrawal by an unweighted plain fold in Rust and by one in C, for each count.
     withdrawals: Vec<[f64; 2]>,
+    /// An add to a full window, weighted, by the same folds of as many, for each count.
+    windows: Vec<[f64; 2]>,
     /// The port's reports with the highest bound, for each count that allows it.
     reports: Vec<(usize, f64)>,
 }
@@ -203,6 +210,8 @@ fn print_rows(count: usize, port: &dyn Side, further: &mut Further) {
     print_row("correct", &Call::Correct { index: middle, y: 1.0 }, count, &samples, port);
     let withdraw = Call::Withdraw { index: middle };
     let withdrawal = print_row("withdraw", &withdraw, count, &samples, port);
+    let slide = Call::AddWindow(samples[middle]);
+    let window = print_row("add_window, full", &slide, count, &samples, port);
     let fold = best(|| {
         black_box(plain_fold(black_box(&samples)));
     });
@@ -212,6 +221,7 @@ fn print_rows(count: usize, port: &dyn Side, further: &mut Further) {
         black_box(fold_in_c(black_box(&xs), black_box(&ys)));
     });
     further.withdrawals.push([withdrawal / fold, withdrawal / in_c]);
+    further.windows.push([window / fold, window / in_c]);
     for degree in BOUNDS.into_iter().filter(|degree| *degree < count) {
         let bound = DegreeBound::Custom(degree);
         let (criterion, confidence) = (Criterion::Aic, Confidence::P95);
@@ -225,6 +235,8 @@ fn print_rows(count: usize, port: &dyn Side, further: &mut Further) {
         if Some(&degree) == BOUNDS.last() {
             further.reports.push((count, reported));
         }
+        let losses = Call::Losses(settings);
+        print_row(&format!("losses, bound {degree}"), &losses, count, &samples, port);
         let validate = Call::Validate { folds: FOLDS, bound, criterion };
         print_row(&format!("validate, bound {degree}"), &validate, count, &samples, port);
     }
@@ -285,6 +297,9 @@ pub fn run(port: &dyn Side) {
     println!();
     for (count, [rust, c]) in COUNTS.iter().zip(further.withdrawals) {
         println!("A weighted withdrawal of {count} by an unweighted plain fold with powers once: {rust:.2} in Rust, {c:.2} in C");
+    }
+    for (count, [rust, c]) in COUNTS.iter().zip(further.windows) {
+        println!("A weighted add to a full window of {count} by an unweighted plain fold of as many: {rust:.2} in Rust, {c:.2} in C");
     }
     for pair in further.reports.windows(2) {
         let ((few, before), (many, after)) = (pair[0], pair[1]);

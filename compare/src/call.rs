@@ -35,6 +35,7 @@ pub fn name(call: &Call) -> &'static str {
     match call {
         Call::Open => "open",
         Call::Add(_) => "add",
+        Call::AddWindow(_) => "add_window",
         Call::Correct { .. } => "correct",
         Call::Withdraw { .. } => "withdraw",
         Call::AddFrame(_) => "add_frame",
@@ -42,6 +43,7 @@ pub fn name(call: &Call) -> &'static str {
         Call::Carry => "carry",
         Call::Fit { .. } => "fit",
         Call::Report(_) => "report",
+        Call::Losses(_) => "losses",
         Call::Validate { .. } => "validate",
         Call::Band { .. } => "band",
         Call::Reader(_) => "reader",
@@ -53,6 +55,7 @@ pub fn conditions(call: &Call, lengths: &Lengths, count: usize, samples: &[Sampl
     match call {
         Call::Open => refusals::open(lengths),
         Call::Add(sample) => refusals::add(lengths, count, *sample),
+        Call::AddWindow(sample) => refusals::add_window(lengths, count, *sample),
         Call::Correct { index, y } => refusals::correct(lengths, count, *index, *y),
         Call::Withdraw { index } => refusals::withdraw(lengths, count, *index),
         Call::AddFrame(frame) => refusals::add_frame(lengths, count, frame),
@@ -60,6 +63,7 @@ pub fn conditions(call: &Call, lengths: &Lengths, count: usize, samples: &[Sampl
         Call::Carry => refusals::carry(lengths, count),
         Call::Fit { degree } => refusals::fit(lengths, count, samples, *degree),
         Call::Report(settings) => refusals::report(lengths, count, samples, *settings),
+        Call::Losses(settings) => refusals::losses(lengths, count, samples, *settings),
         Call::Validate { folds, bound, .. } => {
             refusals::validate(lengths, count, samples, *folds, *bound)
         }

@@ -99,7 +99,8 @@ impl Plan {
             let l = step.lengths;
             let (scratch, lower) = (l.scratch.max(rows), l.lower.max(rows));
             let (upper, outlier) = (l.upper.max(rows), l.outlier.max(rows));
-            Lengths { weight, scratch, lower, upper, outlier, ..l }
+            let losses = l.losses.max(rows);
+            Lengths { weight, scratch, lower, upper, outlier, losses, ..l }
         };
         let whole = Lengths {
             x,
@@ -113,6 +114,7 @@ impl Plan {
             lower: longest(|l| l.lower).max(rows),
             upper: longest(|l| l.upper).max(rows),
             outlier: longest(|l| l.outlier).max(rows),
+            losses: longest(|l| l.losses).max(rows),
         };
         let split = (random.unit() * list.steps.len() as f64) as usize;
         let (first, rest) = list.steps.split_at(split);
@@ -190,6 +192,9 @@ fn places(call: &Call, answer: &Answer, count: usize) -> Vec<(Name, usize)> {
     places.push((Name::Sums, PLACES));
     if is_reading(call) && passes_nine(answer) {
         places.push((Name::Scratch, count));
+    }
+    if let Answer::Losses { .. } = answer {
+        places.push((Name::Losses, count));
     }
     if let Answer::Degree(_) | Answer::Report { .. } = answer {
         places.push((Name::Coefficients, TERMS));

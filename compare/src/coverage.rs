@@ -20,6 +20,7 @@ use crate::replay;
 use crate::run::passes_nine;
 use crate::two_column;
 use crate::weights;
+use crate::windows;
 
 /// One call, and what came of it.
 pub struct Seen<'a> {
@@ -39,20 +40,24 @@ pub struct Coverage {
     counts: BTreeMap<String, u64>,
     /// Confidences and degrees of freedom, 31 for more, with a term just below and above the score.
     beside: BTreeSet<(&'static str, usize, bool)>,
+    /// Whether sample 0 went from the book for a newer one.
+    slid: bool,
     pub calls: u64,
     pub by_reference: u64,
 }
 
 /// What each call may answer, besides being let through, in checking order.
-pub const REFUSALS: [(&str, &[u8]); 11] = [
+pub const REFUSALS: [(&str, &[u8]); 13] = [
     ("open", &[1]),
     ("add", &[1, 4, 15, 5]),
+    ("add_window", &[1, 4, 15, 5]),
     ("correct", &[1, 4, 6]),
     ("withdraw", &[1, 6]),
     ("add_frame", &[1, 2, 3, 4, 15, 5]),
     ("add_lines", &[1, 13, 14, 5]),
     ("fit", &[1, 4, 7, 8, 10]),
     ("report", &[1, 4, 7, 8, 11, 12]),
+    ("losses", &[1, 4, 7, 8, 11, 12]),
     ("validate", &[1, 4, 7, 8, 10, 11]),
     ("band", &[1, 4, 7, 8, 9, 10, 12]),
     ("reader", &[2, 3]),
@@ -60,12 +65,17 @@ pub const REFUSALS: [(&str, &[u8]); 11] = [
 
 /// Pairs that cannot both hold: without samples no column value is below the count, and a bound is
 /// then 0; a frame of neither version has no weights.
-const IMPOSSIBLE_PAIRS: [(&str, u8, u8); 3] =
-    [("fit", 4, 7), ("report", 7, 8), ("add_frame", 3, 15)];
+const IMPOSSIBLE_PAIRS: [(&str, u8, u8); 4] =
+    [("fit", 4, 7), ("report", 7, 8), ("losses", 7, 8), ("add_frame", 3, 15)];
 
 /// Calls that read the fit, each with the refusals that polyfit can speak of.
-const BY_REFERENCE: [(&str, &[u8]); 4] =
-    [("fit", &[10]), ("report", &[11, 12]), ("validate", &[10, 11]), ("band", &[10, 12])];
+const BY_REFERENCE: [(&str, &[u8]); 5] = [
+    ("fit", &[10]),
+    ("report", &[11, 12]),
+    ("losses", &[11, 12]),
+    ("validate", &[10, 11]),
+    ("band", &[10, 12]),
+];
 
 const CONFIDENCES: [&str; 7] = ["P80", "P90", "P95", "P98", "P99", "P999", "Custom"];
 const FREEDOMS: [&str; 3] = ["df 0", "df 1 to 30", "df 31 or more"];
@@ -75,33 +85,36 @@ const CRITERIA: [&str; 2] = ["Aic", "Bic"];
 const RULES: [&str; 2] = ["positive", "size"];
 
 /// Memory whose length is judged, and by which calls.
-const LENGTHS: [(&str, &[&str]); 8] = [
+const LENGTHS: [(&str, &[&str]); 9] = [
     (
         "sums",
         &[
             "open",
             "add",
+            "add_window",
             "correct",
             "withdraw",
             "add_frame",
             "add_lines",
             "fit",
             "report",
+            "losses",
             "validate",
             "band",
         ],
     ),
-    ("scratch", &["fit", "report", "validate", "band"]),
+    ("scratch", &["fit", "report", "losses", "validate", "band"]),
     ("coefficients", &["fit", "report", "validate"]),
     ("errors", &["report"]),
     ("pruned", &["report"]),
     ("lower", &["report"]),
     ("upper", &["report"]),
     ("outlier", &["report"]),
+    ("losses", &["losses"]),
 ];
 
 /// Everything else that must happen.
-const EVENTS: [&str; 64] = [
+const EVENTS: [&str; 72] = [
     "report: 11 with no degree solved",
     "report: 11 with degrees solved",
     "report: degree 0 unsolved, a higher one chosen",
@@ -134,6 +147,13 @@ const EVENTS: [&str; 64] = [
     "report: square losses",
     "report: linear losses",
     "report: two middle sizes whose sum is infinite",
+    "losses: square ones",
+    "losses: linear ones",
+    "losses: all +0",
+    "losses: another degree than 0",
+    "losses: the least score's degree would have others",
+    "losses: the total without the last is another",
+    "losses: backwards the total is another",
     "band: 9 before 10",
     "band: 9 before 12",
     "band: NaN",
@@ -154,6 +174,7 @@ const EVENTS: [&str; 64] = [
     "samples: x near 2000",
     "sums: not the ledger's, fit answered",
     "sums: not the ledger's, report answered",
+    "sums: not the ledger's, losses answered",
     "sums: not the ledger's, validate answered",
     "sums: not the ledger's, band answered",
     "sums: not symmetric, report answered",
@@ -194,6 +215,7 @@ impl Coverage {
         keys.extend(EVENTS.map(String::from));
         keys.extend(lines::EVENTS.map(String::from));
         keys.extend(weights::events());
+        keys.extend(windows::events());
         keys.extend(two_column::EVENTS.map(String::from));
         for (call, numbers) in two_column::REFUSALS {
             keys.push(format!("two columns: {call} answered"));
@@ -255,6 +277,9 @@ impl Coverage {
             }
         }
         for event in weights::happened(seen) {
+            self.note(event);
+        }
+        for event in windows::happened(seen, &mut self.slid) {
             self.note(event);
         }
         if passes_nine(&seen.answer) {
@@ -357,6 +382,7 @@ impl Coverage {
         match seen.call {
             Call::Fit { .. } => {}
             Call::Report(settings) => self.note_report(seen, *settings),
+            Call::Losses(settings) => self.note_chosen_losses(seen, *settings),
             Call::Validate { folds, bound, criterion } => {
                 self.note_validation(seen, *folds, *bound, *criterion)
             }
@@ -469,6 +495,39 @@ impl Coverage {
         let symmetric =
             (0..TERMS).all(|i| (0..i).all(|j| bits(a(sums, i, j)) == bits(a(sums, j, i))));
         self.note_if(!symmetric, "sums: not symmetric, report answered");
+    }
+
+    /// The losses of a call for them.
+    fn note_chosen_losses(&mut self, seen: &Seen, settings: Settings) {
+        let (degree, total) = match seen.answer {
+            Answer::Losses { degree, total, .. } => (degree, total),
+            _ => return,
+        };
+        self.note(format!("losses: criterion {}", criterion_name(settings.criterion)));
+        self.note(format!("losses: bound {}", bound_name(settings.bound)));
+        let (samples, sums) = (&seen.samples, &seen.memory.sums);
+        let written = &seen.memory.losses[..seen.count];
+        let residuals_of =
+            |degree| Some(fit::residuals(samples, &fit::solved(samples, sums, degree)?));
+        let residuals = residuals_of(degree).unwrap_or_default();
+        let delta = HUBER_CONST * median_absolute_deviation(&residuals);
+        let square = residuals.iter().any(|r| *r != 0.0 && r.abs() <= delta);
+        let linear = residuals.iter().any(|r| r.abs() > delta && delta > 0.0);
+        self.note_if(square, "losses: square ones");
+        self.note_if(linear, "losses: linear ones");
+        self.note_if(written.iter().all(|loss| bits(*loss) == 0), "losses: all +0");
+        self.note_if(degree > 0, "losses: another degree than 0");
+        let bound = max_degree(settings.bound, samples.len());
+        let scores = fit::scores(samples, sums, bound, settings.criterion);
+        let least = scores.iter().position(|score| *score == Some(fit::least(&scores)));
+        let others = least.and_then(residuals_of);
+        let others = others.map_or(false, |others| fit::losses(&others) != written);
+        self.note_if(others, "losses: the least score's degree would have others");
+        let before_last = fit::total_loss(&written[..seen.count - 1]);
+        self.note_if(before_last != total, "losses: the total without the last is another");
+        let backwards: Vec<f64> = written.iter().rev().copied().collect();
+        let backwards = fit::total_loss(&backwards) != total;
+        self.note_if(backwards, "losses: backwards the total is another");
     }
 
     fn note_medians(&mut self, samples: &[Sample], sums: &[f64], bound: usize) {
@@ -601,7 +660,7 @@ fn required_settings() -> Vec<String> {
     for confidence in CONFIDENCES {
         keys.extend(FREEDOMS.map(|freedom| format!("report: {confidence} at {freedom}")));
     }
-    for call in ["report", "validate"] {
+    for call in ["report", "losses", "validate"] {
         keys.extend(CRITERIA.map(|criterion| format!("{call}: criterion {criterion}")));
         keys.extend(BOUNDS.map(|bound| format!("{call}: bound {bound}")));
     }
@@ -622,6 +681,7 @@ fn length_of(lengths: &Lengths, memory: &str, count: usize) -> (usize, usize) {
         "pruned" => (lengths.pruned, TERMS),
         "lower" => (lengths.lower, count),
         "upper" => (lengths.upper, count),
+        "losses" => (lengths.losses, count),
         _ => (lengths.outlier, count),
     }
 }

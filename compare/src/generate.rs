@@ -36,6 +36,7 @@ pub fn list(seed: u64, number: u64) -> List {
         // Few, because 4,096 samples take long.
         0 if number % 4096 == 64 => full(random, 1 + (number / 4096 + 1) % 2),
         0 if number % 4096 == 1984 => full_of_lines(random),
+        0 if number % 4096 == 1024 => full_window(random),
         0..=5 => many_samples(random),
         6..=11 => interpolated(random),
         12..=17 => spoiled(random),
@@ -50,6 +51,11 @@ pub fn list(seed: u64, number: u64) -> List {
         39 => terms_of_either_sign(random),
         40 | 41 => framed(random),
         42 | 43 => weighed(random),
+        50 if number % 256 == 50 => windowed(random, 100, 24),
+        50..=53 => {
+            let capacity = random.pick(&[0, 1, 1, 2, 2, 3, 4, 7, 12]);
+            windowed(random, capacity, 20)
+        }
         _ => mixed(random),
     };
     List { contents, steps }
@@ -85,6 +91,7 @@ impl<'a> Maker<'a> {
             lower: n + more(),
             upper: n + more(),
             outlier: n + more(),
+            losses: n + more(),
             x: self.x_length,
             y: self.y_length,
             weight: self.weight_length,
@@ -109,6 +116,7 @@ impl<'a> Maker<'a> {
         let _ = match call {
             Call::Open => self.ledger.open(lengths),
             Call::Add(sample) => self.ledger.add(lengths, *sample),
+            Call::AddWindow(sample) => self.ledger.add_window(lengths, *sample),
             Call::Correct { index, y } => self.ledger.correct(lengths, *index, *y),
             Call::Withdraw { index } => self.ledger.withdraw(lengths, *index),
             Call::AddFrame(bytes) => self.ledger.add_frame(lengths, bytes),
@@ -194,7 +202,7 @@ fn spoil_sample(random: &mut Random, source: &mut Source) -> Sample {
 fn shorten(random: &mut Random, lengths: &mut Lengths, n: usize) {
     let empty = random.one_in(5);
     let short = |places: usize| if empty { 0 } else { places.saturating_sub(1) };
-    match random.below(8) {
+    match random.below(9) {
         0 => lengths.sums = short(PLACES),
         1 => lengths.scratch = short(n),
         2 => lengths.coefficients = short(TERMS),
@@ -202,6 +210,7 @@ fn shorten(random: &mut Random, lengths: &mut Lengths, n: usize) {
         4 => lengths.pruned = short(TERMS),
         5 => lengths.lower = short(n),
         6 => lengths.upper = short(n),
+        7 => lengths.losses = short(n),
         _ => lengths.outlier = short(n),
     }
 }
@@ -325,6 +334,72 @@ fn weighed(random: &mut Random) -> Vec<Step> {
     maker.steps
 }
 
+/// A window book about its edge: adds to it, with room and without, among all other changes, which get 5
+/// where it is full; at the end on memory that someone else writes.
+fn windowed(random: &mut Random, capacity: usize, calls: usize) -> Vec<Step> {
+    let mut source = Source::new(random, capacity);
+    let number = random.between(capacity.saturating_sub(3), capacity);
+    let first = source.take(random, number);
+    let mut maker = Maker::new(random, capacity);
+    maker.short_one_in = 40;
+    maker.add_all(&first);
+    for _ in 0..calls {
+        match maker.random.below(10) {
+            0..=4 => {
+                let sample = spoil_sample(maker.random, &mut source);
+                maker.call(Call::AddWindow(sample));
+            }
+            5..=7 => maker.change(&mut source),
+            _ => maker.read(),
+        }
+    }
+    for _ in 0..2 {
+        let poke = match maker.random.below(3) {
+            0 => column_poke(maker.random, 1),
+            _ => sums_poke(maker.random),
+        };
+        let sample = source.next(maker.random);
+        maker.step(vec![poke], Call::AddWindow(sample));
+        maker.read();
+    }
+    maker.steps
+}
+
+/// A window of 4,096, its last place filled and its first samples withdrawn.
+fn full_window(random: &mut Random) -> Vec<Step> {
+    let kind = random.pick(&[Kind::EvenGrid, Kind::Density, Kind::Unit, Kind::Offset]);
+    let mut source = Source::of_kind(random, kind, 4096);
+    let first = source.take(random, 4095);
+    let spare = random.pick(&[0, 3]);
+    let mut maker = Maker::new(random, 4096 + spare);
+    maker.call(Call::AddFrame(frame::encode(&first)));
+    let mut next = |maker: &mut Maker| source.next(maker.random);
+    for _ in 0..3 {
+        let sample = next(&mut maker);
+        maker.call(Call::AddWindow(sample));
+    }
+    let sample = next(&mut maker);
+    let calls = [
+        Call::AddWindow(Sample { y: f64::NAN, ..sample }),
+        Call::AddWindow(Sample { weight: 0.0, ..sample }),
+        Call::Add(sample),
+        Call::AddFrame(frame::encode_weighted(&[sample])),
+        Call::AddLines(b"1 2\n".to_vec()),
+        Call::Correct { index: maker.random.below(4096), y: 1.0 },
+        Call::AddWindow(sample),
+        Call::Withdraw { index: maker.random.below(4096) },
+        Call::AddWindow(sample),
+        Call::AddWindow(first[0]),
+    ];
+    for call in calls {
+        maker.call(call);
+    }
+    let bound = DegreeBound::Custom(2);
+    let settings = Settings { bound, ..arguments::settings(maker.random) };
+    maker.call(Call::Report(settings));
+    maker.steps
+}
+
 /// Enough samples for every bound, and for degrees of freedom past the table.
 fn many_samples(random: &mut Random) -> Vec<Step> {
     let n = match random.below(4) {
@@ -423,6 +498,7 @@ fn overflowing_mean(random: &mut Random) -> Vec<Step> {
         let bound = DegreeBound::Custom(maker.random.between(0, 2));
         let settings = Settings { bound, ..arguments::settings(maker.random) };
         maker.call(Call::Report(settings));
+        maker.call(Call::Losses(settings));
         maker.read();
     }
     maker.steps
@@ -441,6 +517,7 @@ fn pivot_edge(random: &mut Random) -> Vec<Step> {
         let mut settings = arguments::settings(maker.random);
         settings.bound = DegreeBound::Custom(degree);
         maker.call(Call::Report(settings));
+        maker.call(Call::Losses(settings));
         let (confidence, tolerance) = (Confidence::P95, Tolerance::None);
         maker.call(Call::Band { x: samples[0].x, degree, confidence, tolerance });
         maker.read();
@@ -515,6 +592,7 @@ fn inverse_fails(random: &mut Random) -> Vec<Step> {
     ];
     let settings = Settings { bound: DegreeBound::Custom(1), ..arguments::settings(maker.random) };
     maker.step(sums_pokes(&places), Call::Report(settings));
+    maker.call(Call::Losses(settings));
     let (confidence, tolerance) = (arguments::confidence(maker.random), Tolerance::None);
     for x in [0.0, -1.0] {
         maker.call(Call::Band { x, degree: 1, confidence, tolerance });
@@ -604,14 +682,18 @@ fn spoiled_call(random: &mut Random, source: &mut Source, samples: &[Sample]) ->
     match random.below(10) {
         0 => {
             let weight = random.pick(&[1.0, 2.0, bad, 0.0, -0.0, -1.0]);
-            Call::Add(Sample { x: or_bad(random, 1.0), y: or_bad(random, 2.0), weight })
+            let sample = Sample { x: or_bad(random, 1.0), y: or_bad(random, 2.0), weight };
+            random.pick(&[Call::Add, Call::AddWindow])(sample)
         }
         1 => Call::Correct { index: n + random.below(2), y: or_bad(random, 1.0) },
         2 => Call::Withdraw { index: n + random.below(2) },
         3 => Call::AddFrame(spoiled_frame(random, source)),
         4 => Call::Reader(spoiled_frame(random, source)),
         5 => Call::Fit { degree: random.pick(&[0, n, 16, usize::MAX]) },
-        6 => Call::Report(spoiled_settings(random, bad)),
+        6 => {
+            let settings = spoiled_settings(random, bad);
+            random.pick(&[Call::Report, Call::Losses])(settings)
+        }
         7 => Call::Validate {
             folds: random.pick(&[0, 1, 2, n + 1]),
             bound: DegreeBound::Custom(random.pick(&[1, 16, 20])),
@@ -665,6 +747,7 @@ fn long_columns(random: &mut Random) -> Vec<Step> {
     let sample = Sample { x: 1.0, y: 2.0, weight: 3.0 };
     let calls = [
         Call::Add(sample),
+        Call::AddWindow(sample),
         Call::AddFrame(frame::encode_weighted(&[sample])),
         Call::AddLines(b"1 2\n".to_vec()),
         Call::Correct { index: 0, y: 1.0 },
@@ -702,6 +785,7 @@ fn full(random: &mut Random, version: u64) -> Vec<Step> {
     let bound = maker.random.pick(&bounds);
     let settings = Settings { bound, ..arguments::settings(maker.random) };
     maker.call(Call::Report(settings));
+    maker.call(Call::Losses(settings));
     let degree = maker.random.below(16);
     maker.call(Call::Fit { degree });
     let (folds, criterion) = (maker.random.between(2, 5), arguments::criterion(maker.random));

@@ -30,6 +30,7 @@ mod tests;
 mod text;
 mod two_column;
 mod weights;
+mod windows;
 
 use std::process::ExitCode;
 use std::time::Instant;

@@ -43,6 +43,7 @@ pub fn filled(list: &List) -> Memory {
         lower: longest(|l| l.lower),
         upper: longest(|l| l.upper),
         outlier: longest(|l| l.outlier),
+        losses: longest(|l| l.losses),
     };
     filled_for(list.contents, &lengths)
 }
@@ -62,6 +63,7 @@ pub fn filled_for(contents: u64, lengths: &Lengths) -> Memory {
         lower: numbers(random, lengths.lower),
         upper: numbers(random, lengths.upper),
         outlier: bytes(random, lengths.outlier),
+        losses: numbers(random, lengths.losses),
     }
 }
 

@@ -6,7 +6,7 @@ use polyfit::score::{Aic, Bic, ModelScoreProvider};
 use polyfit::statistics as theirs;
 use polyfit::{basis::MonomialBasis, CurveFitCovariance, MonomialFit};
 
-use judge::fit::{Band, Criterion, PruningRule, Report, Settings};
+use judge::fit::{Band, Criterion, Losses, PruningRule, Report, Settings};
 use judge::statistics::{Confidence, DegreeBound, Tolerance};
 use judge::Sample;
 
@@ -131,6 +131,36 @@ fn report_by(
         bands: bands.iter().map(|(_, band)| band_of(band)).collect(),
         outliers: outlier_marks(&data, outliers.iter().map(|(x, y, _)| (*x, *y))),
     })
+}
+
+/// The losses behind a report, and polyfit's own mean of them: `CurveFit::new_auto`, `covariance` for its
+/// refusal, `residuals`, `median_absolute_deviation` and `huber_loss`, added up here; `huber_log_likelihood`,
+/// which adds them up itself; `model_score`.
+pub fn losses(samples: &[Sample], settings: Settings) -> Result<(Losses, f64), u8> {
+    weighted(samples, || match settings.criterion {
+        Criterion::Aic => losses_by(&Aic, samples, settings),
+        Criterion::Bic => losses_by(&Bic, samples, settings),
+    })
+}
+
+fn losses_by(
+    method: &impl ModelScoreProvider<MonomialBasis<f64>, f64>,
+    samples: &[Sample],
+    settings: Settings,
+) -> Result<(Losses, f64), u8> {
+    let data = data_of(samples);
+    let fit = Fit::new_auto(data.as_slice(), bound_of(settings.bound), method)
+        .map_err(|e| number_of(&e, 0))?;
+    covariance_of(&fit)?;
+    let ys = || data.iter().map(|(_, y)| *y);
+    let fitted: Vec<f64> = fit.solution().iter().map(|(_, y)| *y).collect();
+    let deviation = theirs::median_absolute_deviation(ys(), fitted.iter().copied());
+    let loss = |r: f64| theirs::huber_loss(r, theirs::huber_const(), deviation);
+    let losses: Vec<f64> = fit.residuals().iter().map(|(_, r)| loss(*r)).collect();
+    let total = losses.iter().fold(0.0, |total, loss| total + loss);
+    let mean = theirs::huber_log_likelihood(ys(), fitted.iter().copied());
+    let (degree, score) = (fit.degree(), fit.model_score(method));
+    Ok((Losses { degree, losses, total, score }, mean))
 }
 
 fn band_of(band: &theirs::ConfidenceBand<f64>) -> Band {

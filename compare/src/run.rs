@@ -4,7 +4,7 @@
 
 use journal::{Answer, Buffers, Call, Judge, Memory, Port, Side};
 use judge::book::answer_of;
-use judge::fit::Report;
+use judge::fit::{Losses, Report, Settings};
 use judge::ledger::Ledger;
 use judge::numbers::bits;
 use judge::refusals;
@@ -150,6 +150,7 @@ impl LedgerState {
         let result = match &step.call {
             Call::Open => ledger.open(lengths),
             Call::Add(sample) => ledger.add(lengths, *sample),
+            Call::AddWindow(sample) => ledger.add_window(lengths, *sample),
             Call::Correct { index, y } => ledger.correct(lengths, *index, *y),
             Call::Withdraw { index } => ledger.withdraw(lengths, *index),
             Call::AddFrame(frame) => ledger.add_frame(lengths, frame),
@@ -162,6 +163,10 @@ impl LedgerState {
             Call::Report(settings) => {
                 let report = ledger.report(lengths, *settings);
                 return check_report("ledger", report, answer, memory);
+            }
+            Call::Losses(settings) => {
+                let losses = ledger.losses(lengths, *settings);
+                return check_losses("ledger", losses, answer, memory);
             }
             _ => return Ok(()),
         };
@@ -202,7 +207,8 @@ fn check_parsed(call: &Call, answer: &Answer, count: usize, memory: &Memory) -> 
 }
 
 pub fn is_reading(call: &Call) -> bool {
-    matches!(call, Call::Fit { .. } | Call::Report(_) | Call::Validate { .. } | Call::Band { .. })
+    let settled = matches!(call, Call::Report(_) | Call::Losses(_));
+    settled || matches!(call, Call::Fit { .. } | Call::Validate { .. } | Call::Band { .. })
 }
 
 /// Not refused, or refused by 10, 11 or 12.
@@ -225,6 +231,10 @@ pub fn same_answer(a: &Answer, b: &Answer) -> bool {
                 && same_number(*lower, *lower2)
                 && same_number(*upper, *upper2)
         }
+        (
+            Answer::Losses { degree, total, score },
+            Answer::Losses { degree: degree2, total: total2, score: score2 },
+        ) => degree == degree2 && same_number(*total, *total2) && same_number(*score, *score2),
         (Answer::Samples(a), Answer::Samples(b)) => {
             let same = |(a, b): (&Sample, &Sample)| {
                 same_number(a.x, b.x) && same_number(a.y, b.y) && same_number(a.weight, b.weight)
@@ -258,6 +268,47 @@ fn check_report(
         return Err(format!("judge answers {answer:?}, {name} {expected:?}"));
     }
     check_report_places(name, &report, memory)
+}
+
+/// Losses as answered and written, against those that were worked out.
+fn check_losses(
+    name: &str,
+    losses: Result<Losses, u8>,
+    answer: &Answer,
+    memory: &Memory,
+) -> Result<(), String> {
+    let (expected, losses) = match losses {
+        Ok(Losses { degree, losses, total, score }) => {
+            (Answer::Losses { degree, total, score }, losses)
+        }
+        Err(number) => (Answer::Refused(number), Vec::new()),
+    };
+    if !same_answer(answer, &expected) {
+        return Err(format!("judge answers {answer:?}, {name} {expected:?}"));
+    }
+    let difference = first_difference("losses", &memory.losses[..losses.len()], &losses);
+    difference.map_or(Ok(()), |text| Err(format!("judge and {name}: {text}")))
+}
+
+/// The losses against polyfit's; its mean loss, which it makes its score of, is the total over n.
+fn check_reference_losses(
+    samples: &[Sample],
+    settings: Settings,
+    answer: &Answer,
+    memory: &Memory,
+) -> Result<(), String> {
+    let (losses, mean) = match reference::losses(samples, settings) {
+        Ok((losses, mean)) => (Ok(losses), Some(mean)),
+        Err(number) => (Err(number), None),
+    };
+    check_losses("polyfit", losses, answer, memory)?;
+    if let (Some(mean), Answer::Losses { total, .. }) = (mean, answer) {
+        let ours = total / samples.len() as f64;
+        if !same_number(ours, mean) {
+            return Err(format!("the mean loss is {ours:?}, of polyfit {mean:?}"));
+        }
+    }
+    Ok(())
 }
 
 fn check_report_places(name: &str, report: &Report, memory: &Memory) -> Result<(), String> {
@@ -314,6 +365,7 @@ fn check_reference(
             check_report("polyfit", report, answer, memory)?;
             check_scores(samples, *settings)
         }
+        Call::Losses(settings) => check_reference_losses(samples, *settings, answer, memory),
         Call::Band { x, degree, confidence, tolerance } => {
             let band = reference::band(samples, (*x, *degree), *confidence, *tolerance);
             let expected = match band {
@@ -349,7 +401,7 @@ fn check_fit(
 }
 
 /// Every degree's score, which no answer shows.
-fn check_scores(samples: &[Sample], settings: judge::fit::Settings) -> Result<(), String> {
+fn check_scores(samples: &[Sample], settings: Settings) -> Result<(), String> {
     let bound = judge::statistics::max_degree(settings.bound, samples.len());
     let sums = folded_afresh(samples);
     let ours = judge::fit::scores(samples, &sums, bound, settings.criterion);
@@ -381,6 +433,7 @@ fn check_writes(
             expected.coefficients[..TERMS].copy_from_slice(&after.coefficients[..TERMS]);
         }
         Answer::Report { .. } => copy_report_places(count, &mut expected, after),
+        Answer::Losses { .. } => expected.losses[..count].copy_from_slice(&after.losses[..count]),
     }
     match difference(&expected, after) {
         Some(difference) => Err(format!("written outside the call's places: {difference}")),
@@ -405,6 +458,8 @@ fn copy_book_places(
         Call::Carry => (0..0, 0..0, 0..0),
         Call::Correct { index, .. } => (0..0, *index..*index + 1, PLACES - TERMS..PLACES),
         Call::Withdraw { index } => (*index..new_count, *index..new_count, 0..PLACES),
+        // A full window.
+        Call::AddWindow(_) if new_count == count => (0..count, 0..count, 0..PLACES),
         _ => (count..new_count, count..new_count, 0..PLACES),
     };
     expected.x[x.clone()].copy_from_slice(&after.x[x.clone()]);

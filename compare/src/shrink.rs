@@ -1,7 +1,7 @@
 //! Makes a failing list smaller while it still fails.
 
 use journal::Call;
-use judge::fit::{Criterion, PruningRule};
+use judge::fit::{Criterion, PruningRule, Settings};
 use judge::frame;
 use judge::statistics::{Confidence, Tolerance};
 use judge::Sample;
@@ -91,26 +91,29 @@ fn simpler_samples(sample: Sample) -> Vec<Sample> {
 fn simpler_calls(call: &Call) -> Vec<Call> {
     match call {
         Call::Add(sample) => simpler_samples(*sample).into_iter().map(Call::Add).collect(),
+        Call::AddWindow(sample) => {
+            let window = simpler_samples(*sample).into_iter().map(Call::AddWindow);
+            std::iter::once(Call::Add(*sample)).chain(window).collect()
+        }
         Call::Correct { index, y } => {
             simpler_numbers(*y).into_iter().map(|y| Call::Correct { index: *index, y }).collect()
         }
         Call::AddFrame(bytes) => simpler_frames(bytes).into_iter().map(Call::AddFrame).collect(),
         Call::AddLines(text) => shorter_texts(text).into_iter().map(Call::AddLines).collect(),
-        Call::Report(settings) => {
-            let mut calls = Vec::new();
-            let mut push = |simpler| {
-                if simpler != *settings {
-                    calls.push(Call::Report(simpler));
-                }
-            };
-            push(judge::fit::Settings { tolerance: Tolerance::None, ..*settings });
-            push(judge::fit::Settings { confidence: Confidence::P95, ..*settings });
-            push(judge::fit::Settings { criterion: Criterion::Aic, ..*settings });
-            push(judge::fit::Settings { pruning: PruningRule::Positive, ..*settings });
-            calls
-        }
+        Call::Report(settings) => simpler_settings(*settings).map(Call::Report).collect(),
+        Call::Losses(settings) => simpler_settings(*settings).map(Call::Losses).collect(),
         _ => Vec::new(),
     }
+}
+
+fn simpler_settings(settings: Settings) -> impl Iterator<Item = Settings> {
+    let simpler = [
+        Settings { tolerance: Tolerance::None, ..settings },
+        Settings { confidence: Confidence::P95, ..settings },
+        Settings { criterion: Criterion::Aic, ..settings },
+        Settings { pruning: PruningRule::Positive, ..settings },
+    ];
+    simpler.into_iter().filter(move |simpler| *simpler != settings)
 }
 
 /// The text without some of its bytes, the much shorter ones first.

@@ -32,6 +32,7 @@ fn again<'a>(lent: &'a mut Lent<'_>) -> Lent<'a> {
         lower: lent.lower,
         upper: lent.upper,
         outlier: lent.outlier,
+        losses: lent.losses,
     }
 }
 
@@ -105,6 +106,50 @@ fn full_before_not_finite() {
         _ => answer,
     });
     assert!(list.steps.len() <= 3, "{list:?}");
+}
+
+#[test]
+fn mean_loss_for_the_total() {
+    let list = found(|_, count, _, _, answer| match answer {
+        Answer::Losses { degree, total, score } => {
+            Answer::Losses { degree, total: total / count as f64, score }
+        }
+        _ => answer,
+    });
+    assert!(list.steps.len() <= 4, "{list:?}");
+}
+
+#[test]
+fn last_loss_not_written() {
+    let list = found(|_, count, lent, _, answer| {
+        if let Answer::Losses { .. } = answer {
+            lent.losses[count - 1] += 1.0;
+        }
+        answer
+    });
+    assert!(list.steps.len() <= 3, "{list:?}");
+}
+
+#[test]
+fn full_window_refused() {
+    let list = found(|call, count, _, _, answer| match (call, &answer) {
+        (Call::AddWindow(_), Answer::Book(1)) if count == 1 => Answer::Refused(5),
+        _ => answer,
+    });
+    assert!(list.steps.len() <= 3, "{list:?}");
+}
+
+#[test]
+fn refused_window_withdraws() {
+    let list = found(|call, count, lent, _, answer| {
+        if let (Call::AddWindow(_), Answer::Refused(4 | 15)) = (call, &answer) {
+            if count == lent.x.len() && count > 1 {
+                lent.y[0] = lent.y[1];
+            }
+        }
+        answer
+    });
+    assert!(list.steps.len() <= 4, "{list:?}");
 }
 
 /// Adjusting sums by subtraction on withdrawal: bits drift.
@@ -413,11 +458,12 @@ fn missing_in(name: &str, asked: impl Fn(&str) -> bool) -> Vec<String> {
 #[test]
 fn texts_are_judged() {
     missing_in("edges.calls", |_| false);
-    // Every refusal of every call but lines, and every pair in order. A text has no reader. 15 is met with
+    // Every refusal of every call but lines, windows and losses, and every pair in order. A text has no reader. 15 is met with
     // the weights.
     let refusal = |key: &str| {
         let refusal = key.contains(" before ") || key.contains(": refused by ");
-        let elsewhere = key.starts_with("reader") || key.starts_with("add_lines");
+        let elsewhere = ["reader", "add_lines", "add_window", "losses"];
+        let elsewhere = elsewhere.iter().any(|call| key.starts_with(call));
         refusal && !elsewhere && !key.contains("by polyfit")
     };
     let missing = missing_in("season.calls", |key| refusal(key) && !key.contains("15"));
@@ -430,6 +476,15 @@ fn texts_are_judged() {
     // The same of lines, and all that must happen with them.
     let missing =
         missing_in("lines.calls", |key| key.starts_with("add_lines") || key.starts_with("lines"));
+    assert!(missing.is_empty(), "{missing:?}");
+    let missing = missing_in("windows.calls", |key| {
+        key.starts_with("add_window") || key.starts_with("window")
+    });
+    assert!(missing.is_empty(), "{missing:?}");
+    // No list has a 12 of the samples' own sums.
+    let missing = missing_in("losses.calls", |key| {
+        key.starts_with("losses") && key != "losses by polyfit: refused by 12"
+    });
     assert!(missing.is_empty(), "{missing:?}");
     // Every call and refusal, by polyfit too, every setting and event; the pairs are the season's.
     let missing = missing_in("fixed.calls", |key| {

@@ -44,13 +44,16 @@ fn written(call: &Call) -> Call {
         | Call::Withdraw { index: number }
         | Call::Fit { degree: number }
         | Call::Band { degree: number, .. } => *number = GREATEST.min(*number),
-        Call::Report(settings) => settings.bound = written_bound(settings.bound),
+        Call::Report(settings) | Call::Losses(settings) => {
+            settings.bound = written_bound(settings.bound)
+        }
         Call::Validate { folds, bound, .. } => {
             *folds = GREATEST.min(*folds);
             *bound = written_bound(*bound);
         }
         Call::Open
         | Call::Add(_)
+        | Call::AddWindow(_)
         | Call::AddFrame(_)
         | Call::AddLines(_)
         | Call::Carry
@@ -128,6 +131,7 @@ impl Writer {
                     self.show(name, rows);
                 }
             }
+            Answer::Losses { .. } if self.random.one_in(2) => self.show(Name::Losses, rows),
             Answer::Refused(_) if self.random.one_in(6) => {
                 self.show(Name::Scratch, rows);
                 self.show(Name::Errors, TERMS + 1);

@@ -14,6 +14,7 @@ use crate::arguments::not_finite;
 use crate::call::name;
 use crate::coverage::Seen;
 use crate::random::Random;
+use crate::run::is_reading;
 
 /// The kinds of weights, one for all samples of a source.
 #[derive(Debug, Clone, Copy, PartialEq)]
@@ -164,7 +165,7 @@ pub fn spoil(random: &mut Random, samples: &mut [Sample]) {
 }
 
 /// Calls that read a fit.
-const READING: [&str; 4] = ["fit", "report", "validate", "band"];
+const READING: [&str; 5] = ["fit", "report", "losses", "validate", "band"];
 
 /// Calls that take a frame.
 const FRAMED: [&str; 2] = ["add_frame", "reader"];
@@ -261,10 +262,8 @@ pub fn happened(seen: &Seen) -> Vec<String> {
         }
         Call::Reader(bytes) => note_frame(bytes, name(seen.call), &mut note_if),
         Call::Correct { .. } | Call::Withdraw { .. } => note_change(seen, &mut note_if),
-        Call::Fit { .. } | Call::Report(_) | Call::Validate { .. } | Call::Band { .. } => {
-            note_reading(seen, &mut note_if)
-        }
-        Call::Open | Call::AddLines(_) | Call::Carry => {}
+        call if is_reading(call) => note_reading(seen, &mut note_if),
+        _ => {}
     }
     note_columns(seen, &mut note_if);
     keys

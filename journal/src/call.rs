@@ -13,6 +13,7 @@ use crate::request::float_field;
 pub enum Call {
     Open,
     Add(Sample),
+    AddWindow(Sample),
     Correct {
         index: usize,
         y: f64,
@@ -27,6 +28,7 @@ pub enum Call {
         degree: usize,
     },
     Report(Settings),
+    Losses(Settings),
     Validate {
         folds: usize,
         bound: DegreeBound,
@@ -54,6 +56,11 @@ pub enum Answer {
         outliers: usize,
         pruned: usize,
     },
+    Losses {
+        degree: usize,
+        total: f64,
+        score: f64,
+    },
     Band {
         value: f64,
         lower: f64,
@@ -72,6 +79,9 @@ impl fmt::Display for Answer {
             Answer::Degree(degree) => write!(f, "fit {degree}"),
             Answer::Report { degree, solved, outliers, pruned } => {
                 write!(f, "report {degree} {solved} {outliers} {pruned}")
+            }
+            Answer::Losses { degree, total, score } => {
+                write!(f, "losses {degree} {} {}", float_field(*total), float_field(*score))
             }
             Answer::Band { value, lower, upper } => {
                 let [value, lower, upper] = [*value, *lower, *upper].map(float_field);

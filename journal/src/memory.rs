@@ -15,12 +15,13 @@ pub enum Name {
     Errors,
     Lower,
     Upper,
+    Losses,
     Pruned,
     Outliers,
 }
 
 /// All names, with their words.
-pub const NAMES: [(Name, &str); 11] = [
+pub const NAMES: [(Name, &str); 12] = [
     (Name::Xs, "xs"),
     (Name::Ys, "ys"),
     (Name::Ws, "ws"),
@@ -30,6 +31,7 @@ pub const NAMES: [(Name, &str); 11] = [
     (Name::Errors, "errors"),
     (Name::Lower, "lower"),
     (Name::Upper, "upper"),
+    (Name::Losses, "losses"),
     (Name::Pruned, "pruned"),
     (Name::Outliers, "outliers"),
 ];
@@ -47,6 +49,7 @@ pub const LENT: Lengths = Lengths {
     lower: MOST_SAMPLES,
     upper: MOST_SAMPLES,
     outlier: MOST_SAMPLES,
+    losses: MOST_SAMPLES,
 };
 
 /// Everything that can be lent, whole.
@@ -63,6 +66,7 @@ pub struct Memory {
     pub lower: Vec<f64>,
     pub upper: Vec<f64>,
     pub outlier: Vec<u8>,
+    pub losses: Vec<f64>,
 }
 
 /// What one call is lent.
@@ -78,6 +82,7 @@ pub struct Lent<'a> {
     pub lower: &'a mut [f64],
     pub upper: &'a mut [f64],
     pub outlier: &'a mut [u8],
+    pub losses: &'a mut [f64],
 }
 
 /// The places of one memory.
@@ -107,6 +112,7 @@ impl Name {
             Name::Errors => &mut lengths.errors,
             Name::Lower => &mut lengths.lower,
             Name::Upper => &mut lengths.upper,
+            Name::Losses => &mut lengths.losses,
             Name::Pruned => &mut lengths.pruned,
             Name::Outliers => &mut lengths.outlier,
         }
@@ -130,6 +136,7 @@ impl Memory {
             lower: floats(),
             upper: floats(),
             outlier: bytes(),
+            losses: floats(),
         }
     }
 
@@ -147,6 +154,7 @@ impl Memory {
             lower: &mut self.lower[..lengths.lower],
             upper: &mut self.upper[..lengths.upper],
             outlier: &mut self.outlier[..lengths.outlier],
+            losses: &mut self.losses[..lengths.losses],
         }
     }
 
@@ -161,6 +169,7 @@ impl Memory {
             Name::Errors => Places::Floats(&self.errors),
             Name::Lower => Places::Floats(&self.lower),
             Name::Upper => Places::Floats(&self.upper),
+            Name::Losses => Places::Floats(&self.losses),
             Name::Pruned => Places::Bytes(&self.pruned),
             Name::Outliers => Places::Bytes(&self.outlier),
         }
@@ -178,6 +187,7 @@ impl Memory {
             Name::Errors => &mut self.errors,
             Name::Lower => &mut self.lower,
             Name::Upper => &mut self.upper,
+            Name::Losses => &mut self.losses,
             Name::Pruned | Name::Outliers => return None,
         })
     }

@@ -66,6 +66,29 @@ fn pruning_number(rule: PruningRule, other: bool) -> u32 {
     }
 }
 
+/// The two lists of a report's settings. What is past the last setting is not read, and the last word may be
+/// left out where it is 0: in turn with the count.
+fn settings_lists(settings: Settings, count: usize) -> (Vec<u32>, Vec<f64>) {
+    let (bound, most) = bound_numbers(settings.bound);
+    // The bound is at most the count less 1, so that a greater degree is as good as the greatest.
+    let most = u32::try_from(most).unwrap_or(u32::MAX);
+    let criterion = criterion_number(settings.criterion);
+    let (confidence, score) = confidence_numbers(settings.confidence);
+    let (tolerance, value) = tolerance_numbers(settings.tolerance);
+    let pruning = pruning_number(settings.pruning, count % 3 == 0);
+    let mut words = vec![bound, most, criterion, confidence, tolerance];
+    let mut values = vec![score, value];
+    match count % 4 {
+        0 | 1 if pruning == 0 => {}
+        0 | 1 => words.push(pruning),
+        _ => {
+            words.extend([pruning, u32::MAX]);
+            values.push(f64::NAN);
+        }
+    }
+    (words, values)
+}
+
 /// A refusal, which packs nothing else, or what is answered.
 fn read(packed: u64, of: impl Fn(u64) -> Answer) -> Answer {
     match sys::refusal(packed) {
@@ -170,6 +193,30 @@ fn band_into(
     answer
 }
 
+/// Losses with so many places for their two numbers. They write two and none past them; refused ones write none.
+fn losses_into(places: usize, count: usize, lent: &mut Lent, settings: Settings) -> Answer {
+    let mut numbers = [UNWRITTEN; 3];
+    let (words, values) = settings_lists(settings, count);
+    let packed = book_read!(
+        sys::stakebook_losses,
+        lent,
+        (count, words.as_ptr(), words.len(), values.as_ptr(), values.len()),
+        (losses),
+        (numbers.as_mut_ptr(), places)
+    );
+    let answer = read(packed, |packed| {
+        assert!(packed < 256, "a degree in {packed:#x}");
+        Answer::Losses { degree: sys::degree(packed), total: numbers[0], score: numbers[1] }
+    });
+    let written = if let Answer::Losses { .. } = answer { 2 } else { 0 };
+    assert!(numbers[written..].iter().all(|&number| number == UNWRITTEN), "{numbers:?}");
+    answer
+}
+
+fn bits_of(places: &[f64]) -> Vec<u64> {
+    places.iter().map(|number| number.to_bits()).collect()
+}
+
 /// What is read at an offset into so many places: three are written and none past them, none at the end
 /// or where it is refused.
 fn read_into(places: usize, frame: &[u8], at: usize) -> (u64, [f64; 4]) {
@@ -206,6 +253,11 @@ impl Calls for Port {
         book(book_changed!(sys::stakebook_add, lent, (count, x, y, weight)))
     }
 
+    fn add_window(&self, count: usize, lent: Lent, sample: Sample) -> Answer {
+        let Sample { x, y, weight } = sample;
+        book(book_changed!(sys::stakebook_add_window, lent, (count, x, y, weight)))
+    }
+
     fn correct(&self, count: usize, lent: Lent, index: usize, y: f64) -> Answer {
         book(book_changed!(sys::stakebook_correct, lent, (count, index, y)))
     }
@@ -234,11 +286,11 @@ impl Calls for Port {
 
     /// polyfit's rule by either function, in turn with the count; by size by the one that takes lists.
     fn report(&self, count: usize, lent: Lent, settings: Settings) -> Answer {
-        let (bound, most) = bound_numbers(settings.bound);
-        let criterion = criterion_number(settings.criterion);
-        let (confidence, score) = confidence_numbers(settings.confidence);
-        let (tolerance, value) = tolerance_numbers(settings.tolerance);
         if settings.pruning == PruningRule::Positive && count % 2 == 0 {
+            let (bound, most) = bound_numbers(settings.bound);
+            let criterion = criterion_number(settings.criterion);
+            let (confidence, score) = confidence_numbers(settings.confidence);
+            let (tolerance, value) = tolerance_numbers(settings.tolerance);
             return report(book_read!(
                 sys::stakebook_report,
                 lent,
@@ -246,24 +298,22 @@ impl Calls for Port {
                 (coefficients, errors, pruned, lower, upper, outlier)
             ));
         }
-        // The bound is at most the count less 1, so that a greater degree is as good as the greatest.
-        let most = u32::try_from(most).unwrap_or(u32::MAX);
-        let pruning = pruning_number(settings.pruning, count % 3 == 0);
-        let words = [bound, most, criterion, confidence, tolerance, pruning, u32::MAX];
-        let values = [score, value, f64::NAN];
-        // What is past the last setting is not read; the last word may be left out where it is 0.
-        let (lent_words, lent_values) = match count % 4 {
-            0 | 1 if pruning == 0 => (5, 2),
-            0 | 1 => (6, 2),
-            _ => (7, 3),
-        };
-        let (words, values) = (&words[..lent_words], &values[..lent_values]);
+        let (words, values) = settings_lists(settings, count);
         report(book_read!(
             sys::stakebook_report_by,
             lent,
             (count, words.as_ptr(), words.len(), values.as_ptr(), values.len()),
             (coefficients, errors, pruned, lower, upper, outlier)
         ))
+    }
+
+    fn losses(&self, count: usize, mut lent: Lent, settings: Settings) -> Answer {
+        let before = [bits_of(lent.scratch), bits_of(lent.losses)];
+        let short = losses_into(1, count, &mut lent, settings);
+        let same = [bits_of(lent.scratch), bits_of(lent.losses)] == before;
+        assert!(short == Answer::Refused(1) && same, "one place for losses: {short:?}");
+        // More places than two are as good.
+        losses_into(2 + count % 2, count, &mut lent, settings)
     }
 
     fn validate(
@@ -293,9 +343,9 @@ impl Calls for Port {
         tolerance: Tolerance,
     ) -> Answer {
         let settings = (confidence_numbers(confidence), tolerance_numbers(tolerance));
-        let before: Vec<u64> = lent.scratch.iter().map(|number| number.to_bits()).collect();
+        let before = bits_of(lent.scratch);
         let short = band_into(2, count, &mut lent, at, settings);
-        let same = lent.scratch.iter().map(|number| number.to_bits()).eq(before);
+        let same = bits_of(lent.scratch) == before;
         assert!(short == Answer::Refused(1) && same, "two places for a band: {short:?}");
         band_into(3, count, &mut lent, at, settings)
     }

@@ -96,22 +96,16 @@ fn request(fields: &mut Fields) -> Read<Request> {
 fn call(word: &[u8], fields: &mut Fields) -> Read<Call> {
     Ok(match word {
         b"open" => Call::Open,
-        b"add" => {
-            Call::Add(Sample { x: fields.float()?, y: fields.float()?, weight: fields.weight()? })
-        }
+        b"add" => Call::Add(fields.sample()?),
+        b"window" => Call::AddWindow(fields.sample()?),
         b"correct" => Call::Correct { index: fields.number()?, y: fields.float()? },
         b"withdraw" => Call::Withdraw { index: fields.number()? },
         b"frame" => Call::AddFrame(fields.bytes()?),
         b"lines" => Call::AddLines(fields.bytes()?),
         b"carry" => Call::Carry,
         b"fit" => Call::Fit { degree: fields.number()? },
-        b"report" => Call::Report(Settings {
-            bound: fields.bound()?,
-            criterion: fields.criterion()?,
-            confidence: fields.confidence()?,
-            tolerance: fields.tolerance()?,
-            pruning: fields.pruning()?,
-        }),
+        b"report" => Call::Report(fields.settings()?),
+        b"losses" => Call::Losses(fields.settings()?),
         b"validate" => Call::Validate {
             folds: fields.number()?,
             bound: fields.bound()?,
@@ -213,6 +207,10 @@ impl<'a> Fields<'a> {
         Ok(one_value(digits.iter().fold(0, |pattern, digit| pattern << 4 | u64::from(*digit))))
     }
 
+    fn sample(&mut self) -> Read<Sample> {
+        Ok(Sample { x: self.float()?, y: self.float()?, weight: self.weight()? })
+    }
+
     /// No field at all is weight 1.
     fn weight(&mut self) -> Read<f64> {
         if self.rest.is_none() {
@@ -279,6 +277,16 @@ impl<'a> Fields<'a> {
             _ => return self.malformed(Message::NotAName),
         };
         Ok(of(self.float()?))
+    }
+
+    fn settings(&mut self) -> Read<Settings> {
+        Ok(Settings {
+            bound: self.bound()?,
+            criterion: self.criterion()?,
+            confidence: self.confidence()?,
+            tolerance: self.tolerance()?,
+            pruning: self.pruning()?,
+        })
     }
 
     /// No field at all is polyfit's rule.
@@ -358,12 +366,28 @@ fn weight_field(weight: f64) -> String {
     }
 }
 
+fn sample_fields(sample: Sample) -> String {
+    let Sample { x, y, weight } = sample;
+    format!("{} {}{}", float_field(x), float_field(y), weight_field(weight))
+}
+
 /// The space and the field of a rule; polyfit's has none.
 fn pruning_field(rule: PruningRule) -> &'static str {
     match rule {
         PruningRule::Positive => "",
         PruningRule::Size => " size",
     }
+}
+
+fn settings_fields(settings: Settings) -> String {
+    format!(
+        "{} {} {} {}{}",
+        bound_fields(settings.bound),
+        criterion_field(settings.criterion),
+        confidence_fields(settings.confidence),
+        tolerance_fields(settings.tolerance),
+        pruning_field(settings.pruning)
+    )
 }
 
 /// The space and the field of bytes; no bytes have none.
@@ -396,25 +420,16 @@ impl fmt::Display for Call {
     fn fmt(&self, f: &mut fmt::Formatter<'_>) -> fmt::Result {
         match self {
             Call::Open => write!(f, "open"),
-            Call::Add(Sample { x, y, weight }) => {
-                let weight = weight_field(*weight);
-                write!(f, "add {} {}{weight}", float_field(*x), float_field(*y))
-            }
+            Call::Add(sample) => write!(f, "add {}", sample_fields(*sample)),
+            Call::AddWindow(sample) => write!(f, "window {}", sample_fields(*sample)),
             Call::Correct { index, y } => write!(f, "correct {index} {}", float_field(*y)),
             Call::Withdraw { index } => write!(f, "withdraw {index}"),
             Call::AddFrame(bytes) => write!(f, "frame{}", bytes_field(bytes)),
             Call::AddLines(text) => write!(f, "lines{}", bytes_field(text)),
             Call::Carry => write!(f, "carry"),
             Call::Fit { degree } => write!(f, "fit {degree}"),
-            Call::Report(settings) => write!(
-                f,
-                "report {} {} {} {}{}",
-                bound_fields(settings.bound),
-                criterion_field(settings.criterion),
-                confidence_fields(settings.confidence),
-                tolerance_fields(settings.tolerance),
-                pruning_field(settings.pruning)
-            ),
+            Call::Report(settings) => write!(f, "report {}", settings_fields(*settings)),
+            Call::Losses(settings) => write!(f, "losses {}", settings_fields(*settings)),
             Call::Validate { folds, bound, criterion } => {
                 let criterion = criterion_field(*criterion);
                 write!(f, "validate {folds} {} {criterion}", bound_fields(*bound))
@@ -501,6 +516,11 @@ mod tests {
             (&format!("add {ONE} {ONE} 2"), "field 4: not a float"),
             (&format!("add {ONE} {ONE} {ONE}"), "fits"),
             (&format!("add {ONE} {ONE} {ONE} {ONE}"), "field 5: one too many"),
+            (&format!("window {ONE}"), "field 3: missing"),
+            (&format!("window {ONE} {ONE}"), "fits"),
+            (&format!("window {ONE} {ONE} 2"), "field 4: not a float"),
+            (&format!("window {ONE} {ONE} {ONE} 100"), "field 5: one too many"),
+            ("windows", "field 1: not a call"),
             ("lent ws 4200", "fits"),
             ("show ws 0 4200", "fits"),
             (&format!("put ws 4199 {ONE}"), "fits"),
@@ -533,6 +553,12 @@ mod tests {
                 &format!("report relaxed 0 aic p95 {ONE} none {ONE} size 1"),
                 "field 10: one too many",
             ),
+            (&format!("losses relaxed 0 aic p95 {ONE} none {ONE}"), "fits"),
+            (&format!("losses relaxed 0 aic p95 {ONE} none {ONE} sign"), "field 9: not a name"),
+            ("losses relaxed", "field 3: missing"),
+            ("loss", "field 1: not a call"),
+            ("lent losses 4200", "fits"),
+            (&format!("put losses 4199 {ONE}"), "fits"),
             ("validate 3 custom 2 bic", "fits"),
             ("validate 3 custom 2 bic 0", "field 6: one too many"),
         ];
@@ -590,6 +616,8 @@ mod tests {
             format!("add {ONE} 8000000000000000"),
             format!("add {ONE} {ONE} 0000000000000001"),
             format!("add {ONE} {ONE} 7FF8000000000000"),
+            format!("window {ONE} 8000000000000000"),
+            format!("window {ONE} {ONE} 0000000000000001"),
             "lent ws 5".to_string(),
             format!("correct 12 {ONE}"),
             "withdraw 0".to_string(),
@@ -601,6 +629,8 @@ mod tests {
             "fit 15".to_string(),
             format!("report custom 7 bic p999 0000000000000000 measurement {ONE}"),
             format!("report custom 7 bic p999 0000000000000000 measurement {ONE} size"),
+            format!("losses custom 7 bic p999 0000000000000000 measurement {ONE}"),
+            format!("losses custom 7 bic p999 0000000000000000 measurement {ONE} size"),
             "validate 10 aggressive 0 aic".to_string(),
             format!("band {ONE} 2 custom {ONE} none 0000000000000000"),
         ];

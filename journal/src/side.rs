@@ -15,6 +15,7 @@ pub trait Calls {
 
     fn open(&self, lent: Lent) -> Answer;
     fn add(&self, count: usize, lent: Lent, sample: Sample) -> Answer;
+    fn add_window(&self, count: usize, lent: Lent, sample: Sample) -> Answer;
     fn correct(&self, count: usize, lent: Lent, index: usize, y: f64) -> Answer;
     fn withdraw(&self, count: usize, lent: Lent, index: usize) -> Answer;
     fn add_frame(&self, count: usize, lent: Lent, frame: &[u8]) -> Answer;
@@ -22,6 +23,7 @@ pub trait Calls {
     fn carry(&self, count: usize, lent: Lent) -> Answer;
     fn fit(&self, count: usize, lent: Lent, degree: usize) -> Answer;
     fn report(&self, count: usize, lent: Lent, settings: Settings) -> Answer;
+    fn losses(&self, count: usize, lent: Lent, settings: Settings) -> Answer;
     fn validate(
         &self,
         count: usize,
@@ -56,6 +58,7 @@ impl<T: Calls> Side for T {
         match call {
             Call::Open => self.open(lent),
             Call::Add(sample) => self.add(count, lent, *sample),
+            Call::AddWindow(sample) => self.add_window(count, lent, *sample),
             Call::Correct { index, y } => self.correct(count, lent, *index, *y),
             Call::Withdraw { index } => self.withdraw(count, lent, *index),
             Call::AddFrame(frame) => self.add_frame(count, lent, frame),
@@ -63,6 +66,7 @@ impl<T: Calls> Side for T {
             Call::Carry => self.carry(count, lent),
             Call::Fit { degree } => self.fit(count, lent, *degree),
             Call::Report(settings) => self.report(count, lent, *settings),
+            Call::Losses(settings) => self.losses(count, lent, *settings),
             Call::Validate { folds, bound, criterion } => {
                 self.validate(count, lent, *folds, *bound, *criterion)
             }
@@ -101,6 +105,10 @@ impl Calls for Judge {
 
     fn add(&self, count: usize, lent: Lent, sample: Sample) -> Answer {
         answer(book::add(count, &mut memory!(lent), sample), Answer::Book)
+    }
+
+    fn add_window(&self, count: usize, lent: Lent, sample: Sample) -> Answer {
+        answer(book::add_window(count, &mut memory!(lent), sample), Answer::Book)
     }
 
     fn correct(&self, count: usize, lent: Lent, index: usize, y: f64) -> Answer {
@@ -145,6 +153,12 @@ impl Calls for Judge {
             outliers: a.outliers,
             pruned: a.pruned,
         })
+    }
+
+    fn losses(&self, count: usize, lent: Lent, settings: Settings) -> Answer {
+        let memory = memory!(lent);
+        let result = book::losses(count, &memory, settings, lent.scratch, lent.losses);
+        answer(result, |a| Answer::Losses { degree: a.degree, total: a.total, score: a.score })
     }
 
     fn validate(

@@ -1,5 +1,6 @@
 //! The lists of tests/ at the top of the repository: their answers are the judge's and the proved
-//! library's, and the lists of edges, of lines and of weights meet the edges that their comments name.
+//! library's, and the lists of edges, of lines, of weights, of windows and of losses meet the edges
+//! that their comments name.
 
 use std::path::PathBuf;
 use std::process::Command;
@@ -27,7 +28,7 @@ fn printed(side: &dyn Side, name: &str) -> String {
 }
 
 fn check_answers(side: &dyn Side) {
-    for name in ["edges", "season", "lines", "weights", "fixed"] {
+    for name in ["edges", "season", "lines", "weights", "windows", "losses", "fixed"] {
         let answers = String::from_utf8(file(&format!("{name}.answers"))).unwrap();
         let printed = printed(side, name);
         for (number, (kept, new)) in answers.lines().zip(printed.lines()).enumerate() {
@@ -49,7 +50,7 @@ fn answers_are_the_librarys() {
 
 #[test]
 fn lists_are_as_made() {
-    for name in ["edges", "season", "lines", "weights"] {
+    for name in ["edges", "season", "lines", "weights", "windows", "losses"] {
         let made = Command::new(env!("CARGO_BIN_EXE_lists")).arg(name).output().unwrap();
         assert!(made.stdout == file(&format!("{name}.calls")), "{name}.calls");
     }
@@ -108,7 +109,7 @@ impl Edge {
     /// The samples added one by one.
     fn samples(&self) -> Vec<Sample> {
         let added = |request| match request {
-            Request::Call(Call::Add(sample)) => Some(sample),
+            Request::Call(Call::Add(sample) | Call::AddWindow(sample)) => Some(sample),
             _ => None,
         };
         self.requests().into_iter().filter_map(added).collect()
@@ -922,17 +923,17 @@ fn the_shortest_of_three_columns() {
 #[test]
 fn weights_in_the_column() {
     let reads = weights("reads: a weight below");
-    for call in ["fit", "report", "band"] {
+    for call in ["fit", "report", "losses", "band"] {
         assert_eq!(numbers(&reads.of(call)), [4, 4, 1, 1].repeat(3), "{call}");
     }
     // By both criteria.
     assert_eq!(numbers(&reads.of("validate")), [4, 4, 4, 4, 1, 1, 1, 1].repeat(3));
     let nobodys = weights("reads: at the count");
-    for call in ["fit", "report", "validate", "band"] {
+    for call in ["fit", "report", "losses", "validate", "band"] {
         assert!(nobodys.of(call).iter().all(|answer| !answer.starts_with("refused")), "{call}");
     }
     let read = weights("as they are: weights of 0");
-    for call in ["report", "validate", "band", "correct", "withdraw", "fit"] {
+    for call in ["report", "losses", "validate", "band", "correct", "withdraw", "fit"] {
         assert!(read.of(call).iter().all(|answer| !answer.starts_with("refused")), "{call}");
     }
     for (ws, weight) in read.shown("ws").iter().zip([0.0f64, -0.0, -0.25]) {
@@ -967,6 +968,266 @@ fn fields_of_weights() {
     ];
     assert_eq!(messages, expected);
     assert_eq!(part.shown("ws")[0], [0.75f64.to_bits(), NAN_BITS]);
+}
+
+/// A part of the list of windows.
+fn windows(comment: &str) -> Edge {
+    part("windows.calls", comment)
+}
+
+#[test]
+fn window_is_a_withdrawal_and_an_add() {
+    let (season, by_hand) = (windows("season: "), windows("by hand: "));
+    assert_eq!(season.of("window"), by_hand.of("add"));
+    // Once the book is full, nothing older stands past the count.
+    for name in ["xs", "ys", "ws"] {
+        assert_eq!(season.shown(name)[4..], by_hand.shown(name)[4..], "{name}");
+    }
+    for name in ["sums", "errors", "lower", "upper", "outliers"] {
+        assert_eq!(season.shown(name), by_hand.shown(name), "{name}");
+    }
+    assert_eq!(season.shown("ws")[7], bits_of(&[1.0, 0.5, 1.0, 3.0, 1.0, 77.0]));
+    let latest = &season.samples()[3..];
+    assert_eq!(season.shown("sums")[0][..272], bits_of(&folded_afresh(latest)));
+}
+
+#[test]
+fn windows_of_each_length() {
+    assert_eq!(numbers(&windows("no places: ").of("window")), [5, 15, 4, 1, 1, 1].repeat(3));
+    let one = windows("one: ");
+    assert_eq!(one.of("window"), ["book 1"; 3]);
+    for (sums, sample) in one.shown("sums").iter().zip(one.samples()) {
+        assert_eq!(sums[..], bits_of(&folded_afresh(&[sample]))[..3]);
+    }
+    for name in ["xs", "ys", "ws"] {
+        let two = windows(&format!("two: {name}"));
+        assert_eq!(two.of("window"), ["book 1", "book 2", "book 2", "book 2"]);
+        assert_eq!(two.shown("sums")[0], bits_of(&folded_afresh(&two.samples()[2..])));
+    }
+    let hundred = windows("a hundred: ");
+    assert_eq!(
+        hundred.of("window")[98..],
+        ["book 99", "book 100", "book 100", "book 100", "book 100"]
+    );
+    let xs = hundred.shown("xs");
+    assert_eq!(
+        (&xs[6][..], &xs[7][..]),
+        (&bits_of(&[3.0, 4.0])[..], &bits_of(&[101.0, 102.0, 77.0])[..])
+    );
+    assert_eq!(hundred.shown("sums")[0], bits_of(&folded_afresh(&hundred.samples()[3..])));
+    for length in [4096, 4199] {
+        let most = windows(&format!("most: 4,096 in columns of {length}"));
+        assert_eq!(most.of("window"), ["book 4096"; 3]);
+        assert_eq!(most.shown("xs")[5], bits_of(&[0.0, 1.0, 2.0, 78.0]));
+        assert_eq!(most.shown("xs")[4], bits_of(&[2.0, 3.0, 4.0]));
+        assert_eq!(numbers(&most.of("add")), [5]);
+    }
+    assert_eq!(windows("most: a count").of("window"), ["refused 1"]);
+}
+
+#[test]
+fn refused_windows_withdraw_nothing() {
+    let refused = windows("refused: ");
+    let numbered = numbers(&refused.of("window"));
+    assert_eq!(numbered[..10], [0, 0, 4, 4, 4, 4, 4, 15, 15, 15]);
+    assert_eq!((&numbered[10..20], numbered[20]), (&[1; 10][..], 0));
+    let first = &refused.samples()[..2];
+    let xs: Vec<f64> = first.iter().map(|sample| sample.x).chain([77.0]).collect();
+    assert_eq!(refused.shown("xs")[0], bits_of(&xs));
+    assert_eq!(refused.shown("sums")[0], bits_of(&folded_afresh(first))[..3]);
+    assert_eq!(refused.shown("ws")[1][..2], bits_of(&[1.0, 5e-324]));
+}
+
+#[test]
+fn plain_calls_on_full_windows() {
+    let full = windows("full: an add");
+    assert_eq!(numbers(&full.of("add")), [5, 5]);
+    assert_eq!(numbers(&full.of("frame")), [5, 5, 0]);
+    assert_eq!(numbers(&full.of("lines")), [5, 5, 0]);
+    let room = windows("full: a withdrawal");
+    assert_eq!(numbers(&room.of("frame")), [5, 0, 5]);
+    assert_eq!(room.of("window"), ["book 3"]);
+    assert_eq!(room.shown("xs")[0], bits_of(&[4.0, 5.0, 5.0, 77.0]));
+    let mixed = windows("mixed: ");
+    assert_eq!(numbers(&mixed.of("correct")), [0, 6]);
+    assert_eq!(numbers(&mixed.of("withdraw")), [0, 6]);
+    assert_eq!(mixed.shown("xs")[2], bits_of(&[5.0, 7.0, 8.0, 1.0, 77.0]));
+    assert_eq!(mixed.shown("ws")[3], bits_of(&[1.0, 1.0, 1.0, 1.0, 77.0]));
+}
+
+#[test]
+fn windows_are_folded_afresh() {
+    let edge = windows("afresh: the sums less");
+    let samples = edge.samples();
+    let mut less = folded_afresh(&samples[..3]);
+    for (place, product) in less.iter_mut().zip(folded_afresh(&samples[..1])) {
+        *place -= product;
+    }
+    judge::sums::add(&mut less, samples[3]);
+    let sums = &edge.shown("sums")[0];
+    assert_eq!(*sums, bits_of(&folded_afresh(&samples[1..])));
+    assert!(bits_of(&less)[..256] != sums[..256] && bits_of(&less)[256..] != sums[256..]);
+    let put = windows("afresh: sums put by hand");
+    let sums = put.shown("sums");
+    assert_eq!((sums[0][0], sums[0][256]), (78.0f64.to_bits(), NAN_BITS));
+    assert_eq!(sums[1], bits_of(&folded_afresh(&put.samples()[1..])));
+    assert_eq!(numbers(&windows("afresh: what is not finite").of("fit")), [4, 0].repeat(3));
+}
+
+#[test]
+fn fields_of_windows() {
+    let part = windows("fields: ");
+    let messages: Vec<&str> =
+        part.0.iter().filter_map(|(_, printed)| Some(printed.split_once(": ")?.1)).collect();
+    let expected = [
+        "field 2: missing",
+        "field 2: not a float",
+        "field 3: missing",
+        "field 4: not a float",
+        "field 4: not a float",
+        "field 5: one too many",
+        "field 2: not a float",
+        "field 1: not a call",
+    ];
+    assert_eq!(messages, expected);
+    assert_eq!(part.of("window")[7..], ["book 1", "book 2"]);
+}
+
+/// A part of the list of losses.
+fn losses(comment: &str) -> Edge {
+    part("losses.calls", comment)
+}
+
+/// The degree, the total and the score of each answer that is one.
+fn answered(edge: &Edge) -> Vec<(usize, f64, f64)> {
+    let number = |field: &str| f64::from_bits(u64::from_str_radix(field, 16).unwrap());
+    let of = |answer: &&str| {
+        let fields: Vec<&str> = answer.strip_prefix("losses ")?.split(' ').collect();
+        Some((fields[0].parse().unwrap(), number(fields[1]), number(fields[2])))
+    };
+    edge.of("losses").iter().filter_map(of).collect()
+}
+
+fn floats(bits: &[u64]) -> Vec<f64> {
+    bits.iter().map(|&bits| f64::from_bits(bits)).collect()
+}
+
+#[test]
+fn losses_add_up_to_the_total() {
+    for comment in ["season: ", "by hand: ", "chosen: ", "total: ", "sums: ", "bounds: ", "longest"]
+    {
+        let edge = losses(comment);
+        let answers = answered(&edge);
+        assert!(answers.len() == edge.of("losses").len() && !answers.is_empty());
+        let degrees = edge.of("report");
+        for (i, ((degree, total, _), shown)) in answers.iter().zip(edge.shown("losses")).enumerate()
+        {
+            let shown = floats(&shown);
+            let sum = shown[..shown.len() - 1].iter().fold(0.0, |sum, loss| sum + loss);
+            assert_eq!(sum.to_bits(), total.to_bits(), "{comment}");
+            // The report's choice.
+            if let Some(report) = degrees.get(i) {
+                assert!(report.starts_with(&format!("report {degree} ")), "{comment}");
+            }
+        }
+    }
+}
+
+#[test]
+fn losses_by_hand() {
+    let line = losses("by hand: document 01");
+    assert_eq!(line.shown("losses")[0], bits_of(&[0.0, 0.0, 0.0, 0.0, 0.0, 605.0]));
+    assert_eq!(line.shown("scratch")[0], bits_of(&[0.0, 0.0, 0.0, 0.0, 0.0, 505.0]));
+    let four = losses("by hand: 0, 0, 4 and 8");
+    let linear = |size: f64| HUBER_CONST * (size - 0.5 * HUBER_CONST);
+    let expected = [linear(3.0), linear(3.0), 0.5, linear(5.0)];
+    assert_eq!(four.shown("losses")[0][..4], bits_of(&expected));
+    let mean = expected.iter().fold(0.0, |sum, loss| sum + loss) / 4.0;
+    let scores: Vec<f64> = answered(&four).iter().map(|answer| answer.2).collect();
+    assert!((scores[0] - (4.0 * mean.ln() + 2.0)).abs() < 1e-12);
+    assert!((scores[1] - (4.0 * mean.ln() + 4f64.ln())).abs() < 1e-12);
+    let weighted = losses("by hand: weights");
+    assert_eq!(weighted.shown("losses")[0][..2], bits_of(&[linear(3.0), 0.5]));
+}
+
+#[test]
+fn losses_of_the_chosen_degree() {
+    let edge = losses("chosen: degree 0, though");
+    let samples = edge.samples();
+    let (degree, total, score) = answered(&edge)[0];
+    let scores = fit::scores(&samples, &folded_afresh(&samples), 1, Criterion::Aic);
+    assert_eq!((degree, Some(score)), (0, scores[0]));
+    let line = fit::solved(&samples, &folded_afresh(&samples), 1).unwrap();
+    let of_line = fit::total_loss(&fit::losses(&fit::residuals(&samples, &line)));
+    assert!(scores[1] < scores[0] && total > of_line && of_line > 0.0);
+    assert_eq!(answered(&losses("chosen: T11"))[0].1, 0.0);
+    assert_eq!(answered(&losses("chosen: degree 0 is unsolved"))[0].0, 1);
+    let order = &losses("total: in index order").shown("losses")[0];
+    let order = floats(&order[..11]);
+    let backwards = order.iter().rev().fold(0.0, |sum, loss| sum + loss);
+    assert!(backwards != fit::total_loss(&order));
+    let last = floats(&losses("total: without the last").shown("losses")[0]);
+    assert!(fit::total_loss(&last[..6]) != fit::total_loss(&last[..7]));
+    let lent = losses("sums: those that are lent");
+    let residuals: Vec<f64> = lent.samples().iter().map(|sample| sample.y - 250.0).collect();
+    assert_eq!(floats(&lent.shown("losses")[0])[..8], fit::losses(&residuals));
+}
+
+#[test]
+fn losses_are_refused_as_a_report_is() {
+    let same = losses("settings: confidence");
+    let answers = same.of("losses");
+    assert!(answers.len() == 4 && answers.iter().all(|answer| *answer == answers[0]));
+    assert_eq!(numbers(&losses("settings: and are judged").of("losses")), [4; 3]);
+    let short = losses("short: each memory");
+    assert_eq!(numbers(&short.of("losses")), [1, 1, 1, 4, 0, 0].repeat(4));
+    let unwritten: Vec<f64> = (0..4).map(|i| 600.0 + f64::from(i)).collect();
+    assert!(short.shown("losses").iter().step_by(2).all(|shown| *shown == bits_of(&unwritten)));
+    let unjudged = losses("short: what only a report writes");
+    assert_eq!(
+        (numbers(&unjudged.of("report")), numbers(&unjudged.of("losses"))),
+        (vec![1], vec![0])
+    );
+    assert_eq!(numbers(&losses("short: no samples").of("losses")), [1; 3]);
+    let early = losses("early: ");
+    assert_eq!(numbers(&early.of("losses")), [7, 4, 8, 4, 4, 4, 4, 4, 4, 4]);
+    assert_eq!(
+        (early.shown("losses")[0][0], early.shown("scratch")[0][0]),
+        (600f64.to_bits(), 500f64.to_bits())
+    );
+    for (comment, number, n) in
+        [("late: 11, where", 11, 2), ("late: 11 with", 11, 3), ("late: 12", 12, 3)]
+    {
+        let late = losses(comment);
+        assert_eq!(
+            (numbers(&late.of("report")), numbers(&late.of("losses"))),
+            (vec![number], vec![number])
+        );
+        assert_eq!(late.shown("losses")[0][0], 600f64.to_bits());
+        assert!(late.shown("scratch")[0][..n].iter().all(|place| *place == 0));
+        assert_eq!(late.shown("scratch")[0][n], (500.0 + n as f64).to_bits());
+    }
+}
+
+#[test]
+fn fields_of_losses() {
+    let part = losses("fields: ");
+    let messages: Vec<&str> =
+        part.0.iter().filter_map(|(_, printed)| Some(printed.split_once(": ")?.1)).collect();
+    let expected = [
+        "field 2: missing",
+        "field 2: not a name",
+        "field 8: missing",
+        "field 9: not a name",
+        "field 9: not a name",
+        "field 10: one too many",
+        "field 1: not a call",
+        "field 1: not a call",
+        "field 3: too large",
+        "field 3: too large",
+    ];
+    assert_eq!(messages, expected);
+    assert_eq!(answered(&part).len(), 3);
 }
 
 #[test]

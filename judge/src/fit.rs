@@ -77,17 +77,26 @@ pub fn losses(residuals: &[f64]) -> Vec<f64> {
     residuals.iter().map(|&r| huber_loss(r, deviation)).collect()
 }
 
+/// The losses in index order from +0.
+pub fn total_loss(losses: &[f64]) -> f64 {
+    let mut total = 0.0;
+    for loss in losses {
+        total += loss;
+    }
+    total
+}
+
 /// AIC or BIC, with k and the number n of samples scored.
 pub fn score(criterion: Criterion, residuals: &[f64], k: usize) -> f64 {
     if residuals.is_empty() {
         return f64::NAN;
     }
-    let mut total = 0.0;
-    for loss in losses(residuals) {
-        total += loss;
-    }
-    let n = residuals.len() as f64;
-    let k = k as f64;
+    score_of(criterion, total_loss(&losses(residuals)), residuals.len(), k)
+}
+
+/// The same of the losses' total.
+pub fn score_of(criterion: Criterion, total: f64, n: usize, k: usize) -> f64 {
+    let (n, k) = (n as f64, k as f64);
     let likelihood = ln(maximum(total / n, EPSILON));
     match criterion {
         Criterion::Aic => {
@@ -231,13 +240,28 @@ pub fn fit(samples: &[Sample], sums: &[f64], degree: usize) -> Result<Vec<f64>, 
     solved(samples, sums, degree).ok_or(10)
 }
 
-/// A report; 11 where no degree is chosen, 12 where an inverse pivot fails.
-pub fn report(samples: &[Sample], sums: &[f64], settings: Settings) -> Result<Report, u8> {
+/// What a report chooses.
+struct Choice {
+    degree: usize,
+    solved: usize,
+    coefficients: Vec<f64>,
+    covariance: Matrix,
+}
+
+/// A report's choice; 11 where no degree is chosen, 12 where an inverse pivot fails.
+fn choice(samples: &[Sample], sums: &[f64], settings: Settings) -> Result<Choice, u8> {
     let bound = max_degree(settings.bound, samples.len());
     let scores = scores(samples, sums, bound, settings.criterion);
     let degree = chosen(&scores).ok_or(11)?;
     let coefficients = solved(samples, sums, degree).ok_or(11)?;
     let covariance = covariance(samples, sums, &coefficients).ok_or(12)?;
+    let solved = scores.iter().flatten().count();
+    Ok(Choice { degree, solved, coefficients, covariance })
+}
+
+/// A report, or the number by which its choice is refused.
+pub fn report(samples: &[Sample], sums: &[f64], settings: Settings) -> Result<Report, u8> {
+    let Choice { degree, solved, coefficients, covariance } = choice(samples, sums, settings)?;
     let errors = errors(&covariance);
     let (confidence, tolerance) = (settings.confidence, settings.tolerance);
     let pruned = pruned(settings.pruning, &coefficients, &errors, samples.len(), confidence);
@@ -247,8 +271,26 @@ pub fn report(samples: &[Sample], sums: &[f64], settings: Settings) -> Result<Re
     };
     let bands: Vec<Band> = samples.iter().map(band_of).collect();
     let outliers = samples.iter().zip(&bands).map(|(&s, &band)| is_outlier(s, band)).collect();
-    let solved = scores.iter().flatten().count();
     Ok(Report { degree, solved, coefficients, errors, pruned, bands, outliers })
+}
+
+/// The losses behind a report's choice (document 02, E12): of each sample at the chosen degree, their
+/// total, and the score made of it.
+#[derive(Debug, Clone, PartialEq)]
+pub struct Losses {
+    pub degree: usize,
+    pub losses: Vec<f64>,
+    pub total: f64,
+    pub score: f64,
+}
+
+/// The losses behind a report's choice, or the number by which the report is refused.
+pub fn chosen_losses(samples: &[Sample], sums: &[f64], settings: Settings) -> Result<Losses, u8> {
+    let Choice { degree, coefficients, .. } = choice(samples, sums, settings)?;
+    let losses = losses(&residuals(samples, &coefficients));
+    let total = total_loss(&losses);
+    let score = score_of(settings.criterion, total, samples.len(), coefficient_count(degree));
+    Ok(Losses { degree, losses, total, score })
 }
 
 /// The band at one x and degree; 10 where the degree is unsolved, 12 where an inverse pivot fails.

@@ -1,7 +1,7 @@
 //! Each call on small lent memory: what it answers, what it writes, and by which number it is
 //! refused where several would do. The expected values are worked out by hand from the documents.
 
-use judge::book::{self, Memory, ReportAnswer, ReportMemory};
+use judge::book::{self, LossesAnswer, Memory, ReportAnswer, ReportMemory};
 use judge::fit::{Band, Criterion, PruningRule, Settings};
 use judge::frame::{encode, encode_weighted};
 use judge::numbers::bits;
@@ -49,6 +49,7 @@ struct Book {
     lower: Vec<f64>,
     upper: Vec<f64>,
     outlier: Vec<u8>,
+    losses: Vec<f64>,
 }
 
 impl Book {
@@ -67,6 +68,7 @@ impl Book {
             lower: vec![MARK; capacity + 1],
             upper: vec![MARK; capacity + 1],
             outlier: vec![77; capacity + 1],
+            losses: vec![MARK; capacity + 1],
         };
         book.count = book::open(&mut book.sums).unwrap();
         for &(x, y) in samples {
@@ -92,6 +94,12 @@ impl Book {
     fn add_weighted(&mut self, sample: Sample) -> Result<usize, u8> {
         let count = self.count;
         let answer = book::add(count, &mut self.memory(), sample);
+        self.keep(answer)
+    }
+
+    fn add_window(&mut self, sample: Sample) -> Result<usize, u8> {
+        let count = self.count;
+        let answer = book::add_window(count, &mut self.memory(), sample);
         self.keep(answer)
     }
 
@@ -139,6 +147,11 @@ impl Book {
             outlier: &mut self.outlier,
         };
         book::report(self.count, &memory, settings, &mut self.scratch, &mut out)
+    }
+
+    fn losses(&mut self, settings: Settings) -> Result<LossesAnswer, u8> {
+        let memory = memory!(self);
+        book::losses(self.count, &memory, settings, &mut self.scratch, &mut self.losses)
     }
 
     fn validate(&mut self, folds: usize, bound: usize) -> Result<usize, u8> {
@@ -464,6 +477,79 @@ fn report_by_size_with_a_negative_zero_error() {
     assert_eq!(size.pruned, positive.pruned + places.len());
 }
 
+/// Document 02, E12. Of y 0, 0, 4 and 8 the mean is 3: sizes 3, 3, 1 and 5, their median 3, distances 0, 0, 2
+/// and 2, their median 1. So 1 is below 1.345 and the rest are above.
+#[test]
+fn losses_of_the_chosen_degree() {
+    let mut book = Book::new(4, &[(0.0, 0.0), (0.0, 0.0), (0.0, 4.0), (0.0, 8.0)]);
+    let linear = |size: f64| 1.345 * (size - 0.5 * 1.345);
+    let losses = [linear(3.0), linear(3.0), 0.5, linear(5.0)];
+    let total = ((losses[0] + losses[1]) + losses[2]) + losses[3];
+    let answer = book.losses(AIC_1).unwrap();
+    assert_eq!((answer.degree, answer.total), (0, total));
+    assert_eq!((&book.losses[..4], book.losses[4]), (&losses[..], MARK));
+    let likelihood = judge::numbers::ln(total / 4.0);
+    assert_eq!(answer.score, 4.0 * likelihood + 2.0);
+    let bic = Settings { criterion: Criterion::Bic, ..AIC_1 };
+    let score = 4.0 * likelihood + judge::numbers::ln(4.0);
+    assert_eq!(book.losses(bic), Ok(LossesAnswer { degree: 0, total, score }));
+    // Scratch as a report leaves it; and no weight is seen by a loss, but by the curve.
+    assert_eq!((&book.scratch[..4], book.scratch[4]), (&[0.0; 4][..], MARK));
+    book.weight[3] = 5.0;
+    assert_eq!(book.losses(AIC_1).map(|answer| answer.total), Ok(total));
+    assert!(book.coefficients.iter().all(|c| *c == MARK));
+}
+
+/// As a report is refused; each memory of its own one place too short.
+#[test]
+fn losses_are_refused_as_a_report() {
+    let mut book = Book::new(17, &[]);
+    let nan_score = Settings { confidence: Confidence::Custom(NAN), ..AIC_1 };
+    let nan_tolerance = Settings { tolerance: Tolerance::Variance(NAN), ..AIC_1 };
+    let wide = Settings { bound: DegreeBound::Custom(20), ..AIC_1 };
+    assert_eq!(book.losses(AIC_1), Err(7));
+    assert_eq!(book.losses(nan_score), Err(4));
+    assert_eq!(book.losses(nan_tolerance), Err(4));
+    for i in 0..17 {
+        book.add(f64::from(i), 1.0).unwrap();
+    }
+    assert_eq!(book.losses(wide), Err(8));
+    book.y[3] = INFINITY;
+    assert_eq!(book.losses(wide), Err(4));
+    assert!(book.scratch.iter().all(|v| *v == MARK));
+    let shorten: [fn(&mut Book); 4] = [
+        |book| book.sums.truncate(PLACES - 1),
+        |book| book.scratch.truncate(2),
+        |book| book.losses.truncate(2),
+        |book| book.weight.truncate(2),
+    ];
+    for shorten in shorten {
+        let mut book = Book::new(3, &LINE);
+        // What only a report writes is not judged.
+        (book.coefficients, book.lower, book.outlier) = (vec![], vec![], vec![]);
+        assert!(book.losses(AIC_1).is_ok());
+        book.scratch.fill(MARK);
+        shorten(&mut book);
+        assert_eq!(book.losses(nan_score), Err(1));
+        assert!(book.scratch.iter().all(|v| *v == MARK));
+    }
+}
+
+/// 11 and 12 where a report has them; scratch is cleared, and no loss is written.
+#[test]
+fn losses_without_a_report() {
+    let mut book = Book::new(2, &[(0.0, f64::MAX), (0.0, f64::MAX)]);
+    assert_eq!((book.report(AIC_1), book.losses(AIC_1)), (Err(11), Err(11)));
+    assert_eq!((&book.scratch[..2], &book.losses[..2]), (&[0.0; 2][..], &[MARK; 2][..]));
+    let mut book = Book::new(2, &LINE[..2]);
+    let (p, above) = (1.0 / (1u64 << 26) as f64, 1.0 + 1.0 / 1024.0);
+    (book.sums[0], book.sums[1]) = (f64::EPSILON, p);
+    (book.sums[16], book.sums[17]) = (-p * above, -1.0);
+    (book.sums[256], book.sums[257]) = (f64::EPSILON + 2.0 * p, -p * above - 2.0);
+    assert_eq!((book.losses(AIC_1), book.report(AIC_1)), (Err(12), Err(12)));
+    assert_eq!((&book.scratch[..2], &book.losses[..2]), (&[0.0; 2][..], &[MARK; 2][..]));
+}
+
 #[test]
 fn validate_answers_the_single_fit() {
     let mut book = Book::new(5, &[(0.0, 0.0), (1.0, 1.0), (2.0, 2.0), (3.0, 3.0), (4.0, 4.0)]);
@@ -719,6 +805,72 @@ fn capacity_by_the_weights() {
     assert_eq!((book.correct(0, 1.0), book.withdraw(0)), (Err(1), Err(1)));
     assert_eq!((book.fit(1), book.validate(2, 1)), (Err(1), Err(1)));
     assert_eq!((book.report(AIC_1), book.band(0.0, 1)), (Err(1), Err(1)));
+}
+
+/// Document 02, E11: with room it is an add; at a full book sample 0 goes first, and all sums are folded afresh.
+#[test]
+fn window_keeps_the_newest() {
+    let mut book = Book::new(3, &[]);
+    for (i, &(x, y)) in LINE.iter().enumerate() {
+        assert_eq!(book.add_window(Sample::unweighted(x, y)), Ok(i + 1));
+    }
+    assert!(book.is_folded(&LINE));
+    book.sums[0] = MARK;
+    assert_eq!(book.add_window(weighing(7.0, 8.0, 1.0)), Ok(3));
+    assert_eq!((&book.x[..], &book.y[..]), (&[1.0, 2.0, 7.0][..], &[3.0, 5.0, 8.0][..]));
+    assert!(book.is_folded(&[LINE[1], LINE[2], (7.0, 8.0)]));
+    // Frames, lines and plain adds still find no room.
+    assert_eq!(book.add(9.0, 9.0), Err(5));
+    assert_eq!(book.add_frame(&encode(&[Sample::unweighted(9.0, 9.0)])), Err(5));
+    assert_eq!(book.add_lines("9 9\n"), Err(5));
+    // Room again: the place past the count held what the withdrawal left.
+    assert_eq!((book.withdraw(1), book.x[2]), (Ok(2), 7.0));
+    assert_eq!(book.add_window(weighing(9.0, 9.0, 0.5)), Ok(3));
+    assert_eq!((&book.x[..], &book.weight[..]), (&[1.0, 7.0, 9.0][..], &[1.0, 1.0, 0.5][..]));
+}
+
+/// A refused one withdraws nothing; 5 comes where capacity is zero, and nowhere else.
+#[test]
+fn window_is_refused_in_order() {
+    let mut book = Book::new(2, &LINE[..2]);
+    let wrong = [
+        (weighing(NAN, 1.0, 0.0), 4),
+        (weighing(1.0, INFINITY, 1.0), 4),
+        (weighing(1.0, 1.0, NAN), 4),
+        (weighing(1.0, 1.0, 0.0), 15),
+        (weighing(1.0, 1.0, -1.0), 15),
+    ];
+    for (sample, number) in wrong {
+        assert_eq!(book.add_window(sample), Err(number));
+    }
+    assert_eq!((book.count, &book.x[..]), (2, &[0.0, 1.0][..]));
+    assert!(book.is_folded(&LINE[..2]));
+    book.count = 3;
+    assert_eq!(book.add_window(weighing(NAN, 1.0, 0.0)), Err(1));
+    book.count = 2;
+    book.sums.truncate(PLACES - 1);
+    assert_eq!(book.add_window(weighing(1.0, 1.0, 1.0)), Err(1));
+    assert_eq!(book.x, [0.0, 1.0]);
+    let mut none = Book::new(0, &[]);
+    assert_eq!(none.add_window(weighing(1.0, 1.0, 1.0)), Err(5));
+    assert_eq!(none.add_window(weighing(1.0, 1.0, 0.0)), Err(15));
+    assert_eq!(none.add_window(weighing(1.0, NAN, 0.0)), Err(4));
+}
+
+/// A window of one holds the last sample, and one of 4,096 in longer columns leaves the places past them.
+#[test]
+fn windows_of_1_and_4096() {
+    let mut book = Book::new(1, &[]);
+    for i in 0..3 {
+        let sample = weighing(f64::from(i), 2.0, 3.0);
+        assert_eq!(book.add_window(sample), Ok(1));
+        assert_eq!((book.x[0], book.sums[..PLACES].to_vec()), (sample.x, folded_afresh(&[sample])));
+    }
+    let mut book = Book::new(4100, &[]);
+    for i in 0..4098 {
+        assert_eq!(book.add_window(weighing(f64::from(i), 1.0, 1.0)), Ok(4096.min(i as usize + 1)));
+    }
+    assert_eq!((book.x[0], book.x[4095], book.x[4096]), (2.0, 4097.0, MARK));
 }
 
 /// Document 02, E6: the weights below the count become 1, and nothing else changes, whatever stands there.

@@ -5,6 +5,9 @@
 //! and to write what its definition says, for every input. [`Book`] owns all memory that these
 //! functions are lent, so that none of it is too short and none overlaps.
 //!
+//! A book of capacity n is a window of the latest n samples, where they are added by
+//! [`Book::add_window`].
+//!
 //! [`TwoColumnBook`] is for a season that was begun before samples had weights; it is carried into a
 //! [`Book`].
 //!
@@ -74,6 +77,7 @@ pub struct Book {
     lower: Vec<f64>,
     upper: Vec<f64>,
     outliers: Vec<u8>,
+    losses: Vec<f64>,
 }
 
 /// A curve of some degree.
@@ -108,6 +112,19 @@ pub struct Report<'a> {
     pub upper: &'a [f64],
     pub outlying: &'a [u8],
     counts: (usize, usize),
+}
+
+/// The losses behind a report's choice. Their list is the book's, until the next call.
+#[derive(Debug, Clone, Copy, PartialEq)]
+pub struct Losses<'a> {
+    /// The chosen degree.
+    pub degree: usize,
+    /// The Huber loss of each sample's distance from the curve, in the order in which they were
+    /// added.
+    pub losses: &'a [f64],
+    /// The losses added up in that order from +0, and the score made of this total.
+    pub total: f64,
+    pub score: f64,
 }
 
 impl Fit {
@@ -174,6 +191,7 @@ impl Book {
             lower: vec![0.0; room],
             upper: vec![0.0; room],
             outliers: vec![0; room],
+            losses: vec![0.0; room],
         }
     }
 
@@ -236,6 +254,35 @@ impl Book {
     pub fn add_weighted(&mut self, x: f64, y: f64, weight: f64) -> Result<(), Refusal> {
         let answer =
             lend!(stakebook_add(self.count, x, y, weight; self.xs, self.ys, self.ws, self.sums));
+        self.changed(answer)
+    }
+
+    /// One sample of weight 1 at the end of a book that is a window of as many samples as its
+    /// capacity: where it is full, sample 0 goes first and the others move down one, so that the
+    /// newest stay. Refused by [`Refusal::NotFinite`]; by [`Refusal::Full`] only in a book of no
+    /// places. A refused one takes no sample out. [`add`](Book::add), [`add_frame`](Book::add_frame)
+    /// and [`add_lines`](Book::add_lines) make no room: they are refused where there is none.
+    ///
+    /// At a full book it takes as long as a [withdrawal](Book::withdraw).
+    ///
+    /// ```
+    /// let mut latest = stakebook::Book::with_capacity(3);
+    /// for day in 0..5 {
+    ///     latest.add_window(f64::from(day), 0.5 * f64::from(day))?;
+    /// }
+    /// assert_eq!((latest.xs(), latest.ys()), (&[2.0, 3.0, 4.0][..], &[1.0, 1.5, 2.0][..]));
+    /// # Ok::<(), stakebook::Refusal>(())
+    /// ```
+    pub fn add_window(&mut self, x: f64, y: f64) -> Result<(), Refusal> {
+        self.add_window_weighted(x, y, 1.0)
+    }
+
+    /// The same with a weight. Refused by [`Refusal::WeightNotAboveZero`] too.
+    pub fn add_window_weighted(&mut self, x: f64, y: f64, weight: f64) -> Result<(), Refusal> {
+        let answer = lend!(stakebook_add_window(
+            self.count, x, y, weight;
+            self.xs, self.ys, self.ws, self.sums
+        ));
         self.changed(answer)
     }
 
@@ -359,14 +406,7 @@ impl Book {
     /// By polyfit's rule of pruning, the default, a negative term is never marked, however small;
     /// [`PruningRule::Size`] lets it face the test too.
     pub fn report(&mut self, settings: Settings) -> Result<Report<'_>, Refusal> {
-        let (bound, most) = settings.bound.numbers();
-        let (confidence, score) = settings.confidence.numbers();
-        let (tolerance, value) = settings.tolerance.numbers();
-        // No bound is above the count less 1, so that the greatest degree stands for all above it.
-        let most = u32::try_from(most).unwrap_or(u32::MAX);
-        let criterion = settings.criterion.number();
-        let words = [bound, most, criterion, confidence, tolerance, settings.pruning.number()];
-        let values = [score, value];
+        let (words, values) = settings.lists();
         let answer = lend!(stakebook_report_by(
             self.count, words.as_ptr(), words.len(), values.as_ptr(), values.len();
             self.xs, self.ys, self.ws, self.sums, self.scratch, self.coefficients, self.errors,
@@ -385,5 +425,35 @@ impl Book {
             outlying: &self.outliers[..n],
             counts: (sys::outliers(answer), sys::pruned(answer)),
         })
+    }
+
+    /// The losses from which the score of the report's chosen degree is made: to check the score by
+    /// adding them up. Takes a report's settings, and is refused where the report is.
+    ///
+    /// ```
+    /// # use stakebook::{Book, Confidence, Criterion, DegreeBound, PruningRule, Settings, Tolerance};
+    /// # let settings = Settings {
+    /// #     bound: DegreeBound::Custom(1),
+    /// #     criterion: Criterion::Aic,
+    /// #     confidence: Confidence::P95,
+    /// #     tolerance: Tolerance::None,
+    /// #     pruning: PruningRule::default(),
+    /// # };
+    /// let mut book = Book::with_capacity(10);
+    /// book.add_lines(b"1 212\n2 209.5\n3 208\n4 203.5\n5 202\n")?;
+    /// let losses = book.losses(settings)?;
+    /// assert_eq!(losses.losses.iter().fold(0.0, |sum, loss| sum + loss), losses.total);
+    /// # Ok::<(), stakebook::Refusal>(())
+    /// ```
+    pub fn losses(&mut self, settings: Settings) -> Result<Losses<'_>, Refusal> {
+        let (words, values) = settings.lists();
+        let mut numbers = [0.0; 2];
+        let answer = lend!(stakebook_losses(
+            self.count, words.as_ptr(), words.len(), values.as_ptr(), values.len();
+            self.xs, self.ys, self.ws, self.sums, self.scratch, self.losses, numbers
+        ));
+        let degree = sys::degree(judged(answer)?);
+        let [total, score] = numbers;
+        Ok(Losses { degree, losses: &self.losses[..self.count], total, score })
     }
 }

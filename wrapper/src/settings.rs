@@ -76,6 +76,20 @@ pub struct Settings {
     pub pruning: PruningRule,
 }
 
+impl Settings {
+    /// The two lists that the C interface takes.
+    pub(crate) fn lists(self) -> ([u32; 6], [f64; 2]) {
+        let (bound, most) = self.bound.numbers();
+        let (confidence, score) = self.confidence.numbers();
+        let (tolerance, value) = self.tolerance.numbers();
+        // No bound is above the count less 1, so that the greatest degree stands for all above it.
+        let most = u32::try_from(most).unwrap_or(u32::MAX);
+        let criterion = self.criterion.number();
+        let words = [bound, most, criterion, confidence, tolerance, self.pruning.number()];
+        (words, [score, value])
+    }
+}
+
 impl DegreeBound {
     /// The number and the degree that the C interface takes.
     pub fn numbers(self) -> (u32, usize) {

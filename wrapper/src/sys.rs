@@ -23,6 +23,20 @@ extern "C" {
         sums: *mut f64,
         sums_len: usize,
     ) -> u64;
+    pub fn stakebook_add_window(
+        count: usize,
+        x: f64,
+        y: f64,
+        weight: f64,
+        xs: *mut f64,
+        xs_len: usize,
+        ys: *mut f64,
+        ys_len: usize,
+        ws: *mut f64,
+        ws_len: usize,
+        sums: *mut f64,
+        sums_len: usize,
+    ) -> u64;
     pub fn stakebook_correct(
         count: usize,
         i: usize,
@@ -246,6 +260,27 @@ extern "C" {
         outliers: *mut u8,
         outliers_len: usize,
     ) -> u64;
+    pub fn stakebook_losses(
+        count: usize,
+        words: *const u32,
+        words_len: usize,
+        values: *const f64,
+        values_len: usize,
+        xs: *const f64,
+        xs_len: usize,
+        ys: *const f64,
+        ys_len: usize,
+        ws: *const f64,
+        ws_len: usize,
+        sums: *const f64,
+        sums_len: usize,
+        scratch: *mut f64,
+        scratch_len: usize,
+        losses: *mut f64,
+        losses_len: usize,
+        numbers: *mut f64,
+        numbers_len: usize,
+    ) -> u64;
     pub fn stakebook_reader(frame: *const u8, frame_len: usize) -> u64;
     pub fn stakebook_next(
         frame: *const u8,
@@ -304,7 +339,7 @@ pub fn count(answer: u64) -> usize {
     (answer & 0x00FF_FFFF_FFFF_FFFF) as usize
 }
 
-/// The degree, in the answer of a fit, a validation or a report.
+/// The degree, in the answer of a fit, a validation, a report or losses.
 pub fn degree(answer: u64) -> usize {
     (answer & 0xFF) as usize
 }

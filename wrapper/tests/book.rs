@@ -48,6 +48,31 @@ fn a_fit_and_a_report() {
     assert_eq!((band.value, band.lower, band.upper), (3.0, 2.5, 3.5));
 }
 
+/// Of 0, 0, 4 and 8 about their mean: sizes 3, 3, 1 and 5, whose deviation is 1, so that 1 is within 1.345.
+#[test]
+fn losses_behind_a_report() {
+    let mut book = book_of(&[(0.0, 0.0), (0.0, 0.0), (0.0, 4.0), (0.0, 8.0)]);
+    let linear = |size: f64| 1.345 * (size - 0.5 * 1.345);
+    let expected = [linear(3.0), linear(3.0), 0.5, linear(5.0)];
+    let total = expected.iter().fold(0.0, |sum, loss| sum + loss);
+    let losses = book.losses(SETTINGS).expect("a degree is chosen");
+    assert_eq!((losses.degree, losses.losses, losses.total), (0, &expected[..], total));
+    assert!((losses.score - (4.0 * (total / 4.0).ln() + 2.0)).abs() < 1e-12);
+    let by_bic = Settings { criterion: Criterion::Bic, ..SETTINGS };
+    let losses = book.losses(by_bic).expect("a degree is chosen");
+    assert_eq!((losses.total, losses.losses.len()), (total, 4));
+    let mut line = book_of(&[(0.0, 1.0), (1.0, 3.0), (2.0, 5.0), (3.0, 7.0), (4.0, 9.0)]);
+    let losses = line.losses(SETTINGS).expect("a degree is chosen");
+    assert_eq!((losses.degree, losses.total, losses.losses), (1, 0.0, &[0.0; 5][..]));
+    // Refused where a report is.
+    let mut empty = Book::with_capacity(1);
+    assert_eq!(empty.losses(SETTINGS), Err(Refusal::NoSamples));
+    let nan = Settings { confidence: Confidence::Custom(f64::NAN), ..SETTINGS };
+    assert_eq!(book.losses(nan), Err(Refusal::NotFinite));
+    let mut huge = book_of(&[(0.0, 3e200), (1.0, -1e200), (2.0, -2e200)]);
+    assert_eq!(huge.losses(SETTINGS).map(|losses| losses.degree), Err(Refusal::NoDegree));
+}
+
 /// Each sample counts as much as its weight, and keeps it when it is corrected or moves down.
 #[test]
 fn weights() {
@@ -109,6 +134,36 @@ fn pruning_by_either_rule() {
     let bound = DegreeBound::Custom(usize::MAX);
     let report = book.report(Settings { bound, ..by_size }).expect("a degree is chosen");
     assert_eq!(report.solved, 4);
+}
+
+/// A window of the latest three: the oldest goes, and the sums are those of what stays.
+#[test]
+fn a_window_of_three() {
+    let mut book = Book::with_capacity(3);
+    for i in 0..3 {
+        assert_eq!(book.add_window(f64::from(i), 0.1), Ok(()));
+    }
+    assert_eq!(book.add(9.0, 9.0), Err(Refusal::Full));
+    assert_eq!(book.add_lines(b"9 9\n"), Err(Refusal::Full));
+    for (x, y, weight) in [(f64::NAN, 1.0, 1.0), (1.0, 1.0, f64::INFINITY)] {
+        assert_eq!(book.add_window_weighted(x, y, weight), Err(Refusal::NotFinite));
+    }
+    assert_eq!(book.add_window_weighted(9.0, 9.0, 0.0), Err(Refusal::WeightNotAboveZero));
+    assert_eq!((book.len(), book.xs()), (3, &[0.0, 1.0, 2.0][..]));
+    assert_eq!(book.add_window_weighted(3.0, 0.7, 2.0), Ok(()));
+    assert_eq!((book.xs(), book.ws()), (&[1.0, 2.0, 3.0][..], &[1.0, 1.0, 2.0][..]));
+    let mut stays = book_of(&[(1.0, 0.1), (2.0, 0.1)]);
+    stays.add_weighted(3.0, 0.7, 2.0).expect("room");
+    assert_eq!(book.sums(), stays.sums());
+    assert_eq!(book.fit(1), stays.fit(1));
+    // Room again: nothing goes.
+    assert_eq!((book.withdraw(0), book.add_window(4.0, 0.2)), (Ok(()), Ok(())));
+    assert_eq!(book.xs(), [2.0, 3.0, 4.0]);
+    let mut none = Book::with_capacity(0);
+    assert_eq!(none.add_window(0.0, 0.0), Err(Refusal::Full));
+    let mut one = Book::with_capacity(1);
+    assert_eq!((one.add_window(1.0, 2.0), one.add_window(3.0, 4.0)), (Ok(()), Ok(())));
+    assert_eq!((one.xs(), one.ys()), (&[3.0][..], &[4.0][..]));
 }
 
 #[test]

@@ -4,12 +4,16 @@
 //! `lists season`: a season of a field group, with every malformed line and document 01's refusals.
 //! `lists lines`: readings as written in the field book, document 02's E1.
 //! `lists weights`: weighted samples, document 02's E5.
+//! `lists windows`: window books, document 02's E11.
+//! `lists losses`: losses line by line, document 02's E12.
 
 mod edges;
 mod lines;
 mod list;
+mod losses;
 mod season;
 mod weights;
+mod windows;
 
 use std::process::ExitCode;
 
@@ -19,8 +23,10 @@ fn main() -> ExitCode {
         Some("season") => season::season(),
         Some("lines") => lines::lines(),
         Some("weights") => weights::weights(),
+        Some("windows") => windows::windows(),
+        Some("losses") => losses::losses(),
         _ => {
-            eprintln!("lists edges, lists season, lists lines, or lists weights");
+            eprintln!("lists edges, season, lines, weights, windows, or losses");
             return ExitCode::FAILURE;
         }
     };

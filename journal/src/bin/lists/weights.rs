@@ -539,6 +539,8 @@ fn reads(list: &mut List) {
             list.fit(3);
             list.report(AIC_1);
             list.report(up_to(20));
+            list.losses(AIC_1);
+            list.losses(up_to(20));
             list.validate(2, 1);
             list.validate(1, 1);
             list.band(1.0, 1);
@@ -551,6 +553,7 @@ fn reads(list: &mut List) {
     list.put(Name::Ws, 3, NAN);
     list.fit(1);
     list.report(AIC_1);
+    list.losses(AIC_1);
     list.validate(3, 1);
     list.band(1.0, 1);
 }
@@ -562,6 +565,7 @@ fn read_as_they_are(list: &mut List) {
         list.weighted_book(&PITS);
         list.put(Name::Ws, 2, weight);
         list.whole_report(up_to(2), 6);
+        list.losses(up_to(2));
         list.validate(3, 1);
         list.band(1.0, 1);
         list.call(Call::Correct { index: 0, y: 211.0 });
