@@ -56,18 +56,16 @@ module _ (n : ℕ) (settings : Settings) (limit : ℕ) (rows : List WeightedRow)
           let w = found-room (settings .bound) (settings .criterion) rows most (not-false _ (search-found limit _ _ e)) in
           (w .before, w .after, omega (arith, w .place), search-tests (settings .bound) (settings .criterion) rows most four few)
 
-pub split-fits : (n : ℕ) (settings : Settings) (limit : ℕ) (columns : Columns) (sums : ℕ) (places : Places) (into : ℕ)
-    → SplitFits (splitInto into (splitOut n settings limit columns sums places) .answer)
+pub split-fits : (n : ℕ) (settings : Settings) (limit : ℕ) (columns : Columns) (sums : ℕ) (places : Places) → SplitFits (splitOut n settings limit columns sums places .answer)
 unfolding splitOn
-split-fits n settings limit columns sums places into =
+split-fits n settings limit columns sums places =
     let samples = samplesOf n columns in
     let long : length (weightedRows samples) ≡ n = length-map samples weightedOf ∙ length-samples n columns in
-    split-into into _
-    (split-settles (splitRefusal n settings samples (lengths columns) sums places) _ []
+    split-settles (splitRefusal n settings samples (lengths columns) sums places) _ []
     (omega (arith, among _ (split-numbers n settings samples (lengths columns) sums places)))
     (λ e.
     let w = split-room n settings samples (lengths columns) sums places e in
-    past-fits n settings limit (weightedRows samples) (omega (arith, long, w .four)) (omega (arith, long, w .room .most)) (rw long (w .most))))
+    past-fits n settings limit (weightedRows samples) (omega (arith, long, w .four)) (omega (arith, long, w .room .most)) (rw long (w .most)))
 
 -- ---- read back
 
@@ -109,4 +107,4 @@ split-read (splits.Refused k) h = refusal-read k
 
 pub split-back : (n : ℕ) (settings : Settings) (limit : ℕ) (columns : Columns) (sums : ℕ) (places : Places) (into : ℕ)
     → (let a = splitInto into (splitOut n settings limit columns sums places) .answer in SplitRead (packedSplit a) a)
-split-back n settings limit columns sums places into = split-read _ (split-fits n settings limit columns sums places into)
+split-back n settings limit columns sums places into = split-read _ (split-into into _ (split-fits n settings limit columns sums places))
