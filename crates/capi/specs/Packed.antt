@@ -27,6 +27,9 @@ use Rattle.report.specs.declared.ReportAnswer.{ReportAnswer}
 use Rattle.report.specs.declared.ReportAnswer.the-variants as reports
 use Rattle.report.specs.Reports.{ReportOut, reportOut, Does}
 use Rattle.report.specs.Outputs.{LentOutputs, placesOf}
+use Rattle.losses.specs.declared.LossAnswer.{LossAnswer}
+use Rattle.losses.specs.declared.LossAnswer.the-variants as losses
+use Rattle.losses.specs.Losses.{LossOut, LossIs, lossRefused}
 use Rattle.settings.specs.declared.Settings.{Settings}
 use Rattle.replay.specs.declared.Replayed.{Replayed}
 use Rattle.replay.specs.declared.Replayed.the-variants as replays
@@ -74,6 +77,20 @@ bandNumbers (bands.Refused k) = []
 unfoldable pub bandInto : ℕ → BandOut → BandOut
 bandInto places o = cond (ltb places 3) (bandRefused 1) o
 
+-- the losses: the degree, as a fit's; total and score are written
+unfoldable pub packedLosses : LossAnswer → ℕ
+packedLosses (losses.Losses d total score) = d .0
+packedLosses (losses.Refused k) = packedRefusal k
+
+-- the total and the score; a refused call writes none
+unfoldable pub lossNumbers : LossAnswer → List Float
+lossNumbers (losses.Losses d total score) = total ∷ score ∷ []
+lossNumbers (losses.Refused k) = []
+
+-- the losses, their numbers into so many places: 1 judges them with the other lengths, before all else
+unfoldable pub lossInto : ℕ → LossOut → LossOut
+lossInto places o = cond (ltb places 2) (lossRefused 1) o
+
 -- a reader: the offset of its next sample
 unfoldable pub packedOpened : Opened → ℕ
 packedOpened (readers.Cursor c) = c .at
@@ -118,6 +135,10 @@ unfoldable pub ReportFits : ReportAnswer → Type 0
 ReportFits (reports.Report d solved outliers pruned) = (d .0 ≤ 15) × (solved ≤ maxTerms) × (outliers ≤ maxSamples) × (pruned ≤ maxTerms)
 ReportFits (reports.Refused k) = RefusalFits k
 
+unfoldable pub LossFits : LossAnswer → Type 0
+LossFits (losses.Losses d total score) = d .0 ≤ 15
+LossFits (losses.Refused k) = RefusalFits k
+
 -- ---- what each call promises: the packed answer of the book's own call, and every lent list as that call leaves it
 
 -- of a call that changes a book, with weights or without: a, c and s are its answer, the columns and the sums that it leaves
@@ -151,6 +172,12 @@ pub record ReportPacked (o : ReportOut) (r : ℕ) (w : LentOutputs) : Type 0 whe
 -- of a report of these columns and sums
 abbrev pub ReportPackedIs : ℕ → Settings → Columns → List Float → ℕ → LentOutputs → Type 0
 ReportPackedIs n settings columns sums r w = ReportPacked (reportOut n settings columns sums (placesOf (w .found))) r w
+
+-- s, l and v: scratch, the losses, and the lent places for their total and score
+pub record LossPacked (o : LossOut) (r : ℕ) (s l v : Slice Float) : Type 0 where
+  pub answer : r ≡ packedLosses (o .answer)
+  pub lent : LossIs o (o .answer) (contents s) (contents l)
+  pub numbers : after v ≡ over (lossNumbers (o .answer)) (before v)
 
 -- v: the lent places for x, y and the weight
 pub record ReadPacked (a : Read) (r : ℕ) (v : Slice Float) : Type 0 where

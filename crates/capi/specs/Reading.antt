@@ -13,6 +13,8 @@ use Rattle.query.specs.declared.BandAnswer.{BandAnswer}
 use Rattle.query.specs.declared.BandAnswer.the-variants as bands
 use Rattle.report.specs.declared.ReportAnswer.{ReportAnswer}
 use Rattle.report.specs.declared.ReportAnswer.the-variants as reports
+use Rattle.losses.specs.declared.LossAnswer.{LossAnswer}
+use Rattle.losses.specs.declared.LossAnswer.the-variants as losses
 
 -- the number of the refusal, 0 if there is none
 abbrev pub numberIn : ℕ → ℕ
@@ -22,7 +24,7 @@ numberIn p = p / 0x100_0000_0000_0000
 abbrev pub countIn : ℕ → ℕ
 countIn p = p % 0x100_0000_0000_0000
 
--- the degree of a fit, a validation or a report
+-- the degree of a fit, a validation, a report or its losses
 abbrev pub degreeIn : ℕ → ℕ
 degreeIn p = p % 0x100
 
@@ -54,6 +56,10 @@ unfoldable pub ReportRead : ℕ → ReportAnswer → Type 0
 ReportRead p (reports.Report d solved outliers pruned) =
     (numberIn p ≡ 0) × (degreeIn p ≡ d .0) × (solvedIn p ≡ solved) × (prunedIn p ≡ pruned) × (outliersIn p ≡ outliers)
 ReportRead p (reports.Refused k) = numberIn p ≡ k
+
+unfoldable pub LossRead : ℕ → LossAnswer → Type 0
+LossRead p (losses.Losses d total score) = (numberIn p ≡ 0) × (degreeIn p ≡ d .0)
+LossRead p (losses.Refused k) = numberIn p ≡ k
 
 unfoldable pub OpenedRead : ℕ → Opened → Type 0
 OpenedRead p (readers.Cursor c) = (numberIn p ≡ 0) × (countIn p ≡ c .at)
