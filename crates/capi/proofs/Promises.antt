@@ -22,12 +22,14 @@ use Rattle.report.specs.Outputs.{LentOutputs}
 use Rattle.split.specs.declared.SplitAnswer.{SplitAnswer}
 use Rattle.split.specs.declared.SplitAnswer.the-variants as splits
 use Rattle.split.specs.Splits.{SplitOut, LentSplit, splitRefused, Does as SplitDoes}
+use Rattle.losses.specs.declared.LossAnswer.{LossAnswer}
+use Rattle.losses.specs.Losses.{LossOut, LossIs}
 use Rattle.replay.specs.declared.Replayed.{Replayed}
 use Rattle.replay.specs.Records.{callsOf}
 use Rattle.replay.specs.Replay.{LentMemory, Ran, ReplayIs}
 use Rattle.lent.specs.Slices.{Slice, before, after, contents}
 use Rattle.lent.specs.Written.{over}
-use Rattle.capi.specs.Packed.{packedRefusal, packedBook, packedFit, packedBand, packedReport, bandNumbers, bandInto, BookPacked, PairPacked, FitPacked, BandPacked, ReportPacked, packedSplit, splitTotal, splitInto, SplitPacked, packedRead, readNumbers, ReadPacked, packedReplay, ReplayPacked}
+use Rattle.capi.specs.Packed.{packedRefusal, packedBook, packedFit, packedBand, packedReport, packedLosses, bandNumbers, bandInto, lossNumbers, lossInto, BookPacked, PairPacked, FitPacked, BandPacked, ReportPacked, LossPacked, packedSplit, splitTotal, splitInto, SplitPacked, packedRead, readNumbers, ReadPacked, packedReplay, ReplayPacked}
 use Rattle.samples.specs.Columns.{Columns}
 
 pub book-packed : {o : Out} {a : Answer} {r : ℕ} {columns : Columns} {sums : List Float} → Is o a columns sums → r ≡ packedBook a → BookPacked o r columns sums
@@ -89,6 +91,30 @@ module _ (o : SplitOut) (places : ℕ) (w : LentSplit) (v : Slice Float) where
         answer = e ∙ ap packedSplit (i .answer);
         lent = record { answer = refl; scratch = i .scratch; before = i .before; after = i .after };
         total = n ∙ ap (λ (b : SplitAnswer). over (splitTotal b) (before v)) (i .answer);
+      })
+
+-- two places are written
+pub two-written : (v w : Float) (l : List Float) → 2 ≤ length l → set (set l 0 v) 1 w ≡ over (v ∷ w ∷ []) l
+two-written v w [] h = absurd (omega arith)
+two-written v w (a ∷ []) h = absurd (omega arith)
+two-written v w (a ∷ b ∷ l) h = refl
+
+-- the losses' numbers into too few places, and into enough
+module _ (o : LossOut) (places : ℕ) (s l v : Slice Float) where
+  pub loss-short : ltb places 2 ≡ true → after s ≡ before s → after l ≡ before l → after v ≡ before v → (r : ℕ) → r ≡ packedRefusal 1
+      → LossPacked (lossInto places o) r s l v
+  unfolding lossInto packedLosses lossNumbers
+  loss-short h es el ev r e = rw h (record { answer = e; lent = record { answer = refl; scratch = es; losses = el }; numbers = ev })
+
+  pub loss-packed : ltb places 2 ≡ false → (a : LossAnswer) (r : ℕ) → LossIs o a (contents s) (contents l) → r ≡ packedLosses a
+      → after v ≡ over (lossNumbers a) (before v) → LossPacked (lossInto places o) r s l v
+  unfolding lossInto
+  loss-packed h a r i e n =
+      rw h
+      (record {
+        answer = e ∙ ap packedLosses (i .answer);
+        lent = record { answer = refl; scratch = i .scratch; losses = i .losses };
+        numbers = n ∙ ap (λ (b : LossAnswer). over (lossNumbers b) (before v)) (i .answer);
       })
 
 -- a sample into too few places, and into enough

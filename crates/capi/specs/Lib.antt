@@ -3,6 +3,7 @@ pub mod Packed
 pub mod Fitting
 pub mod PairFitting
 pub mod CarryFitting
+pub mod LossFitting
 pub mod ReplayFitting
 pub mod Reading
 pub mod ReadingLaws

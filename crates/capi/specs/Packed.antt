@@ -31,6 +31,9 @@ use Rattle.split.specs.declared.SplitAnswer.{SplitAnswer}
 use Rattle.split.specs.declared.SplitAnswer.the-variants as splits
 use Rattle.split.specs.Rooms.{mostTests}
 use Rattle.split.specs.Splits.{SplitOut, LentSplit, splitRefused, splitOut, placesOf as splitPlaces, Does as SplitDoes}
+use Rattle.losses.specs.declared.LossAnswer.{LossAnswer}
+use Rattle.losses.specs.declared.LossAnswer.the-variants as losses
+use Rattle.losses.specs.Losses.{LossOut, LossIs, lossRefused}
 use Rattle.settings.specs.declared.Settings.{Settings}
 use Rattle.replay.specs.declared.Replayed.{Replayed}
 use Rattle.replay.specs.declared.Replayed.the-variants as replays
@@ -96,6 +99,20 @@ splitTotal (splits.Refused k) = []
 unfoldable pub splitInto : ℕ → SplitOut → SplitOut
 splitInto places o = cond (ltb places 1) (splitRefused 1 []) o
 
+-- the losses: the degree, as a fit's; total and score are written
+unfoldable pub packedLosses : LossAnswer → ℕ
+packedLosses (losses.Losses d total score) = d .0
+packedLosses (losses.Refused k) = packedRefusal k
+
+-- the total and the score; a refused call writes none
+unfoldable pub lossNumbers : LossAnswer → List Float
+lossNumbers (losses.Losses d total score) = total ∷ score ∷ []
+lossNumbers (losses.Refused k) = []
+
+-- the losses, their numbers into so many places: 1 judges them with the other lengths, before all else
+unfoldable pub lossInto : ℕ → LossOut → LossOut
+lossInto places o = cond (ltb places 2) (lossRefused 1) o
+
 -- a reader: the offset of its next sample
 unfoldable pub packedOpened : Opened → ℕ
 packedOpened (readers.Cursor c) = c .at
@@ -144,6 +161,10 @@ unfoldable pub SplitFits : SplitAnswer → Type 0
 SplitFits (splits.Split total at tests d e) = (d .0 ≤ 15) × (e .0 ≤ 15) × (at ≤ maxSamples) × (tests ≤ mostTests)
 SplitFits (splits.Refused k) = RefusalFits k
 
+unfoldable pub LossFits : LossAnswer → Type 0
+LossFits (losses.Losses d total score) = d .0 ≤ 15
+LossFits (losses.Refused k) = RefusalFits k
+
 -- ---- what each call promises: the packed answer of the book's own call, and every lent list as that call leaves it
 
 -- of a call that changes a book, with weights or without: a, c and s are its answer, the columns and the sums that it leaves
@@ -188,6 +209,12 @@ pub record SplitPacked (o : SplitOut) (r : ℕ) (w : LentSplit) (v : Slice Float
 abbrev pub SplitPackedIs : ℕ → Settings → ℕ → Columns → List Float → ℕ → LentSplit → Slice Float → Type 0
 SplitPackedIs n settings limit columns sums r w v =
     SplitPacked (splitInto (length (before v)) (splitOut n settings limit columns (length sums) (splitPlaces w))) r w v
+
+-- s, l and v: scratch, the losses, and the lent places for their total and score
+pub record LossPacked (o : LossOut) (r : ℕ) (s l v : Slice Float) : Type 0 where
+  pub answer : r ≡ packedLosses (o .answer)
+  pub lent : LossIs o (o .answer) (contents s) (contents l)
+  pub numbers : after v ≡ over (lossNumbers (o .answer)) (before v)
 
 -- v: the lent places for x, y and the weight
 pub record ReadPacked (a : Read) (r : ℕ) (v : Slice Float) : Type 0 where

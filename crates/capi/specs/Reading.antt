@@ -15,6 +15,8 @@ use Rattle.report.specs.declared.ReportAnswer.{ReportAnswer}
 use Rattle.report.specs.declared.ReportAnswer.the-variants as reports
 use Rattle.split.specs.declared.SplitAnswer.{SplitAnswer}
 use Rattle.split.specs.declared.SplitAnswer.the-variants as splits
+use Rattle.losses.specs.declared.LossAnswer.{LossAnswer}
+use Rattle.losses.specs.declared.LossAnswer.the-variants as losses
 
 -- the number of the refusal, 0 if there is none
 abbrev pub numberIn : ℕ → ℕ
@@ -24,7 +26,7 @@ numberIn p = p / 0x100_0000_0000_0000
 abbrev pub countIn : ℕ → ℕ
 countIn p = p % 0x100_0000_0000_0000
 
--- the degree of a fit, a validation or a report
+-- the degree of a fit, a validation, a report or its losses
 abbrev pub degreeIn : ℕ → ℕ
 degreeIn p = p % 0x100
 
@@ -71,6 +73,10 @@ unfoldable pub SplitRead : ℕ → SplitAnswer → Type 0
 SplitRead p (splits.Split total at tests d e) =
     (numberIn p ≡ 0) × (degreeIn p ≡ d .0) × (afterIn p ≡ e .0) × (breakIn p ≡ at) × (testsIn p ≡ tests)
 SplitRead p (splits.Refused k) = numberIn p ≡ k
+
+unfoldable pub LossRead : ℕ → LossAnswer → Type 0
+LossRead p (losses.Losses d total score) = (numberIn p ≡ 0) × (degreeIn p ≡ d .0)
+LossRead p (losses.Refused k) = numberIn p ≡ k
 
 unfoldable pub OpenedRead : ℕ → Opened → Type 0
 OpenedRead p (readers.Cursor c) = (numberIn p ≡ 0) × (countIn p ≡ c .at)

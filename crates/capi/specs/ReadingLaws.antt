@@ -35,16 +35,20 @@ use Rattle.report.specs.declared.Places.{Places}
 use Rattle.report.specs.declared.ReportAnswer.{ReportAnswer}
 use Rattle.report.specs.declared.ReportAnswer.the-variants as reports
 use Rattle.report.specs.Reports.{reportOut}
+use Rattle.losses.specs.declared.LossAnswer.{LossAnswer}
+use Rattle.losses.specs.declared.LossAnswer.the-variants as losses
+use Rattle.losses.specs.Losses.{lossOut}
 use Rattle.ledger.specs.Ledger.{Call}
 use Rattle.ledger.specs.ReadCalls.{ReadCall}
 use Rattle.replay.specs.Replay.{Memory, Ran}
-use Rattle.capi.specs.Packed.{packedOpened, packedRead, bandInto, packedRefusal, packedBook, packedFit, packedBand, packedCounts, packedReport, BookFits, FitFits, BandFits, ReportFits}
+use Rattle.capi.specs.Packed.{packedOpened, packedRead, bandInto, packedRefusal, packedBook, packedFit, packedBand, packedCounts, packedReport, packedLosses, lossInto, BookFits, FitFits, BandFits, ReportFits, LossFits}
 use Rattle.carried.specs.Carry.{carryOut}
 use Rattle.capi.specs.CarryFitting.{carry-fits}
+use Rattle.capi.specs.LossFitting.{loss-fits}
 use Rattle.capi.specs.Fitting.{open-fits, add-fits, correct-fits, withdraw-fits, frame-fits, lines-fits, fit-fits, validate-fits, band-fits, report-fits}
 use Rattle.capi.specs.PairFitting as pair
 use Rattle.capi.specs.ReplayFitting.{replay-fits}
-use Rattle.capi.specs.Reading.{numberIn, degreeIn, solvedIn, prunedIn, outliersIn, countIn, BookRead, FitRead, BandRead, ReportRead, OpenedRead, ReadRead}
+use Rattle.capi.specs.Reading.{numberIn, degreeIn, solvedIn, prunedIn, outliersIn, countIn, BookRead, FitRead, BandRead, ReportRead, LossRead, OpenedRead, ReadRead}
 
 -- a number of a low part below m and a high part
 module _ (m low high : ℕ) (below : low < m) where
@@ -115,6 +119,11 @@ report-read (reports.Report d s o p) h =
     (none-in (d .0) s o p hd hs ho hp, degree-in (d .0) s o p hd hs ho hp, solved-in (d .0) s o p hd hs ho hp, pruned-in (d .0) s o p hd hs ho hp, outliers-in (d .0) s o p hd hs ho hp)
 report-read (reports.Refused k) h = refusal-read k
 
+pub loss-read : (a : LossAnswer) → LossFits a → LossRead (packedLosses a) a
+unfolding LossFits LossRead packedLosses
+loss-read (losses.Losses d total score) h = (div-eq-of-lt (omega arith), mod-eq-of-lt (omega arith))
+loss-read (losses.Refused k) h = refusal-read k
+
 -- ---- so for every call, whatever it was given: the packed answer is read as the answer
 
 pub open-back : (sums : List Float) → BookRead (packedBook (openOut sums .answer)) (openOut sums .answer)
@@ -152,6 +161,12 @@ module _ (n : ℕ) (columns : Columns) (sums : List Float) where
   pub report-back : (settings : Settings) (places : Places)
       → (let a = reportOut n settings columns sums places .answer in ReportRead (packedReport a) a)
   report-back settings places = report-read _ (report-fits n settings columns sums places)
+
+-- ---- of the losses
+
+pub loss-back : (n : ℕ) (settings : Settings) (columns : Columns) (sums scratch told : List Float) (places : ℕ)
+    → (let a = lossInto places (lossOut n settings columns sums scratch told) .answer in LossRead (packedLosses a) a)
+loss-back n settings columns sums scratch told places = loss-read _ (loss-fits n settings columns sums scratch told places)
 
 -- ---- of a two-column book
 

@@ -6,6 +6,7 @@ use basis::Degree;
 use book::Book;
 use frame::Cursor;
 use frame::Read;
+use losses::LossAnswer;
 use query::BandAnswer;
 use report::ReportAnswer;
 use split::SplitAnswer;
@@ -22,6 +23,7 @@ ghost use Rattle.frame.specs.Handed.{openedOf, nextOf};
 ghost use Rattle.query.specs.Fits.{fitOut, validateOut};
 ghost use Rattle.query.specs.Bands.{bandOut};
 ghost use Rattle.report.specs.Outputs.{outputs};
+ghost use Rattle.losses.specs.Losses.{lossOut};
 ghost use Rattle.carried.specs.Carry.{carryOut};
 ghost use Rattle.split.specs.Rooms.{mostTests};
 ghost use Rattle.split.specs.Splits.{lentSplit};
@@ -29,10 +31,12 @@ ghost use Rattle.two_column.specs.Pairs.{columns as pairColumns};
 ghost use Rattle.two_column.specs.Calls.{openOut as pairOpenOut, addOut as pairAddOut, correctOut as pairCorrectOut, withdrawOut as pairWithdrawOut, addFrameOut as pairFrameOut};
 ghost use Rattle.replay.specs.Replay.{memory};
 ghost use Rattle.settings.specs.Numbers.{boundOf, criterionOf, confidenceOf, toleranceOf, settingsOf, settingsIn};
-ghost use Rattle.capi.specs.Packed.{packedCounts, packedReport, ReportFits, packedBand, bandNumbers, BookPacked, PairPacked, FitPacked, BandPacked, bandInto, ReportPackedIs, packedBreak, packedSplit, splitTotal, SplitFits, SplitPackedIs, packedOpened, packedRead, readNumbers, ReadPacked, ReplayPacked};
+ghost use Rattle.capi.specs.Packed.{packedCounts, packedReport, ReportFits, packedBand, bandNumbers, BookPacked, PairPacked, FitPacked, BandPacked, bandInto, ReportPackedIs, packedBreak, packedSplit, splitTotal, SplitFits, SplitPackedIs, packedLosses, lossNumbers, LossPacked, lossInto, packedOpened, packedRead, readNumbers, ReadPacked, ReplayPacked};
 
-// The places that a band is written to, and those of a reader's sample.
+// The places that a band is written to, the total and the score of losses, and a reader's sample.
 const BAND: usize = 3;
+
+const TOLD: usize = 2;
 
 const SAMPLE: usize = 3;
 
@@ -104,6 +108,25 @@ fn packed_split(answer: SplitAnswer, total: &mut [f64]) -> u64
             break_counts(before.0, after.0, at, tests)
         }
         SplitAnswer::Refused(k) => packed::refused(k),
+    }
+}
+
+// The losses: the degree, and their total and score are written.
+fn packed_losses(answer: LossAnswer, numbers: &mut [f64]) -> u64
+    requires { ⌜ 2 ≤ length (now numbers) ⌝ }
+    ensures { λ r. ⌜ (r ≡ packedLosses answer) × (after numbers ≡ over (lossNumbers answer) (before numbers)) ⌝ }
+{
+    match answer {
+        LossAnswer::Losses {
+            degree,
+            total,
+            score,
+        } => {
+            numbers[0] = total;
+            numbers[1] = score;
+            degree.0 as u64
+        }
+        LossAnswer::Refused(k) => packed::refused(k),
     }
 }
 
@@ -512,6 +535,32 @@ pub extern "C" fn stakebook_split(
         later,
     );
     packed_split(answer, total)
+}
+
+// The losses of the degree that a report by these settings chooses, one for each sample; their total and the score made of it are written to two places.
+#[no_mangle]
+pub extern "C" fn stakebook_losses(
+    count: usize,
+    words: &[u32],
+    values: &[f64],
+    xs: &[f64],
+    ys: &[f64],
+    ws: &[f64],
+    sums: &[f64],
+    scratch: &mut [f64],
+    losses: &mut [f64],
+    numbers: &mut [f64],
+) -> u64
+    ensures { λ r. ⌜ LossPacked (lossInto (length (before numbers)) (lossOut count (settingsIn (before words) (before values)) (columnsOf (before xs) (before ys) (before ws)) (before sums) (before scratch) (before losses))) r scratch losses numbers ⌝ }
+{
+    if numbers.len() < TOLD {
+        return packed::refused(1);
+    }
+    let settings = settings::listed(words, values);
+    packed_losses(
+        losses::losses(Book { count }, settings, xs, ys, ws, sums, scratch, losses),
+        numbers,
+    )
 }
 
 // A reader of a frame: the offset of its first sample.
