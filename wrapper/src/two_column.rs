@@ -3,7 +3,8 @@
 use crate::{judged, lend, sys, Book, Refusal, MOST, SUMS};
 
 /// A book of two columns, which has no weights: for a season that was begun with one. It takes what
-/// such a book took, frames of version 1 only; to read it, [carry](TwoColumnBook::carry) it.
+/// such a book took, frames of version 1 only, but for lines: to add these carry it over first, or
+/// add the readings one by one. To read it, [carry](TwoColumnBook::carry) it.
 ///
 /// ```
 /// use stakebook::{Refusal, TwoColumnBook};
