@@ -1,3 +1,4 @@
 -- Laws that the proofs of the functions cite.
 pub mod Gap
 pub mod Frames
+pub mod Withdrawn

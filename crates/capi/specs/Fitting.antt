@@ -6,7 +6,7 @@ use mathlib.Core.List.{List, [], _∷_, map}
 use Prim.Native.Nat.{ℕ, zero, suc, _+_, _-_, _≤_, max}
 use native.Mathlib.Numerals.{add-one}
 use native.Mathlib.Omega.{arith}
-use lib.Dec.{ltb}
+use lib.Dec.{ltb, eqb}
 use lib.ListN.{length, getD, take, length-map}
 use lib.Ieee.{Float, nan}
 use Rattle.loops.specs.Fold.{fold}
@@ -47,8 +47,11 @@ use Rattle.book.specs.declared.Answer.the-variants as books
 use Rattle.book.specs.Refusals.{openRefusal, addRefusal, correctRefusal, withdrawRefusal, frameAddRefusal, linesAddRefusal}
 use Rattle.refusal.specs.Laws.{among, numbered}
 use Rattle.refusal.specs.Refusals.{mostNumber, by, settle}
+use Rattle.refusal.specs.Tests.{capacity}
 use Rattle.book.specs.RefusalLaws.{open-numbers, add-numbers, correct-numbers, withdraw-numbers, frame-numbers, lines-numbers, add-room, correct-room, withdraw-room, frame-room, lines-room}
-use Rattle.book.specs.Calls.{Out, State, stateOf, bookAfter, refused, addNext, addMany, openOut, addOut, correctOut, withdrawOut, addFrameOut, addLinesOut}
+use Rattle.book.specs.Calls.{Out, State, stateOf, stateAfter, bookAfter, refused, addNext, addMany, openOut, addOut, correctOut, withdrawOut, addFrameOut, addLinesOut}
+use Rattle.book.specs.Window.{windowRefusal, withPlace, windowOut}
+use Rattle.book.specs.WindowLaws.{window-numbers, window-room}
 use Rattle.measure.specs.Measures.{inverseFails, measureRefusal, covarianceAt}
 use Rattle.query.specs.Refusals.{fitRefusal, validateRefusal, bandRefusal}
 use Rattle.query.specs.RefusalLaws.{fit-numbers, validate-numbers, band-numbers, fit-room, validate-room}
@@ -176,6 +179,23 @@ module _ (n : ℕ) (columns : Columns) (sums : List Float) where
       let r = linesAddRefusal n t (lengths columns) (length sums) in
       settled-fits (λ (o : Out). o .answer) r _ (refused r columns sums) refl (omega (arith, among _ (lines-numbers n (lengths columns) (length sums) t)))
       (λ e. adds-fit (readLines t) (stateOf n columns sums) (omega (arith, lines-room n (lengths columns) (length sums) t e .0 .most)))
+
+-- a full window book is one sample shorter
+place-fits : (s : State) → s .count ≤ maxSamples → withPlace s .count ≤ maxSamples
+unfolding withPlace
+place-fits s h = go (eqb (s .count) (capacity (lengths (s .columns))))
+  where
+    go : (t : Bool) → cond t (stateAfter (s .count) (withdrawOut (s .count) 0 (s .columns) (s .sums))) s .count ≤ maxSamples
+    go true = after-fits (s .count) _ h (withdraw-fits (s .count) (s .columns) (s .sums) 0)
+    go false = h
+
+pub window-fits : (n : ℕ) (columns : Columns) (sums : List Float) (p : Sample) → BookFits (windowOut n p columns sums .answer)
+unfolding windowOut BookFits
+window-fits n columns sums p =
+    let r = windowRefusal n p (lengths columns) (length sums) in
+    let s = stateOf n columns sums in
+    settled-fits (λ (o : Out). o .answer) r _ (refused r columns sums) refl (omega (arith, among _ (window-numbers n p (lengths columns) (length sums))))
+    (λ e. add-next-fits (withPlace s) p (place-fits s (window-room n p (lengths columns) (length sums) e .0 .most)))
 
 -- ---- fit and validation
 

@@ -17,6 +17,7 @@ use Rattle.score.specs.declared.Criterion.{Criterion}
 use Rattle.book.specs.declared.Answer.{Answer}
 use Rattle.book.specs.declared.Answer.the-variants as books
 use Rattle.book.specs.Calls.{openOut, addOut, correctOut, withdrawOut, addFrameOut, addLinesOut}
+use Rattle.book.specs.Window.{windowOut}
 use Rattle.samples.specs.Columns.{Columns}
 use Rattle.two_column.specs.Pairs.{Pair, Columns as PairColumns}
 use Rattle.two_column.specs.Calls as pairs
@@ -45,7 +46,7 @@ use Rattle.capi.specs.Packed.{packedOpened, packedRead, bandInto, packed
 use Rattle.carried.specs.Carry.{carryOut}
 use Rattle.capi.specs.CarryFitting.{carry-fits}
 use Rattle.capi.specs.LossFitting.{loss-fits}
-use Rattle.capi.specs.Fitting.{open-fits, add-fits, correct-fits, withdraw-fits, frame-fits, lines-fits, fit-fits, validate-fits, band-fits, report-fits}
+use Rattle.capi.specs.Fitting.{open-fits, add-fits, correct-fits, withdraw-fits, frame-fits, lines-fits, window-fits, fit-fits, validate-fits, band-fits, report-fits}
 use Rattle.capi.specs.PairFitting as pair
 use Rattle.capi.specs.ReplayFitting.{replay-fits}
 use Rattle.capi.specs.Reading.{numberIn, degreeIn, solvedIn, prunedIn, outliersIn, countIn, BookRead, FitRead, BandRead, ReportRead, LossRead, OpenedRead, ReadRead}
@@ -144,6 +145,9 @@ module _ (n : ℕ) (columns : Columns) (sums : List Float) where
 
   pub lines-back : (t : List ℕ) → BookRead (packedBook (addLinesOut n t columns sums .answer)) (addLinesOut n t columns sums .answer)
   lines-back t = book-read _ (lines-fits n columns sums t)
+
+  pub window-back : (p : Sample) → BookRead (packedBook (windowOut n p columns sums .answer)) (windowOut n p columns sums .answer)
+  window-back p = book-read _ (window-fits n columns sums p)
 
   module _ (scratch coefficients : List Float) where
     pub fit-back : (degree : ℕ) → (let a = fitOut n columns sums scratch coefficients degree .answer in FitRead (packedFit a) a)

@@ -16,6 +16,7 @@ ghost use Prim.Native.Nat.{_≤_};
 ghost use lib.ListN.{length};
 ghost use Rattle.basis.specs.Sizes.{highestDegree, maxSamples, maxTerms};
 ghost use Rattle.book.specs.Calls.{openOut, addOut, correctOut, withdrawOut, addFrameOut, addLinesOut};
+ghost use Rattle.book.specs.Window.{windowOut};
 ghost use Rattle.samples.specs.Columns.{columnsOf, noColumns};
 ghost use Rattle.lent.specs.Slices.{before, after};
 ghost use Rattle.lent.specs.Written.{over};
@@ -169,6 +170,23 @@ pub extern "C" fn stakebook_add(
     ensures { λ r. ⌜ BookPacked (addOut count (record { x = x; y = y; w = weight }) (columnsOf (before xs) (before ys) (before ws)) (before sums)) r (columnsOf (after xs) (after ys) (after ws)) (after sums) ⌝ }
 {
     packed::book(book::add(Book { count }, x, y, weight, xs, ys, ws, sums))
+}
+
+// One sample at the end; a full book first loses sample 0.
+#[no_mangle]
+pub extern "C" fn stakebook_add_window(
+    count: usize,
+    x: f64,
+    y: f64,
+    weight: f64,
+    xs: &mut [f64],
+    ys: &mut [f64],
+    ws: &mut [f64],
+    sums: &mut [f64],
+) -> u64
+    ensures { λ r. ⌜ BookPacked (windowOut count (record { x = x; y = y; w = weight }) (columnsOf (before xs) (before ys) (before ws)) (before sums)) r (columnsOf (after xs) (after ys) (after ws)) (after sums) ⌝ }
+{
+    packed::book(book::add_window(Book { count }, x, y, weight, xs, ys, ws, sums))
 }
 
 // Sample i gets a new y.

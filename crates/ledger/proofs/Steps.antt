@@ -4,12 +4,11 @@ use mathlib.Core.Bool.{Bool, true, false, cond}
 use mathlib.Core.List.{List, [], _∷_, _++_, map, append-nil}
 use Prim.Native.Nat.{ℕ, zero, suc, _+_, _-_, _≤_, _<_}
 use native.Mathlib.Omega.{arith}
-use borrow.Author.Tests.{lt-leb, eqb-true, eqb-false, not-false}
+use borrow.Author.Tests.{eqb-true}
 use lib.Dec.{eqb}
 use lib.ListN.{length, set, take, drop, length-append, length-set}
 use lib.Seq.{drop-set-lt, take-set-lt, append-snoc}
 use lib.Ieee.{Float}
-use Rattle.loops.specs.Cases.{either}
 use Rattle.loops.specs.Fold.{fold}
 use Rattle.samples.specs.Samples.{Sample}
 use Rattle.monomial.specs.Rows.{weightedRows}
@@ -18,21 +17,22 @@ use Rattle.frame.specs.Frame.{decode}
 use Rattle.decimal.specs.Lines.{readLines}
 use Rattle.book.specs.declared.Answer.{Answer}
 use Rattle.book.specs.declared.Answer.the-variants as answers
-use Rattle.book.specs.Refusals.{withdrawRefusal, sumsLent}
+use Rattle.book.specs.Refusals.{sumsLent}
 use Rattle.book.specs.RefusalLaws.{add-room, correct-room, withdraw-room, frame-room, lines-room}
-use Rattle.refusal.specs.Refusals.{firstOf, settle}
-use Rattle.refusal.specs.Laws.{first-none}
+use Rattle.refusal.specs.Refusals.{settle}
 use Rattle.refusal.specs.Rooms.{Room}
-use Rattle.refusal.specs.RoomLaws.{room-of, room, long-enough}
-use Rattle.refusal.specs.Tests.{capacity, sampleFinite, weightAbove}
+use Rattle.refusal.specs.RoomLaws.{room-of}
+use Rattle.refusal.specs.Tests.{capacity}
 use Rattle.samples.specs.Columns.{lengths, Column, ofX, ofY, ofW, value, samplesOf, withY}
 use Rattle.samples.specs.ColumnLaws.{of-every, lengths-same}
-use Rattle.book.specs.Calls.{Out, State, stateAfter, bookOf, bookAnswered, refused, addOut, correctOut, withdrawOut, withoutAt, addNext, addMany, addFrameOut, addLinesOut}
+use Rattle.book.specs.Calls.{Out, State, stateAfter, bookOf, bookAnswered, refused, addOut, correctOut, withdrawOut, addNext, addMany, addFrameOut, addLinesOut}
 use Rattle.book.specs.Many.{added, RoomFor}
 use Rattle.book.specs.ManyLaws.{room-one, room-rest, one-added, many-added, added-is}
 use Rattle.book.specs.Window.{windowRefusal, withPlace, windowOut}
+use Rattle.book.specs.WindowLaws.{window-room}
 use Rattle.ledger.specs.Ledger.{Change, adds, corrects, withdraws, frames, texts, windows, Lent, lentBy, outOf, newY, without, changed, refusalOf}
 use Rattle.book.proofs.Gap.{length-without}
+use Rattle.book.proofs.Withdrawn.{withdrawn, place-made, place-free}
 use Rattle.ledger.proofs.Lists.{length-new, new-same, new-y, length-less, column-add, column-without, without-rest, samples-are, sums-rest, sums-add, sums-correct, sums-long, drop-later}
 
 -- ---- what a call that is not refused leaves
@@ -43,16 +43,10 @@ correctedState s i y =
     let c = withY i y (s .columns) in
     record { count = s .count; columns = c; sums = take 256 (s .sums) ++ (drop 256 (sumsOf (weightedRows (samplesOf (s .count) c))) ++ drop 272 (s .sums)) }
 
--- sample i goes
-abbrev withdrawnState : State → ℕ → State
-withdrawnState s i =
-    let c : Column → List Float = λ k. withoutAt i (s .count) (s .columns k) in
-    record { count = s .count - 1; columns = c; sums = sumsOf (weightedRows (samplesOf (s .count - 1) c)) ++ drop 272 (s .sums) }
-
 abbrev done : State → Change → State
 done s (adds p) = added s p
 done s (corrects i y) = correctedState s i y
-done s (withdraws i) = withdrawnState s i
+done s (withdraws i) = withdrawn s i
 done s (frames f) = addMany (decode f) s
 done s (texts t) = addMany (readLines t) s
 done s (windows p) = addNext (withPlace s) p
@@ -168,10 +162,10 @@ module _ (m : Lent) (rest : List Float) where
       keeps ofW = refl
 
   -- sample i goes
-  leaves-withdraw : (l : List Sample) (s : State) (i : ℕ) → Holds l s → i < s .count → Leaves s (without i l) (withdrawnState s i)
+  leaves-withdraw : (l : List Sample) (s : State) (i : ℕ) → Holds l s → i < s .count → Leaves s (without i l) (withdrawn s i)
   leaves-withdraw l s i h r =
       let n = s .count in
-      let t = withdrawnState s i in
+      let t = withdrawn s i in
       let f = within s n (h .room) in
       let c = ap (λ j. j - 1) (h .count) ∙ sym (length-less l i (rw (h .count) at r)) in
       let b : (k : Column) → take (n - 1) (t .columns k) ≡ map (value k) (without i l) = λ k.
@@ -182,63 +176,34 @@ module _ (m : Lent) (rest : List Float) where
       (λ k. without-rest i n (s .columns k) r (f k))
       (ap₂ (λ u v. sumsOf (weightedRows u) ++ v) (held-by (without i l) t c b) (sums-rest l rest (s .sums) (h .sums)))
 
--- ---- a window's add, where 1, 4 and 5 do not hold: neither the withdrawal nor the add is refused
-
-module _ (s : State) (p : Sample) (e : windowRefusal (s .count) p (lentBy s .columns) (lentBy s .sums) ≡ 0) where
-  window-tests : (272 ≤ length (s .sums)) × (s .count ≤ capacity (lentBy s .columns)) × (sampleFinite p ≡ true) × (weightAbove p ≡ true) × (0 < capacity (lentBy s .columns))
-  unfolding windowRefusal
-  window-tests =
-      let k1 = first-none _ 0 _ e in
-      let k4 = first-none _ 3 _ (k1 .1) in
-      let k15 = first-none _ 14 _ (k4 .1) in
-      let k5 = first-none _ 4 _ (k15 .1) in
-      let z = eqb-false _ 0 (k5 .0) in
-      let r = room (s .count) (lentBy s .columns) (sumsLent (lentBy s .sums)) (k1 .0) in
-      (r .enough .0, r .count, not-false _ (k4 .0), not-false _ (k15 .0), positive _ z)
+  -- a full window book loses sample 0
+  leaves-place : (l : List Sample) (s : State) → Holds l s → 0 < capacity (lentBy s .columns)
+      → Leaves s (cond (eqb (length l) (capacity (m .columns))) (without 0 l) l) (withPlace s)
+  leaves-place l s h some =
+      let same : eqb (s .count) (capacity (lentBy s .columns)) ≡ eqb (length l) (capacity (m .columns)) = λ i. eqb (h .count i) (capacity (h .lent i .columns)) in
+      rw (place-made s (roomy s (s .count) (h .room) (h .long)) some)
+      (subst (λ (b : Bool). Leaves s (cond b (without 0 l) l) (cond (eqb (s .count) (capacity (lentBy s .columns))) (withdrawn s 0) s)) same
+      (go (eqb (s .count) (capacity (lentBy s .columns))) refl))
     where
-      positive : (c : ℕ) → (c ≡ 0 → ⊥) → 0 < c
-      positive zero z = absurd (z refl)
-      positive (suc c) z = omega arith
+      go : (b : Bool) → eqb (s .count) (capacity (lentBy s .columns)) ≡ b → Leaves s (cond b (without 0 l) l) (cond b (withdrawn s 0) s)
+      go false q = leaves-all l s h
+      go true q = leaves-withdraw l s 0 h (omega (arith, some, eqb-true (s .count) (capacity (lentBy s .columns)) q))
 
-withdraw-taken : (s : State) (i : ℕ) → 272 ≤ length (s .sums) → s .count ≤ capacity (lentBy s .columns) → i < s .count
-    → stateAfter (s .count) (withdrawOut (s .count) i (s .columns) (s .sums)) ≡ withdrawnState s i
-unfolding withdrawOut withdrawRefusal firstOf
-withdraw-taken s i t h r =
-    rw (long-enough (s .count) (lengths (s .columns)) (sumsLent (length (s .sums))) (roomy s (s .count) h t), lt-leb (s .count) i r)
+  -- and the sample goes to the end
+  leaves-window : (l : List Sample) (s : State) (p : Sample) → Holds l s → windowRefusal (s .count) p (lentBy s .columns) (lentBy s .sums) ≡ 0
+      → Leaves s (changed m l (windows p)) (addNext (withPlace s) p)
+  unfolding changed
+  leaves-window l s p h e =
+      let w = window-room (s .count) p (lengths (s .columns)) (length (s .sums)) e in
+      let r = place-free s (w .0) (w .3) in
+      let k = cond (eqb (length l) (capacity (m .columns))) (without 0 l) l in
+      let one = leaves-place l s h (w .3) in
+      rw (one-added (withPlace s) p r (w .1) (w .2))
+      (leaves-then k (k ++ (p ∷ [])) s (withPlace s) (added (withPlace s) p) one (leaves-add k (withPlace s) p (one .holds) (r .count)) (omega arith))
+
+-- ---- a call: what it leaves of s is o, and the ledger's list and answer are l and a
 
 module _ (m : Lent) (rest : List Float) where
-  leaves-window : (l : List Sample) (s : State) (p : Sample) → Holds m rest l s → windowRefusal (s .count) p (lentBy s .columns) (lentBy s .sums) ≡ 0
-      → Leaves m rest s (changed m l (windows p)) (addNext (withPlace s) p)
-  unfolding changed withPlace
-  leaves-window l s p h e =
-      let same : eqb (s .count) (capacity (lentBy s .columns)) ≡ eqb (length l) (capacity (m .columns)) = λ i. eqb (h .count i) (capacity (h .lent i .columns)) in
-      subst (λ (b : Bool). Leaves m rest s (cond b (without 0 l) l ++ (p ∷ [])) (addNext (withPlace s) p)) same (go (eqb (s .count) (capacity (lentBy s .columns))) refl)
-    where
-      go : (b : Bool) → eqb (s .count) (capacity (lentBy s .columns)) ≡ b
-          → Leaves m rest s (cond b (without 0 l) l ++ (p ∷ [])) (addNext (cond b (stateAfter (s .count) (withdrawOut (s .count) 0 (s .columns) (s .sums))) s) p)
-      go false q =
-          let w = window-tests s p e in
-          let z = eqb-false (s .count) (capacity (lentBy s .columns)) q in
-          let r : s .count + 1 ≤ capacity (lentBy s .columns) = below (s .count) (capacity (lentBy s .columns)) (w .1) z in
-          rw (one-added s p (roomy s (s .count + 1) r (w .0)) (w .2) (w .3)) (leaves-add m rest l s p h r)
-        where
-          below : (a b : ℕ) → a ≤ b → (a ≡ b → ⊥) → a + 1 ≤ b
-          below a b u v = either (a + 1) b (λ x. x) (λ x. absurd (v (omega arith)))
-      go true q =
-          let w = window-tests s p e in
-          let z = eqb-true (s .count) (capacity (lentBy s .columns)) q in
-          let t = withdrawnState s 0 in
-          let some : 0 < s .count = omega (arith, z, w .4) in
-          let one = leaves-withdraw m rest l s 0 h some in
-          let lent : lentBy s ≡ lentBy t = h .lent ∙ sym (one .holds .lent) in
-          let r : t .count + 1 ≤ capacity (lentBy t .columns) =
-          subst (λ (c : Lent). s .count - 1 + 1 ≤ capacity (c .columns)) lent (omega (arith, z, w .4)) in
-          let is = ap (λ (u : State). addNext u p) (withdraw-taken s 0 (w .0) (w .1) some) ∙ one-added t p (roomy t (t .count + 1) r (one .holds .long)) (w .2) (w .3) in
-          subst (λ (u : State). Leaves m rest s (without 0 l ++ (p ∷ [])) u) (sym is)
-          (leaves-then m rest (without 0 l) (without 0 l ++ (p ∷ [])) s t (added t p) one (leaves-add m rest (without 0 l) t p (one .holds) r) (omega arith))
-
-  -- ---- a call: what it leaves of s is o, and the ledger's list and answer are l and a
-
   leaves : (l : List Sample) (s : State) → Holds m rest l s → (c : Change) → refusalOf (lentBy s) (s .count) c ≡ 0 → Leaves m rest s (changed m l c) (done s c)
   unfolding refusalOf changed
   leaves l s h (adds p) e = leaves-add m rest l s p h (add-room (s .count) (lengths (s .columns)) (length (s .sums)) p e .0 .count)
@@ -251,7 +216,7 @@ module _ (m : Lent) (rest : List Float) where
   leaves l s h (texts t) e =
       let r = lines-room (s .count) (lengths (s .columns)) (length (s .sums)) t e in
       rw (many-added (readLines t) s (r .0) (r .2, r .3)) (leaves-many m rest (readLines t) l s h (r .0))
-  leaves l s h (windows p) e = leaves-window l s p h e
+  leaves l s h (windows p) e = leaves-window m rest l s p h e
 
   pub record Stepped (s : State) (o : Out) (l : List Sample) (a : Answer) : Type 0 where
     pub leaves : Leaves m rest s l (stateAfter (s .count) o)

@@ -63,7 +63,7 @@ lentOf columns sums = lentBy (stateOf 0 columns sums)
 
 -- ---- the program: each call gets the book last returned, and the columns and sums as the call before left them
 
--- what a call that changes a book answers and leaves: the definition that its contract promises (a window's add has no code yet)
+-- what a call that changes a book answers and leaves: the definition that its contract promises
 unfoldable pub outOf : State → Change → Out
 outOf s (adds p) = addOut (s .count) p (s .columns) (s .sums)
 outOf s (corrects i y) = correctOut (s .count) i y (s .columns) (s .sums)
