@@ -66,7 +66,7 @@ pub enum PruningRule {
     Size,
 }
 
-/// A report's settings.
+/// The settings of a report or a split.
 #[derive(Debug, Clone, Copy, PartialEq)]
 pub struct Settings {
     pub bound: DegreeBound,
@@ -74,6 +74,19 @@ pub struct Settings {
     pub confidence: Confidence,
     pub tolerance: Tolerance,
     pub pruning: PruningRule,
+}
+
+impl Settings {
+    /// The two lists that the C interface takes, of numbers and of values.
+    pub(crate) fn lists(self) -> ([u32; 6], [f64; 2]) {
+        let (bound, most) = self.bound.numbers();
+        let (confidence, score) = self.confidence.numbers();
+        let (tolerance, value) = self.tolerance.numbers();
+        // No bound is above the count less 1, so that the greatest degree stands for all above it.
+        let most = u32::try_from(most).unwrap_or(u32::MAX);
+        let (criterion, pruning) = (self.criterion.number(), self.pruning.number());
+        ([bound, most, criterion, confidence, tolerance, pruning], [score, value])
+    }
 }
 
 impl DegreeBound {
