@@ -27,6 +27,10 @@ pub enum Call {
         degree: usize,
     },
     Report(Settings),
+    Split {
+        limit: usize,
+        settings: Settings,
+    },
     Validate {
         folds: usize,
         bound: DegreeBound,
@@ -54,6 +58,12 @@ pub enum Answer {
         outliers: usize,
         pruned: usize,
     },
+    Split {
+        b: usize,
+        degrees: (usize, usize),
+        tests: usize,
+        total: f64,
+    },
     Band {
         value: f64,
         lower: f64,
@@ -72,6 +82,9 @@ impl fmt::Display for Answer {
             Answer::Degree(degree) => write!(f, "fit {degree}"),
             Answer::Report { degree, solved, outliers, pruned } => {
                 write!(f, "report {degree} {solved} {outliers} {pruned}")
+            }
+            Answer::Split { b, degrees: (before, after), tests, total } => {
+                write!(f, "split {b} {before} {after} {tests} {}", float_field(*total))
             }
             Answer::Band { value, lower, upper } => {
                 let [value, lower, upper] = [*value, *lower, *upper].map(float_field);

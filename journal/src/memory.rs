@@ -3,7 +3,7 @@
 use judge::refusals::{Lengths, MOST_SAMPLES};
 use judge::sums::{PLACES, TERMS};
 
-/// The names of the memory; the last two hold bytes.
+/// The names of the memory; pruned and outliers hold bytes.
 #[derive(Debug, Clone, Copy, PartialEq, Eq)]
 pub enum Name {
     Xs,
@@ -17,10 +17,12 @@ pub enum Name {
     Upper,
     Pruned,
     Outliers,
+    Before,
+    After,
 }
 
 /// All names, with their words.
-pub const NAMES: [(Name, &str); 11] = [
+pub const NAMES: [(Name, &str); 13] = [
     (Name::Xs, "xs"),
     (Name::Ys, "ys"),
     (Name::Ws, "ws"),
@@ -32,6 +34,8 @@ pub const NAMES: [(Name, &str); 11] = [
     (Name::Upper, "upper"),
     (Name::Pruned, "pruned"),
     (Name::Outliers, "outliers"),
+    (Name::Before, "before"),
+    (Name::After, "after"),
 ];
 
 /// What a text lends before its first line.
@@ -47,6 +51,8 @@ pub const LENT: Lengths = Lengths {
     lower: MOST_SAMPLES,
     upper: MOST_SAMPLES,
     outlier: MOST_SAMPLES,
+    before: TERMS,
+    after: TERMS,
 };
 
 /// Everything that can be lent, whole.
@@ -63,6 +69,8 @@ pub struct Memory {
     pub lower: Vec<f64>,
     pub upper: Vec<f64>,
     pub outlier: Vec<u8>,
+    pub before: Vec<f64>,
+    pub after: Vec<f64>,
 }
 
 /// What one call is lent.
@@ -78,6 +86,8 @@ pub struct Lent<'a> {
     pub lower: &'a mut [f64],
     pub upper: &'a mut [f64],
     pub outlier: &'a mut [u8],
+    pub before: &'a mut [f64],
+    pub after: &'a mut [f64],
 }
 
 /// The places of one memory.
@@ -109,6 +119,8 @@ impl Name {
             Name::Upper => &mut lengths.upper,
             Name::Pruned => &mut lengths.pruned,
             Name::Outliers => &mut lengths.outlier,
+            Name::Before => &mut lengths.before,
+            Name::After => &mut lengths.after,
         }
     }
 }
@@ -130,6 +142,8 @@ impl Memory {
             lower: floats(),
             upper: floats(),
             outlier: bytes(),
+            before: floats(),
+            after: floats(),
         }
     }
 
@@ -147,6 +161,8 @@ impl Memory {
             lower: &mut self.lower[..lengths.lower],
             upper: &mut self.upper[..lengths.upper],
             outlier: &mut self.outlier[..lengths.outlier],
+            before: &mut self.before[..lengths.before],
+            after: &mut self.after[..lengths.after],
         }
     }
 
@@ -163,6 +179,8 @@ impl Memory {
             Name::Upper => Places::Floats(&self.upper),
             Name::Pruned => Places::Bytes(&self.pruned),
             Name::Outliers => Places::Bytes(&self.outlier),
+            Name::Before => Places::Floats(&self.before),
+            Name::After => Places::Floats(&self.after),
         }
     }
 
@@ -178,6 +196,8 @@ impl Memory {
             Name::Errors => &mut self.errors,
             Name::Lower => &mut self.lower,
             Name::Upper => &mut self.upper,
+            Name::Before => &mut self.before,
+            Name::After => &mut self.after,
             Name::Pruned | Name::Outliers => return None,
         })
     }

@@ -101,6 +101,35 @@ fn report(packed: u64) -> Answer {
     })
 }
 
+/// A report's settings as two lists, in one of several forms in turn with the count.
+struct Lists {
+    words: Vec<u32>,
+    values: Vec<f64>,
+}
+
+impl Lists {
+    fn of(settings: Settings, count: usize) -> Self {
+        let (bound, most) = bound_numbers(settings.bound);
+        let (confidence, score) = confidence_numbers(settings.confidence);
+        let (tolerance, value) = tolerance_numbers(settings.tolerance);
+        let criterion = criterion_number(settings.criterion);
+        // The bound is at most the count less 1, so that a greater degree is as good as the greatest.
+        let most = u32::try_from(most).unwrap_or(u32::MAX);
+        let pruning = pruning_number(settings.pruning, count % 3 == 0);
+        let mut words = vec![bound, most, criterion, confidence, tolerance, pruning, u32::MAX];
+        let mut values = vec![score, value, f64::NAN];
+        // What is past the last setting is not read; the last word may be left out where it is 0.
+        let (lent_words, lent_values) = match count % 4 {
+            0 | 1 if pruning == 0 => (5, 2),
+            0 | 1 => (6, 2),
+            _ => (7, 3),
+        };
+        words.truncate(lent_words);
+        values.truncate(lent_values);
+        Self { words, values }
+    }
+}
+
 /// What a call that reads a book is lent, as pointers and lengths.
 macro_rules! book_read {
     ($call:expr, $lent:ident, ($($first:expr),*), ($($written:ident),*) $(, ($($last:expr),*))?) => {
@@ -170,6 +199,33 @@ fn band_into(
     answer
 }
 
+/// A split with so many places for its total. It writes one and none past it; a refused one writes none.
+fn split_into(
+    places: usize,
+    count: usize,
+    lent: &mut Lent,
+    Lists { words, values }: &Lists,
+    limit: usize,
+) -> Answer {
+    let mut total = [UNWRITTEN; 2];
+    let packed = book_read!(
+        sys::stakebook_split,
+        lent,
+        (count, words.as_ptr(), words.len(), values.as_ptr(), values.len(), limit),
+        (before, after),
+        (total.as_mut_ptr(), places)
+    );
+    let answer = read(packed, |packed| Answer::Split {
+        b: sys::samples_before(packed),
+        degrees: (sys::degree(packed), sys::degree_after(packed)),
+        tests: sys::tests(packed),
+        total: total[0],
+    });
+    let written = usize::from(matches!(answer, Answer::Split { .. }));
+    assert!(total[written..].iter().all(|&number| number == UNWRITTEN), "{total:?}");
+    answer
+}
+
 /// What is read at an offset into so many places: three are written and none past them, none at the end
 /// or where it is refused.
 fn read_into(places: usize, frame: &[u8], at: usize) -> (u64, [f64; 4]) {
@@ -234,11 +290,11 @@ impl Calls for Port {
 
     /// polyfit's rule by either function, in turn with the count; by size by the one that takes lists.
     fn report(&self, count: usize, lent: Lent, settings: Settings) -> Answer {
-        let (bound, most) = bound_numbers(settings.bound);
-        let criterion = criterion_number(settings.criterion);
-        let (confidence, score) = confidence_numbers(settings.confidence);
-        let (tolerance, value) = tolerance_numbers(settings.tolerance);
         if settings.pruning == PruningRule::Positive && count % 2 == 0 {
+            let (bound, most) = bound_numbers(settings.bound);
+            let criterion = criterion_number(settings.criterion);
+            let (confidence, score) = confidence_numbers(settings.confidence);
+            let (tolerance, value) = tolerance_numbers(settings.tolerance);
             return report(book_read!(
                 sys::stakebook_report,
                 lent,
@@ -246,24 +302,27 @@ impl Calls for Port {
                 (coefficients, errors, pruned, lower, upper, outlier)
             ));
         }
-        // The bound is at most the count less 1, so that a greater degree is as good as the greatest.
-        let most = u32::try_from(most).unwrap_or(u32::MAX);
-        let pruning = pruning_number(settings.pruning, count % 3 == 0);
-        let words = [bound, most, criterion, confidence, tolerance, pruning, u32::MAX];
-        let values = [score, value, f64::NAN];
-        // What is past the last setting is not read; the last word may be left out where it is 0.
-        let (lent_words, lent_values) = match count % 4 {
-            0 | 1 if pruning == 0 => (5, 2),
-            0 | 1 => (6, 2),
-            _ => (7, 3),
-        };
-        let (words, values) = (&words[..lent_words], &values[..lent_values]);
+        let Lists { words, values } = Lists::of(settings, count);
         report(book_read!(
             sys::stakebook_report_by,
             lent,
             (count, words.as_ptr(), words.len(), values.as_ptr(), values.len()),
             (coefficients, errors, pruned, lower, upper, outlier)
         ))
+    }
+
+    /// Without a place for the total it is refused by 1, and nothing is written.
+    fn split(&self, count: usize, mut lent: Lent, settings: Settings, limit: usize) -> Answer {
+        let lists = Lists::of(settings, count);
+        let places = |lent: &Lent| {
+            let all = lent.scratch.iter().chain(lent.before.iter()).chain(lent.after.iter());
+            all.map(|number| number.to_bits()).collect::<Vec<u64>>()
+        };
+        let before = places(&lent);
+        let short = split_into(0, count, &mut lent, &lists, limit);
+        let same = places(&lent) == before;
+        assert!(short == Answer::Refused(1) && same, "no place for a total: {short:?}");
+        split_into(1, count, &mut lent, &lists, limit)
     }
 
     fn validate(

@@ -105,13 +105,8 @@ fn call(word: &[u8], fields: &mut Fields) -> Read<Call> {
         b"lines" => Call::AddLines(fields.bytes()?),
         b"carry" => Call::Carry,
         b"fit" => Call::Fit { degree: fields.number()? },
-        b"report" => Call::Report(Settings {
-            bound: fields.bound()?,
-            criterion: fields.criterion()?,
-            confidence: fields.confidence()?,
-            tolerance: fields.tolerance()?,
-            pruning: fields.pruning()?,
-        }),
+        b"report" => Call::Report(fields.settings()?),
+        b"split" => Call::Split { limit: fields.number()?, settings: fields.settings()? },
         b"validate" => Call::Validate {
             folds: fields.number()?,
             bound: fields.bound()?,
@@ -235,6 +230,17 @@ impl<'a> Fields<'a> {
             return self.malformed(Message::TooLarge);
         }
         Ok(digits.chunks(2).map(|pair| 16 * pair[0] + pair[1]).collect())
+    }
+
+    /// A report's.
+    fn settings(&mut self) -> Read<Settings> {
+        Ok(Settings {
+            bound: self.bound()?,
+            criterion: self.criterion()?,
+            confidence: self.confidence()?,
+            tolerance: self.tolerance()?,
+            pruning: self.pruning()?,
+        })
     }
 
     fn bound(&mut self) -> Read<DegreeBound> {
@@ -366,6 +372,17 @@ fn pruning_field(rule: PruningRule) -> &'static str {
     }
 }
 
+fn settings_fields(settings: &Settings) -> String {
+    format!(
+        "{} {} {} {}{}",
+        bound_fields(settings.bound),
+        criterion_field(settings.criterion),
+        confidence_fields(settings.confidence),
+        tolerance_fields(settings.tolerance),
+        pruning_field(settings.pruning)
+    )
+}
+
 /// The space and the field of bytes; no bytes have none.
 fn bytes_field(bytes: &[u8]) -> String {
     let digits = bytes.iter().map(|byte| format!("{byte:02X}"));
@@ -406,15 +423,10 @@ impl fmt::Display for Call {
             Call::AddLines(text) => write!(f, "lines{}", bytes_field(text)),
             Call::Carry => write!(f, "carry"),
             Call::Fit { degree } => write!(f, "fit {degree}"),
-            Call::Report(settings) => write!(
-                f,
-                "report {} {} {} {}{}",
-                bound_fields(settings.bound),
-                criterion_field(settings.criterion),
-                confidence_fields(settings.confidence),
-                tolerance_fields(settings.tolerance),
-                pruning_field(settings.pruning)
-            ),
+            Call::Report(settings) => write!(f, "report {}", settings_fields(settings)),
+            Call::Split { limit, settings } => {
+                write!(f, "split {limit} {}", settings_fields(settings))
+            }
             Call::Validate { folds, bound, criterion } => {
                 let criterion = criterion_field(*criterion);
                 write!(f, "validate {folds} {} {criterion}", bound_fields(*bound))
@@ -533,6 +545,21 @@ mod tests {
                 &format!("report relaxed 0 aic p95 {ONE} none {ONE} size 1"),
                 "field 10: one too many",
             ),
+            ("split", "field 2: missing"),
+            ("split relaxed 0", "field 2: not a number"),
+            ("split 1234567890", "field 2: not a number"),
+            ("split 30 tight", "field 3: not a name"),
+            ("split 30 custom 1 aic", "field 6: missing"),
+            (&format!("split 30 custom 1 aic p95 {ONE} none {ONE}"), "fits"),
+            (&format!("split 30 custom 1 aic p95 {ONE} none {ONE} size"), "fits"),
+            (&format!("split 30 custom 1 aic p95 {ONE} none {ONE} sign"), "field 10: not a name"),
+            (
+                &format!("split 30 custom 1 aic p95 {ONE} none {ONE} size 1"),
+                "field 11: one too many",
+            ),
+            ("lent before 4200", "fits"),
+            ("show after 0 17", "fits"),
+            (&format!("put before 16 {ONE}"), "fits"),
             ("validate 3 custom 2 bic", "fits"),
             ("validate 3 custom 2 bic 0", "field 6: one too many"),
         ];
@@ -601,6 +628,8 @@ mod tests {
             "fit 15".to_string(),
             format!("report custom 7 bic p999 0000000000000000 measurement {ONE}"),
             format!("report custom 7 bic p999 0000000000000000 measurement {ONE} size"),
+            format!("split 0 relaxed 0 aic p80 0000000000000000 none 0000000000000000"),
+            format!("split 999999999 custom 3 bic custom {ONE} variance {ONE} size"),
             "validate 10 aggressive 0 aic".to_string(),
             format!("band {ONE} 2 custom {ONE} none 0000000000000000"),
         ];
