@@ -47,6 +47,8 @@ fn memory_of(samples: &[Sample]) -> Memory {
         lower: vec![0.0; count],
         upper: vec![0.0; count],
         outlier: vec![0; count],
+        before: vec![0.0; 16],
+        after: vec![0.0; 16],
     }
 }
 
@@ -63,6 +65,8 @@ fn lent(memory: &mut Memory) -> Lent<'_> {
         lower: &mut memory.lower,
         upper: &mut memory.upper,
         outlier: &mut memory.outlier,
+        before: &mut memory.before,
+        after: &mut memory.after,
     }
 }
 

@@ -42,6 +42,7 @@ pub fn name(call: &Call) -> &'static str {
         Call::Carry => "carry",
         Call::Fit { .. } => "fit",
         Call::Report(_) => "report",
+        Call::Split { .. } => "split",
         Call::Validate { .. } => "validate",
         Call::Band { .. } => "band",
         Call::Reader(_) => "reader",
@@ -60,6 +61,7 @@ pub fn conditions(call: &Call, lengths: &Lengths, count: usize, samples: &[Sampl
         Call::Carry => refusals::carry(lengths, count),
         Call::Fit { degree } => refusals::fit(lengths, count, samples, *degree),
         Call::Report(settings) => refusals::report(lengths, count, samples, *settings),
+        Call::Split { settings, .. } => refusals::split(lengths, count, samples, *settings),
         Call::Validate { folds, bound, .. } => {
             refusals::validate(lengths, count, samples, *folds, *bound)
         }

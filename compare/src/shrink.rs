@@ -1,7 +1,7 @@
 //! Makes a failing list smaller while it still fails.
 
 use journal::Call;
-use judge::fit::{Criterion, PruningRule};
+use judge::fit::{Criterion, PruningRule, Settings};
 use judge::frame;
 use judge::statistics::{Confidence, Tolerance};
 use judge::Sample;
@@ -97,20 +97,26 @@ fn simpler_calls(call: &Call) -> Vec<Call> {
         Call::AddFrame(bytes) => simpler_frames(bytes).into_iter().map(Call::AddFrame).collect(),
         Call::AddLines(text) => shorter_texts(text).into_iter().map(Call::AddLines).collect(),
         Call::Report(settings) => {
-            let mut calls = Vec::new();
-            let mut push = |simpler| {
-                if simpler != *settings {
-                    calls.push(Call::Report(simpler));
-                }
-            };
-            push(judge::fit::Settings { tolerance: Tolerance::None, ..*settings });
-            push(judge::fit::Settings { confidence: Confidence::P95, ..*settings });
-            push(judge::fit::Settings { criterion: Criterion::Aic, ..*settings });
-            push(judge::fit::Settings { pruning: PruningRule::Positive, ..*settings });
-            calls
+            simpler_settings(*settings).into_iter().map(Call::Report).collect()
+        }
+        Call::Split { limit, settings } => {
+            let limit = *limit;
+            let with = |settings| Call::Split { limit, settings };
+            simpler_settings(*settings).into_iter().map(with).collect()
         }
         _ => Vec::new(),
     }
+}
+
+fn simpler_settings(settings: Settings) -> Vec<Settings> {
+    let mut simpler = vec![
+        Settings { tolerance: Tolerance::None, ..settings },
+        Settings { confidence: Confidence::P95, ..settings },
+        Settings { criterion: Criterion::Aic, ..settings },
+        Settings { pruning: PruningRule::Positive, ..settings },
+    ];
+    simpler.retain(|simpler| *simpler != settings);
+    simpler
 }
 
 /// The text without some of its bytes, the much shorter ones first.

@@ -32,6 +32,8 @@ fn again<'a>(lent: &'a mut Lent<'_>) -> Lent<'a> {
         lower: lent.lower,
         upper: lent.upper,
         outlier: lent.outlier,
+        before: lent.before,
+        after: lent.after,
     }
 }
 
