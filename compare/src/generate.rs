@@ -337,7 +337,8 @@ fn weighed(random: &mut Random) -> Vec<Step> {
 fn two_seasons(random: &mut Random) -> Vec<Step> {
     let n = match random.below(8) {
         0 => random.between(1, 4),
-        1 => random.between(12, 20),
+        1 => random.between(12, 16),
+        2 => random.between(17, 20),
         _ => random.between(4, 11),
     };
     let melt = random.between(0, n);
@@ -364,7 +365,11 @@ fn two_seasons(random: &mut Random) -> Vec<Step> {
             3 if count > 0 && maker.random.one_in(3) => poke.push(column_poke(maker.random, count)),
             _ => {}
         }
-        let call = split::call(maker.random, &maker.ledger.samples);
+        let mut settings = arguments::settings(maker.random);
+        if count > 16 && maker.random.one_in(4) {
+            settings.bound = DegreeBound::Custom(maker.random.pick(&[15, 16]));
+        }
+        let call = split::call_by(maker.random, &maker.ledger.samples, settings);
         maker.step(poke, call);
         if !back.is_empty() {
             let call = split::call(maker.random, &maker.ledger.samples);

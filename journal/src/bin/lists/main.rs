@@ -4,11 +4,13 @@
 //! `lists season`: a season of a field group, with every malformed line and document 01's refusals.
 //! `lists lines`: readings as written in the field book, document 02's E1.
 //! `lists weights`: weighted samples, document 02's E5.
+//! `lists split`: a list broken in two, document 02's E8.
 
 mod edges;
 mod lines;
 mod list;
 mod season;
+mod split;
 mod weights;
 
 use std::process::ExitCode;
@@ -19,8 +21,9 @@ fn main() -> ExitCode {
         Some("season") => season::season(),
         Some("lines") => lines::lines(),
         Some("weights") => weights::weights(),
+        Some("split") => split::split(),
         _ => {
-            eprintln!("lists edges, lists season, lists lines, or lists weights");
+            eprintln!("lists edges, season, lines, weights or split");
             return ExitCode::FAILURE;
         }
     };
