@@ -628,7 +628,7 @@ mod tests {
             "fit 15".to_string(),
             format!("report custom 7 bic p999 0000000000000000 measurement {ONE}"),
             format!("report custom 7 bic p999 0000000000000000 measurement {ONE} size"),
-            format!("split 0 relaxed 0 aic p80 0000000000000000 none 0000000000000000"),
+            "split 0 relaxed 0 aic p80 0000000000000000 none 0000000000000000".to_string(),
             format!("split 999999999 custom 3 bic custom {ONE} variance {ONE} size"),
             "validate 10 aggressive 0 aic".to_string(),
             format!("band {ONE} 2 custom {ONE} none 0000000000000000"),
