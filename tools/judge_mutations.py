@@ -81,6 +81,23 @@ FAULTS = [
      "let coefficients = solved(samples, sums, degree).ok_or(11)?;"),
     ("losses: their memory not judged beside scratch", "refusals.rs", "lengths.scratch < count || lengths.losses < count", "lengths.scratch < count && lengths.losses < count"),
     ("two columns: a correction that folds A", "two_column.rs", "memory.sums[G..PLACES].fill(0.0);", "memory.sums[..PLACES].fill(0.0); for i in 0..count { memory.add_to_a(memory.x[i]); }"),
+    ("split: the last among equals", "split.rs", "total < least.total", "total <= least.total"),
+    ("split: the least score for the chosen one's", "split.rs", "score: scores[degree]?", "score: crate::fit::least(&scores)"),
+    ("split: a failing pivot not counted", "solve.rs", "held + failed", "held + 0 * failed"),
+    ("split: the tests of a break passed over dropped", "split.rs", "breaks.iter().map(|a_break| a_break.tests).sum()",
+     "breaks.iter().filter(|at| at.before.is_some() && at.after.is_some()).map(|at| at.tests).sum()"),
+    ("split: 16 at equality", "split.rs", "if tests(&breaks) > limit {", "if tests(&breaks) >= limit {"),
+    ("split: 11 before 16", "split.rs", "if tests(&breaks) > limit {", "if tests(&breaks) > limit && least_total(&breaks).is_some() {"),
+    ("split: sums after the break by subtraction", "split.rs", "after: side_fit(after, settings),",
+     "after: { let (whole, mut sums) = (folded_afresh(samples), folded_afresh(before)); (0..272).for_each(|i| sums[i] = whole[i] - sums[i]);"
+     " let scores = scores(after, &sums, max_degree(settings.bound, after.len()), settings.criterion);"
+     " chosen(&scores).and_then(|degree| Some(SideFit { degree, coefficients: solved(after, &sums, degree)?, score: scores[degree]? })) },"),
+    ("split: sides without weights", "split.rs", "let (before, after) = samples.split_at(b);",
+     "let plain: Vec<Sample> = samples.iter().map(|s| Sample { weight: 1.0, ..*s }).collect(); let (before, after) = plain.split_at(b);"),
+    ("split: one sample on a side", "split.rs", "*b >= LEAST_ON_A_SIDE && n - b >= LEAST_ON_A_SIDE", "*b >= 1 && n - b >= 1"),
+    ("split: the last break not tried", "split.rs", "*b >= LEAST_ON_A_SIDE && n - b >= LEAST_ON_A_SIDE", "*b >= 2 && n - b >= 2 + usize::from(n > 4)"),
+    ("split: scratch left at 16 and 11", "book.rs", "clear_scratch(scratch, count);\n    let split = split::split(&samples, settings, limit)?;",
+     "let split = split::split(&samples, settings, limit)?;\n    clear_scratch(scratch, count);"),
 ]
 
 

@@ -6,6 +6,7 @@ use judge::statistics::{Confidence, DegreeBound, Tolerance};
 use judge::Sample;
 
 use crate::random::Random;
+use crate::split;
 use crate::weights;
 
 /// One in so many arguments is not finite.
@@ -137,11 +138,13 @@ pub fn validate(random: &mut Random, n: usize) -> Call {
 
 /// A call that reads a fit.
 pub fn reading(random: &mut Random, samples: &[Sample]) -> Call {
-    match random.below(10) {
+    match random.below(12) {
         0 | 1 => Call::Fit { degree: degree(random, samples.len()) },
         2 | 3 => band(random, samples),
         4 => validate(random, samples.len()),
-        5 => Call::Losses(settings(random)),
+        // Of many samples it takes long.
+        5 if samples.len() <= 20 => split::call(random, samples),
+        6 => Call::Losses(settings(random)),
         _ => Call::Report(settings(random)),
     }
 }

@@ -7,7 +7,7 @@ use std::mem::ManuallyDrop;
 use std::ptr;
 use std::time::{Duration, Instant};
 
-use journal::{Call, Judge, Lent, Memory, Side};
+use journal::{Answer, Call, Judge, Lent, Memory, Side};
 use judge::fit::{Criterion, PruningRule, Settings};
 use judge::statistics::{Confidence, DegreeBound, Tolerance};
 use judge::Sample;
@@ -47,6 +47,8 @@ fn memory_of(samples: &[Sample]) -> Memory {
         lower: vec![0.0; count],
         upper: vec![0.0; count],
         outlier: vec![0; count],
+        before: vec![0.0; 16],
+        after: vec![0.0; 16],
         losses: vec![0.0; count],
     }
 }
@@ -64,6 +66,8 @@ fn lent(memory: &mut Memory) -> Lent<'_> {
         lower: &mut memory.lower,
         upper: &mut memory.upper,
         outlier: &mut memory.outlier,
+        before: &mut memory.before,
+        after: &mut memory.after,
         losses: &mut memory.losses,
     }
 }
@@ -100,6 +104,10 @@ fn by_reference(call: &Call, samples: &[Sample]) -> Option<f64> {
         Call::Report(settings) => {
             Some(best(|| drop(black_box(reference::report(samples, settings)))))
         }
+        Call::Split { limit, settings } => Some(best(|| {
+            let breaks = reference::breaks(samples, settings);
+            drop(black_box(reference::split(breaks, limit)));
+        })),
         Call::Losses(settings) => {
             Some(best(|| drop(black_box(reference::losses(samples, settings)))))
         }
@@ -242,6 +250,46 @@ fn print_rows(count: usize, port: &dyn Side, further: &mut Further) {
     }
 }
 
+/// Splits of so many samples, up to so many degrees. At 4,096 one call takes seconds, by polyfit many, so that it
+/// is made once.
+const SPLIT_COUNTS: [usize; 3] = [100, 1_000, 4_096];
+const SPLIT_BOUNDS: [usize; 2] = [3, 8];
+
+/// Prints the splits, how they grow with n, and how many pivot tests a millisecond of the port holds: what a limit costs.
+fn print_splits(port: &dyn Side) {
+    println!();
+    println!("| Call | n | port / plain | polyfit / port | GSL / port | port, ms | plain, ms | polyfit, ms | GSL, ms |");
+    println!("|---|---|---|---|---|---|---|---|---|");
+    let mut said = Vec::new();
+    for degree in SPLIT_BOUNDS {
+        let mut before = None;
+        for count in SPLIT_COUNTS {
+            let samples = samples(count);
+            let (criterion, confidence) = (Criterion::Aic, Confidence::P95);
+            let (tolerance, pruning) = (Tolerance::None, PruningRule::Positive);
+            let bound = DegreeBound::Custom(degree);
+            let settings = Settings { bound, criterion, confidence, tolerance, pruning };
+            let call = Call::Split { limit: usize::MAX, settings };
+            let time = print_row(&format!("split, bound {degree}"), &call, count, &samples, port);
+            let tests = match port.make(&call, count, lent(&mut memory_of(&samples))) {
+                Answer::Split { tests, .. } => tests as f64,
+                answer => panic!("a split of {count}: {answer:?}"),
+            };
+            let grown = before.map_or(String::new(), |(few, less)| {
+                let (times, longer) = (count as f64 / few as f64, time / less);
+                format!("; {times:.1} times the samples took {longer:.1} times as long")
+            });
+            let rate = tests / time;
+            said.push(format!(
+                "A split of {count} with bound {degree}: {tests} tests, {rate:.1} a ms{grown}"
+            ));
+            before = Some((count, time));
+        }
+    }
+    println!();
+    said.iter().for_each(|line| println!("{line}"));
+}
+
 /// The lines of a text that is timed: as many as fill a book.
 const LINES: usize = 4_096;
 
@@ -285,8 +333,8 @@ fn print_lines(port: &dyn Side) {
     }
 }
 
-/// Prints the table, how a withdrawal compares with a plain fold, how a report grows with n, and how fast
-/// lines are read.
+/// Prints the table, how a withdrawal compares with a plain fold, how a report grows with n, how fast lines
+/// are read, and the splits.
 pub fn run(port: &dyn Side) {
     println!("| Call | n | port / plain | polyfit / port | GSL / port | port, ms | plain, ms | polyfit, ms | GSL, ms |");
     println!("|---|---|---|---|---|---|---|---|---|");
@@ -307,6 +355,7 @@ pub fn run(port: &dyn Side) {
         println!("A report from n {few} to n {many}: {samples:.1} times the samples, {time:.1} times as long");
     }
     print_lines(port);
+    print_splits(port);
 }
 
 #[cfg(test)]

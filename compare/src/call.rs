@@ -43,6 +43,7 @@ pub fn name(call: &Call) -> &'static str {
         Call::Carry => "carry",
         Call::Fit { .. } => "fit",
         Call::Report(_) => "report",
+        Call::Split { .. } => "split",
         Call::Losses(_) => "losses",
         Call::Validate { .. } => "validate",
         Call::Band { .. } => "band",
@@ -63,6 +64,7 @@ pub fn conditions(call: &Call, lengths: &Lengths, count: usize, samples: &[Sampl
         Call::Carry => refusals::carry(lengths, count),
         Call::Fit { degree } => refusals::fit(lengths, count, samples, *degree),
         Call::Report(settings) => refusals::report(lengths, count, samples, *settings),
+        Call::Split { settings, .. } => refusals::split(lengths, count, samples, *settings),
         Call::Losses(settings) => refusals::losses(lengths, count, samples, *settings),
         Call::Validate { folds, bound, .. } => {
             refusals::validate(lengths, count, samples, *folds, *bound)

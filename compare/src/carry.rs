@@ -114,6 +114,8 @@ impl Plan {
             lower: longest(|l| l.lower).max(rows),
             upper: longest(|l| l.upper).max(rows),
             outlier: longest(|l| l.outlier).max(rows),
+            before: longest(|l| l.before),
+            after: longest(|l| l.after),
             losses: longest(|l| l.losses).max(rows),
         };
         let split = (random.unit() * list.steps.len() as f64) as usize;
@@ -198,6 +200,9 @@ fn places(call: &Call, answer: &Answer, count: usize) -> Vec<(Name, usize)> {
     }
     if let Answer::Degree(_) | Answer::Report { .. } = answer {
         places.push((Name::Coefficients, TERMS));
+    }
+    if let Answer::Split { .. } = answer {
+        places.extend([(Name::Before, TERMS), (Name::After, TERMS)]);
     }
     if let Answer::Report { .. } = answer {
         places.extend([(Name::Errors, TERMS), (Name::Pruned, TERMS)]);

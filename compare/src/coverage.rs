@@ -18,6 +18,7 @@ use crate::carry;
 use crate::lines;
 use crate::replay;
 use crate::run::passes_nine;
+use crate::split;
 use crate::two_column;
 use crate::weights;
 use crate::windows;
@@ -47,7 +48,7 @@ pub struct Coverage {
 }
 
 /// What each call may answer, besides being let through, in checking order.
-pub const REFUSALS: [(&str, &[u8]); 13] = [
+pub const REFUSALS: [(&str, &[u8]); 14] = [
     ("open", &[1]),
     ("add", &[1, 4, 15, 5]),
     ("add_window", &[1, 4, 15, 5]),
@@ -57,6 +58,7 @@ pub const REFUSALS: [(&str, &[u8]); 13] = [
     ("add_lines", &[1, 13, 14, 5]),
     ("fit", &[1, 4, 7, 8, 10]),
     ("report", &[1, 4, 7, 8, 11, 12]),
+    ("split", &[1, 4, 7, 8, 16, 11]),
     ("losses", &[1, 4, 7, 8, 11, 12]),
     ("validate", &[1, 4, 7, 8, 10, 11]),
     ("band", &[1, 4, 7, 8, 9, 10, 12]),
@@ -64,14 +66,15 @@ pub const REFUSALS: [(&str, &[u8]); 13] = [
 ];
 
 /// Pairs that cannot both hold: without samples no column value is below the count, and a bound is
-/// then 0; a frame of neither version has no weights.
-const IMPOSSIBLE_PAIRS: [(&str, u8, u8); 4] =
-    [("fit", 4, 7), ("report", 7, 8), ("losses", 7, 8), ("add_frame", 3, 15)];
+/// then 0; a bound is below a count of less than four; a frame of neither version has no weights.
+const IMPOSSIBLE_PAIRS: [(&str, u8, u8); 5] =
+    [("fit", 4, 7), ("report", 7, 8), ("split", 7, 8), ("losses", 7, 8), ("add_frame", 3, 15)];
 
 /// Calls that read the fit, each with the refusals that polyfit can speak of.
-const BY_REFERENCE: [(&str, &[u8]); 5] = [
+const BY_REFERENCE: [(&str, &[u8]); 6] = [
     ("fit", &[10]),
     ("report", &[11, 12]),
+    ("split", &[16, 11]),
     ("losses", &[11, 12]),
     ("validate", &[10, 11]),
     ("band", &[10, 12]),
@@ -85,7 +88,7 @@ const CRITERIA: [&str; 2] = ["Aic", "Bic"];
 const RULES: [&str; 2] = ["positive", "size"];
 
 /// Memory whose length is judged, and by which calls.
-const LENGTHS: [(&str, &[&str]); 9] = [
+const LENGTHS: [(&str, &[&str]); 11] = [
     (
         "sums",
         &[
@@ -98,23 +101,26 @@ const LENGTHS: [(&str, &[&str]); 9] = [
             "add_lines",
             "fit",
             "report",
+            "split",
             "losses",
             "validate",
             "band",
         ],
     ),
-    ("scratch", &["fit", "report", "losses", "validate", "band"]),
+    ("scratch", &["fit", "report", "split", "losses", "validate", "band"]),
     ("coefficients", &["fit", "report", "validate"]),
     ("errors", &["report"]),
     ("pruned", &["report"]),
     ("lower", &["report"]),
     ("upper", &["report"]),
     ("outlier", &["report"]),
+    ("before", &["split"]),
+    ("after", &["split"]),
     ("losses", &["losses"]),
 ];
 
 /// Everything else that must happen.
-const EVENTS: [&str; 72] = [
+const EVENTS: [&str; 73] = [
     "report: 11 with no degree solved",
     "report: 11 with degrees solved",
     "report: degree 0 unsolved, a higher one chosen",
@@ -174,6 +180,7 @@ const EVENTS: [&str; 72] = [
     "samples: x near 2000",
     "sums: not the ledger's, fit answered",
     "sums: not the ledger's, report answered",
+    "sums: not the ledger's, split answered",
     "sums: not the ledger's, losses answered",
     "sums: not the ledger's, validate answered",
     "sums: not the ledger's, band answered",
@@ -215,6 +222,7 @@ impl Coverage {
         keys.extend(EVENTS.map(String::from));
         keys.extend(lines::EVENTS.map(String::from));
         keys.extend(weights::events());
+        keys.extend(split::EVENTS.map(String::from));
         keys.extend(windows::events());
         keys.extend(two_column::EVENTS.map(String::from));
         for (call, numbers) in two_column::REFUSALS {
@@ -277,6 +285,9 @@ impl Coverage {
             }
         }
         for event in weights::happened(seen) {
+            self.note(event);
+        }
+        for event in split::happened(seen) {
             self.note(event);
         }
         for event in windows::happened(seen, &mut self.slid) {
@@ -382,6 +393,10 @@ impl Coverage {
         match seen.call {
             Call::Fit { .. } => {}
             Call::Report(settings) => self.note_report(seen, *settings),
+            Call::Split { settings, .. } => {
+                self.note(format!("split: criterion {}", criterion_name(settings.criterion)));
+                self.note(format!("split: bound {}", bound_name(settings.bound)));
+            }
             Call::Losses(settings) => self.note_chosen_losses(seen, *settings),
             Call::Validate { folds, bound, criterion } => {
                 self.note_validation(seen, *folds, *bound, *criterion)
@@ -638,8 +653,9 @@ fn required_refusals() -> Vec<String> {
         keys.extend(numbers.iter().map(|number| format!("{call}: refused by {number}")));
     }
     for (call, numbers) in REFUSALS {
-        // All but those that come out of the fit.
-        let early: Vec<u8> = numbers.iter().copied().filter(|n| !(10..=12).contains(n)).collect();
+        // All but those that come out of the fit or of a split's search.
+        let early = numbers.iter().copied().filter(|n| !matches!(n, 10..=12 | 16));
+        let early: Vec<u8> = early.collect();
         for (i, &first) in early.iter().enumerate() {
             for &second in &early[i + 1..] {
                 if !IMPOSSIBLE_PAIRS.contains(&(call, first, second)) {
@@ -660,7 +676,7 @@ fn required_settings() -> Vec<String> {
     for confidence in CONFIDENCES {
         keys.extend(FREEDOMS.map(|freedom| format!("report: {confidence} at {freedom}")));
     }
-    for call in ["report", "losses", "validate"] {
+    for call in ["report", "split", "losses", "validate"] {
         keys.extend(CRITERIA.map(|criterion| format!("{call}: criterion {criterion}")));
         keys.extend(BOUNDS.map(|bound| format!("{call}: bound {bound}")));
     }
@@ -681,6 +697,8 @@ fn length_of(lengths: &Lengths, memory: &str, count: usize) -> (usize, usize) {
         "pruned" => (lengths.pruned, TERMS),
         "lower" => (lengths.lower, count),
         "upper" => (lengths.upper, count),
+        "before" => (lengths.before, TERMS),
+        "after" => (lengths.after, TERMS),
         "losses" => (lengths.losses, count),
         _ => (lengths.outlier, count),
     }

@@ -14,6 +14,7 @@ use crate::call::{List, Poke, Step};
 use crate::lines;
 use crate::random::Random;
 use crate::samples::{self, Kind, Source};
+use crate::split;
 use crate::weights;
 
 /// A list in the making, with a ledger beside it to know the samples.
@@ -51,6 +52,8 @@ pub fn list(seed: u64, number: u64) -> List {
         39 => terms_of_either_sign(random),
         40 | 41 => framed(random),
         42 | 43 => weighed(random),
+        44 if number % 1024 == 44 => two_long_seasons(random),
+        44..=46 => two_seasons(random),
         50 if number % 256 == 50 => windowed(random, 100, 24),
         50..=53 => {
             let capacity = random.pick(&[0, 1, 1, 2, 2, 3, 4, 7, 12]);
@@ -91,6 +94,8 @@ impl<'a> Maker<'a> {
             lower: n + more(),
             upper: n + more(),
             outlier: n + more(),
+            before: TERMS + more(),
+            after: TERMS + more(),
             losses: n + more(),
             x: self.x_length,
             y: self.y_length,
@@ -202,7 +207,7 @@ fn spoil_sample(random: &mut Random, source: &mut Source) -> Sample {
 fn shorten(random: &mut Random, lengths: &mut Lengths, n: usize) {
     let empty = random.one_in(5);
     let short = |places: usize| if empty { 0 } else { places.saturating_sub(1) };
-    match random.below(9) {
+    match random.below(11) {
         0 => lengths.sums = short(PLACES),
         1 => lengths.scratch = short(n),
         2 => lengths.coefficients = short(TERMS),
@@ -210,7 +215,9 @@ fn shorten(random: &mut Random, lengths: &mut Lengths, n: usize) {
         4 => lengths.pruned = short(TERMS),
         5 => lengths.lower = short(n),
         6 => lengths.upper = short(n),
-        7 => lengths.losses = short(n),
+        7 => lengths.before = short(TERMS),
+        8 => lengths.after = short(TERMS),
+        9 => lengths.losses = short(n),
         _ => lengths.outlier = short(n),
     }
 }
@@ -330,6 +337,69 @@ fn weighed(random: &mut Random) -> Vec<Step> {
             maker.step(vec![Poke::Weight { at, value }], withdraw);
             maker.read();
         }
+    }
+    maker.steps
+}
+
+/// Samples of one kind and then of another, split again and again while they change; now and then someone
+/// else writes a column or the sums, which a split does not read.
+fn two_seasons(random: &mut Random) -> Vec<Step> {
+    let n = match random.below(8) {
+        0 => random.between(1, 4),
+        1 => random.between(12, 16),
+        2 => random.between(17, 20),
+        _ => random.between(4, 11),
+    };
+    let melt = random.between(0, n);
+    let mut source = Source::new(random, melt);
+    let mut first = source.take(random, melt);
+    let mut source = Source::new(random, n - melt);
+    first.extend(source.take(random, n - melt));
+    let spare = random.pick(&[0, 1, 2]);
+    let mut maker = Maker::new(random, n + spare);
+    maker.short_one_in = 25;
+    maker.add_all(&first);
+    for _ in 0..maker.random.between(3, 5) {
+        let count = maker.samples().len();
+        let (mut poke, mut back) = (Vec::new(), Vec::new());
+        match maker.random.below(6) {
+            0 => maker.change(&mut source),
+            1 => poke.push(sums_poke(maker.random)),
+            2 if count > 0 => {
+                let (at, value) = (maker.random.below(count), maker.samples()[0].weight);
+                let low = weights::not_above_zero(maker.random);
+                poke.push(Poke::Weight { at, value: low });
+                back.push(Poke::Weight { at, value });
+            }
+            3 if count > 0 && maker.random.one_in(3) => poke.push(column_poke(maker.random, count)),
+            _ => {}
+        }
+        let mut settings = arguments::settings(maker.random);
+        if count > 16 && maker.random.one_in(4) {
+            settings.bound = DegreeBound::Custom(maker.random.pick(&[15, 16]));
+        }
+        let call = split::call_by(maker.random, &maker.ledger.samples, settings);
+        maker.step(poke, call);
+        if !back.is_empty() {
+            let call = split::call(maker.random, &maker.ledger.samples);
+            maker.step(back, call);
+        }
+    }
+    maker.steps
+}
+
+/// Enough samples on both sides for every bound.
+fn two_long_seasons(random: &mut Random) -> Vec<Step> {
+    let n = random.pick(&[40, 63, 64, 90, 136]);
+    let mut source = Source::new(random, n);
+    let first = source.take(random, n);
+    let mut maker = Maker::new(random, n);
+    maker.add_all(&first);
+    let bounds = [DegreeBound::Conservative, DegreeBound::Relaxed, DegreeBound::Aggressive];
+    for bound in bounds {
+        let settings = Settings { bound, ..arguments::settings(maker.random) };
+        let call = split::call_by(maker.random, &maker.ledger.samples, settings);
+        maker.call(call);
     }
     maker.steps
 }
@@ -679,7 +749,7 @@ fn spoiled_call(random: &mut Random, source: &mut Source, samples: &[Sample]) ->
     let n = samples.len();
     let bad = arguments::not_finite(random);
     let or_bad = |random: &mut Random, value: f64| if random.one_in(2) { bad } else { value };
-    match random.below(10) {
+    match random.below(11) {
         0 => {
             let weight = random.pick(&[1.0, 2.0, bad, 0.0, -0.0, -1.0]);
             let sample = Sample { x: or_bad(random, 1.0), y: or_bad(random, 2.0), weight };
@@ -703,6 +773,10 @@ fn spoiled_call(random: &mut Random, source: &mut Source, samples: &[Sample]) ->
             let number = random.below(4);
             Call::AddLines(lines::wrong(random, number))
         }
+        9 => Call::Split {
+            limit: random.pick(&[0, 1, usize::MAX]),
+            settings: spoiled_settings(random, bad),
+        },
         _ => Call::Band {
             x: random.pick(&[0.0, -1e9, 1e9, f64::NAN, f64::INFINITY]),
             degree: random.pick(&[0, n, 16, usize::MAX]),

@@ -25,6 +25,7 @@ mod replay;
 mod run;
 mod samples;
 mod shrink;
+mod split;
 #[cfg(test)]
 mod tests;
 mod text;

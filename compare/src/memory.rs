@@ -43,6 +43,8 @@ pub fn filled(list: &List) -> Memory {
         lower: longest(|l| l.lower),
         upper: longest(|l| l.upper),
         outlier: longest(|l| l.outlier),
+        before: longest(|l| l.before),
+        after: longest(|l| l.after),
         losses: longest(|l| l.losses),
     };
     filled_for(list.contents, &lengths)
@@ -63,6 +65,8 @@ pub fn filled_for(contents: u64, lengths: &Lengths) -> Memory {
         lower: numbers(random, lengths.lower),
         upper: numbers(random, lengths.upper),
         outlier: bytes(random, lengths.outlier),
+        before: numbers(random, lengths.before),
+        after: numbers(random, lengths.after),
         losses: numbers(random, lengths.losses),
     }
 }

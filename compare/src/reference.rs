@@ -7,6 +7,7 @@ use polyfit::statistics as theirs;
 use polyfit::{basis::MonomialBasis, CurveFitCovariance, MonomialFit};
 
 use judge::fit::{Band, Criterion, Losses, PruningRule, Report, Settings};
+use judge::split::{Break, SideFit, Split};
 use judge::statistics::{Confidence, DegreeBound, Tolerance};
 use judge::Sample;
 
@@ -188,6 +189,57 @@ fn outlier_marks(data: &Data, outliers: impl Iterator<Item = (f64, f64)>) -> Vec
         at += 1;
     }
     marks
+}
+
+/// One side of a break: `CurveFit::new_auto` and `model_score` on that part of the list, with the pivots that
+/// the shim compared for it.
+fn side(samples: &[Sample], settings: Settings) -> (Option<SideFit>, usize) {
+    let data = data_of(samples);
+    let (slice, bound) = (data.as_slice(), bound_of(settings.bound));
+    let fit_of = |fit: Fit, score: f64| SideFit {
+        degree: fit.degree(),
+        coefficients: fit.coefficients().to_vec(),
+        score,
+    };
+    let choose = || match settings.criterion {
+        Criterion::Aic => Fit::new_auto(slice, bound, &Aic).ok().map(|fit| {
+            let score = fit.model_score(&Aic);
+            fit_of(fit, score)
+        }),
+        Criterion::Bic => Fit::new_auto(slice, bound, &Bic).ok().map(|fit| {
+            let score = fit.model_score(&Bic);
+            fit_of(fit, score)
+        }),
+    };
+    weighted(samples, || polyfit::count_pivots(choose))
+}
+
+/// Every break with two samples on each side. polyfit has no split: each side is fitted by itself.
+pub fn breaks(samples: &[Sample], settings: Settings) -> Vec<Break> {
+    let at = |b| {
+        let (before, tests_before) = side(&samples[..b], settings);
+        let (after, tests_after) = side(&samples[b..], settings);
+        Break { b, before, after, tests: tests_before + tests_after }
+    };
+    (2..samples.len() - 1).map(at).collect()
+}
+
+/// The split of breaks: from the last to the first, the least total not above what was found so far.
+pub fn split(breaks: Vec<Break>, limit: usize) -> Result<Split, u8> {
+    let tests = breaks.iter().map(|at| at.tests).sum();
+    if limit < tests {
+        return Err(16);
+    }
+    let mut found: Option<Split> = None;
+    for Break { b, before, after, .. } in breaks.into_iter().rev() {
+        if let (Some(before), Some(after)) = (before, after) {
+            let total = before.score + after.score;
+            if !matches!(&found, Some(least) if least.total < total) {
+                found = Some(Split { total, b, tests, before, after });
+            }
+        }
+    }
+    found.ok_or(11)
 }
 
 /// `CurveFit::new_kfold_cross_validated` with `CvStrategy::Custom`.

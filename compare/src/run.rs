@@ -3,11 +3,12 @@
 //! and all of it on a book that is carried over from two columns to three. Ends at the first difference.
 
 use journal::{Answer, Buffers, Call, Judge, Memory, Port, Side};
-use judge::book::answer_of;
+use judge::book::{answer_of, answer_of_split};
 use judge::fit::{Losses, Report, Settings};
 use judge::ledger::Ledger;
 use judge::numbers::bits;
 use judge::refusals;
+use judge::split::{breaks, SideFit, Split};
 use judge::sums::{folded_afresh, PLACES, TERMS};
 use judge::Sample;
 
@@ -69,7 +70,9 @@ impl Run<'_> {
         check_writes(&step.call, &answer, count, &before, &self.memory)?;
         check_parsed(&step.call, &answer, count, &self.memory)?;
         self.check_ledger(step, &answer)?;
-        let by_reference = own_sums && is_reading(&step.call) && passes_nine(&answer);
+        // A split does not read the lent sums.
+        let judged_sums = own_sums || matches!(step.call, Call::Split { .. });
+        let by_reference = judged_sums && is_reading(&step.call) && passes_nine(&answer);
         if by_reference {
             check_reference(&step.call, &answer, &samples, &self.memory)?;
         }
@@ -164,6 +167,10 @@ impl LedgerState {
                 let report = ledger.report(lengths, *settings);
                 return check_report("ledger", report, answer, memory);
             }
+            Call::Split { limit, settings } => {
+                let split = ledger.split(lengths, *settings, *limit);
+                return check_split("ledger", split, answer, memory);
+            }
             Call::Losses(settings) => {
                 let losses = ledger.losses(lengths, *settings);
                 return check_losses("ledger", losses, answer, memory);
@@ -207,11 +214,11 @@ fn check_parsed(call: &Call, answer: &Answer, count: usize, memory: &Memory) -> 
 }
 
 pub fn is_reading(call: &Call) -> bool {
-    let settled = matches!(call, Call::Report(_) | Call::Losses(_));
+    let settled = matches!(call, Call::Report(_) | Call::Split { .. } | Call::Losses(_));
     settled || matches!(call, Call::Fit { .. } | Call::Validate { .. } | Call::Band { .. })
 }
 
-/// Not refused, or refused by 10, 11 or 12.
+/// Not refused, or refused by 10, 11, 12 or 16.
 pub fn passes_nine(answer: &Answer) -> bool {
     !matches!(answer, Answer::Refused(1..=9))
 }
@@ -231,6 +238,10 @@ pub fn same_answer(a: &Answer, b: &Answer) -> bool {
                 && same_number(*lower, *lower2)
                 && same_number(*upper, *upper2)
         }
+        (
+            Answer::Split { b, degrees, tests, total },
+            Answer::Split { b: b2, degrees: degrees2, tests: tests2, total: total2 },
+        ) => (b, degrees, tests) == (b2, degrees2, tests2) && same_number(*total, *total2),
         (
             Answer::Losses { degree, total, score },
             Answer::Losses { degree: degree2, total: total2, score: score2 },
@@ -337,6 +348,64 @@ fn check_report_places(name: &str, report: &Report, memory: &Memory) -> Result<(
     Ok(())
 }
 
+/// A split as answered and written, against one that was worked out.
+fn check_split(
+    name: &str,
+    split: Result<Split, u8>,
+    answer: &Answer,
+    memory: &Memory,
+) -> Result<(), String> {
+    let expected = match split.as_ref().map(answer_of_split) {
+        Ok(a) => {
+            let degrees = (a.degree_before, a.degree_after);
+            Answer::Split { b: a.b, degrees, tests: a.tests, total: a.total }
+        }
+        Err(number) => Answer::Refused(*number),
+    };
+    if !same_answer(answer, &expected) {
+        return Err(format!("judge answers {answer:?}, {name} {expected:?}"));
+    }
+    let split = match split {
+        Ok(split) => split,
+        Err(_) => return Ok(()),
+    };
+    let places = [("before", &memory.before, split.before), ("after", &memory.after, split.after)];
+    for (word, written, theirs) in places {
+        let theirs = terms(&theirs.coefficients);
+        if let Some(difference) = first_difference(word, &written[..TERMS], &theirs) {
+            return Err(format!("judge and {name}: {difference}"));
+        }
+    }
+    Ok(())
+}
+
+/// Every break's sides and pivot tests, most of which no answer shows.
+fn check_breaks(
+    samples: &[Sample],
+    settings: judge::fit::Settings,
+    theirs: &[judge::split::Break],
+) -> Result<(), String> {
+    let numbers = |side: &Option<SideFit>| {
+        let numbers = |side: &SideFit| [&[side.score][..], &side.coefficients].concat();
+        side.as_ref().map_or_else(Vec::new, numbers)
+    };
+    let ours = breaks(samples, settings);
+    if ours.len() != theirs.len() {
+        return Err(format!("judge has {} breaks, polyfit {}", ours.len(), theirs.len()));
+    }
+    for (mine, other) in ours.iter().zip(theirs) {
+        if (mine.b, mine.tests) != (other.b, other.tests) {
+            return Err(format!("a break: judge {mine:?}, polyfit {other:?}"));
+        }
+        for (mine, other) in [(&mine.before, &other.before), (&mine.after, &other.after)] {
+            if let Some(difference) = first_difference("side", &numbers(mine), &numbers(other)) {
+                return Err(format!("judge and polyfit, score and coefficients: {difference}"));
+            }
+        }
+    }
+    Ok(())
+}
+
 /// 16 places, +0 from k on.
 fn terms(values: &[f64]) -> Vec<f64> {
     let mut places = values.to_vec();
@@ -364,6 +433,11 @@ fn check_reference(
             let report = reference::report(samples, *settings);
             check_report("polyfit", report, answer, memory)?;
             check_scores(samples, *settings)
+        }
+        Call::Split { limit, settings } => {
+            let breaks = reference::breaks(samples, *settings);
+            check_breaks(samples, *settings, &breaks)?;
+            check_split("polyfit", reference::split(breaks, *limit), answer, memory)
         }
         Call::Losses(settings) => check_reference_losses(samples, *settings, answer, memory),
         Call::Band { x, degree, confidence, tolerance } => {
@@ -433,6 +507,10 @@ fn check_writes(
             expected.coefficients[..TERMS].copy_from_slice(&after.coefficients[..TERMS]);
         }
         Answer::Report { .. } => copy_report_places(count, &mut expected, after),
+        Answer::Split { .. } => {
+            expected.before[..TERMS].copy_from_slice(&after.before[..TERMS]);
+            expected.after[..TERMS].copy_from_slice(&after.after[..TERMS]);
+        }
         Answer::Losses { .. } => expected.losses[..count].copy_from_slice(&after.losses[..count]),
     }
     match difference(&expected, after) {

@@ -101,6 +101,10 @@ fn simpler_calls(call: &Call) -> Vec<Call> {
         Call::AddFrame(bytes) => simpler_frames(bytes).into_iter().map(Call::AddFrame).collect(),
         Call::AddLines(text) => shorter_texts(text).into_iter().map(Call::AddLines).collect(),
         Call::Report(settings) => simpler_settings(*settings).map(Call::Report).collect(),
+        Call::Split { limit, settings } => {
+            let limit = *limit;
+            simpler_settings(*settings).map(|settings| Call::Split { limit, settings }).collect()
+        }
         Call::Losses(settings) => simpler_settings(*settings).map(Call::Losses).collect(),
         _ => Vec::new(),
     }

@@ -32,6 +32,8 @@ fn again<'a>(lent: &'a mut Lent<'_>) -> Lent<'a> {
         lower: lent.lower,
         upper: lent.upper,
         outlier: lent.outlier,
+        before: lent.before,
+        after: lent.after,
         losses: lent.losses,
     }
 }
@@ -179,7 +181,8 @@ fn weight_kept_in_its_place_by_a_withdrawal() {
         }
         answer
     });
-    assert!(list.steps.len() <= 4, "{list:?}");
+    // Shrinking does not lower an index, so the adds below it stay.
+    assert!(list.steps.len() <= 6, "{list:?}");
 }
 
 #[test]
@@ -265,6 +268,43 @@ fn shortest_text(list: &List) -> Option<usize> {
         _ => None,
     };
     list.steps.iter().filter_map(|step| length(&step.call)).min()
+}
+
+#[test]
+fn faults_of_a_split() {
+    // One bit of the total.
+    let list = found(|_, _, _, _, answer| match answer {
+        Answer::Split { b, degrees, tests, total } => {
+            let total = f64::from_bits(total.to_bits() ^ 1);
+            Answer::Split { b, degrees, tests, total }
+        }
+        _ => answer,
+    });
+    assert!(list.steps.len() <= 5, "{list:?}");
+    // A place past the sixteen.
+    let list = found(|_, _, lent, _, answer| {
+        if let (Answer::Split { .. }, Some(place)) = (&answer, lent.after.get_mut(16)) {
+            *place += 1.0;
+        }
+        answer
+    });
+    assert!(list.steps.len() <= 5, "{list:?}");
+    // 16 where the limit is what it needs.
+    let list = found(|call, _, _, _, answer| match (call, &answer) {
+        (Call::Split { limit, .. }, Answer::Split { tests, .. }) if limit == tests => {
+            Answer::Refused(16)
+        }
+        _ => answer,
+    });
+    assert!(list.steps.len() <= 5, "{list:?}");
+    // Scratch left as it was at 16.
+    let list = found(|_, count, lent, _, answer| {
+        if answer == Answer::Refused(16) {
+            lent.scratch[count - 1] = 1.0;
+        }
+        answer
+    });
+    assert!(list.steps.len() <= 5, "{list:?}");
 }
 
 #[test]
@@ -458,11 +498,11 @@ fn missing_in(name: &str, asked: impl Fn(&str) -> bool) -> Vec<String> {
 #[test]
 fn texts_are_judged() {
     missing_in("edges.calls", |_| false);
-    // Every refusal of every call but lines, windows and losses, and every pair in order. A text has no reader. 15 is met with
-    // the weights.
+    // Every refusal of every call but lines, splits, windows and losses, and every pair in order. A text has no
+    // reader. 15 is met with the weights.
     let refusal = |key: &str| {
         let refusal = key.contains(" before ") || key.contains(": refused by ");
-        let elsewhere = ["reader", "add_lines", "add_window", "losses"];
+        let elsewhere = ["reader", "add_lines", "add_window", "split", "losses", "length"];
         let elsewhere = elsewhere.iter().any(|call| key.starts_with(call));
         refusal && !elsewhere && !key.contains("by polyfit")
     };
@@ -470,12 +510,20 @@ fn texts_are_judged() {
     assert!(missing.is_empty(), "{missing:?}");
     let missing = missing_in("weights.calls", |key| {
         let weights = key.starts_with("weights") || key.starts_with("frames: add_frame");
+        let weights = weights && !key.contains("split");
         weights || refusal(key) && key.contains("15")
     });
     assert!(missing.is_empty(), "{missing:?}");
     // The same of lines, and all that must happen with them.
     let missing =
         missing_in("lines.calls", |key| key.starts_with("add_lines") || key.starts_with("lines"));
+    assert!(missing.is_empty(), "{missing:?}");
+    // The same of splits; weights below the count that are not finite or not above zero are there too.
+    let missing = missing_in("split.calls", |key| {
+        let split = key.starts_with("split") || key.starts_with("length: split, sc");
+        let weights = key.starts_with("weights") && key.contains("split");
+        (split || weights) && !key.contains("greatest limit")
+    });
     assert!(missing.is_empty(), "{missing:?}");
     let missing = missing_in("windows.calls", |key| {
         key.starts_with("add_window") || key.starts_with("window")
@@ -488,8 +536,9 @@ fn texts_are_judged() {
     assert!(missing.is_empty(), "{missing:?}");
     // Every call and refusal, by polyfit too, every setting and event; the pairs are the season's.
     let missing = missing_in("fixed.calls", |key| {
-        let call = key.contains(": answered") || key.contains(": refused by ");
-        let setting = ["report: ", "validate: ", "band: "].iter().any(|call| key.starts_with(call));
+        let call = key.ends_with(": answered") || key.contains(": refused by ");
+        let calls = ["report: ", "split: criterion", "split: bound", "validate: ", "band: "];
+        let setting = calls.iter().any(|call| key.starts_with(call));
         (call || setting) && !key.starts_with("reader") && !key.contains(": 1 before ")
     });
     assert!(missing.is_empty(), "{missing:?}");
@@ -521,5 +570,5 @@ fn texts_with_a_carry() {
 
 #[test]
 fn fixed_list_is_as_made() {
-    assert!(text::write(5, 3000).as_bytes() == file("fixed.calls"));
+    assert!(text::write(137, 3000).as_bytes() == file("fixed.calls"));
 }

@@ -47,6 +47,10 @@ fn written(call: &Call) -> Call {
         Call::Report(settings) | Call::Losses(settings) => {
             settings.bound = written_bound(settings.bound)
         }
+        Call::Split { limit, settings } => {
+            *limit = GREATEST.min(*limit);
+            settings.bound = written_bound(settings.bound);
+        }
         Call::Validate { folds, bound, .. } => {
             *folds = GREATEST.min(*folds);
             *bound = written_bound(*bound);
@@ -130,6 +134,11 @@ impl Writer {
                 for name in [Name::Lower, Name::Upper, Name::Outliers, Name::Scratch] {
                     self.show(name, rows);
                 }
+            }
+            Answer::Split { .. } if self.random.one_in(3) => {
+                self.show(Name::Before, TERMS + 1);
+                self.show(Name::After, TERMS + 1);
+                self.show(Name::Scratch, rows);
             }
             Answer::Losses { .. } if self.random.one_in(2) => self.show(Name::Losses, rows),
             Answer::Refused(_) if self.random.one_in(6) => {

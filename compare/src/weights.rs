@@ -6,6 +6,7 @@ use judge::fit::{self, Criterion};
 use judge::frame;
 use judge::numbers::bits;
 use judge::refusals::Lengths;
+use judge::split::{split, Split};
 use judge::statistics::{max_degree, DegreeBound};
 use judge::sums::{folded_afresh, powers, TERMS};
 use judge::Sample;
@@ -165,7 +166,7 @@ pub fn spoil(random: &mut Random, samples: &mut [Sample]) {
 }
 
 /// Calls that read a fit.
-const READING: [&str; 5] = ["fit", "report", "losses", "validate", "band"];
+const READING: [&str; 6] = ["fit", "report", "split", "losses", "validate", "band"];
 
 /// Calls that take a frame.
 const FRAMED: [&str; 2] = ["add_frame", "reader"];
@@ -198,7 +199,7 @@ const READ: [&str; 8] = [
 ];
 
 /// Everything else that must happen.
-const EVENTS: [&str; 23] = [
+const EVENTS: [&str; 24] = [
     "weights: 1 added",
     "weights: 5e-324 added",
     "weights: a subnormal one added",
@@ -222,6 +223,7 @@ const EVENTS: [&str; 23] = [
     "weights: a withdrawal with one not finite below the count",
     "weights: a report without them chooses another degree",
     "weights: a validation without them chooses another degree",
+    "weights: a split without them is another",
 ];
 
 /// The names of all that must happen.
@@ -451,6 +453,12 @@ fn note_choice(seen: &Seen, note_if: &mut NoteIf) {
             let chosen = fit::chosen(&fit::scores(&plain, &sums, bound, settings.criterion));
             let key = "weights: a report without them chooses another degree";
             note_if(chosen != Some(*degree), key.to_string());
+        }
+        (Call::Split { limit, settings }, Answer::Split { b, degrees, .. }) => {
+            let other = split(&plain, *settings, *limit);
+            let same = |s: &Split| s.b == *b && (s.before.degree, s.after.degree) == *degrees;
+            let key = "weights: a split without them is another";
+            note_if(!other.as_ref().map_or(false, same), key.to_string());
         }
         (Call::Validate { folds, bound, criterion }, Answer::Degree(degree)) => {
             let chosen = validated(&plain, *folds, *bound, *criterion);

@@ -5,7 +5,7 @@ use judge::statistics as ours;
 use judge::statistics::{Confidence, DegreeBound};
 use nalgebra::{ComplexField, RealField};
 use polyfit::statistics as theirs;
-use polyfit::{with_weights, MonomialFit};
+use polyfit::{count_pivots, with_weights, MonomialFit};
 
 /// xorshift64 (Marsaglia), with a fixed seed.
 struct Random(u64);
@@ -138,6 +138,18 @@ fn weights_of_the_shim() {
     assert_eq!(mean(), 2.5);
     assert!(std::panic::catch_unwind(|| with_weights(vec![1.0], mean)).is_err());
     assert_eq!(mean(), 2.5);
+}
+
+/// The pivots of each solution, a failing one too; inverting counts nothing.
+#[test]
+fn pivots_of_the_shim() {
+    let fit = |data: &'static [(f64, f64)], degree| count_pivots(|| MonomialFit::new(data, degree));
+    assert_eq!(fit(&[(2.0, 1.0), (2.0, 5.0)], 0).1, 1);
+    assert_eq!(fit(&[(2.0, 1.0), (2.0, 5.0), (2.0, 6.0)], 2).1, 2);
+    let (line, compared) = fit(&[(0.0, 1.0), (1.0, 3.0), (2.0, 5.0)], 1);
+    assert_eq!(compared, 2);
+    let line = line.unwrap();
+    assert_eq!(count_pivots(|| line.covariance().is_ok()), (true, 0));
 }
 
 #[test]

@@ -28,6 +28,10 @@ pub enum Call {
         degree: usize,
     },
     Report(Settings),
+    Split {
+        limit: usize,
+        settings: Settings,
+    },
     Losses(Settings),
     Validate {
         folds: usize,
@@ -56,6 +60,12 @@ pub enum Answer {
         outliers: usize,
         pruned: usize,
     },
+    Split {
+        b: usize,
+        degrees: (usize, usize),
+        tests: usize,
+        total: f64,
+    },
     Losses {
         degree: usize,
         total: f64,
@@ -79,6 +89,9 @@ impl fmt::Display for Answer {
             Answer::Degree(degree) => write!(f, "fit {degree}"),
             Answer::Report { degree, solved, outliers, pruned } => {
                 write!(f, "report {degree} {solved} {outliers} {pruned}")
+            }
+            Answer::Split { b, degrees: (before, after), tests, total } => {
+                write!(f, "split {b} {before} {after} {tests} {}", float_field(*total))
             }
             Answer::Losses { degree, total, score } => {
                 write!(f, "losses {degree} {} {}", float_field(*total), float_field(*score))

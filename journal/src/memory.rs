@@ -3,7 +3,7 @@
 use judge::refusals::{Lengths, MOST_SAMPLES};
 use judge::sums::{PLACES, TERMS};
 
-/// The names of the memory; the last two hold bytes.
+/// The names of the memory; pruned and outliers hold bytes.
 #[derive(Debug, Clone, Copy, PartialEq, Eq)]
 pub enum Name {
     Xs,
@@ -18,10 +18,12 @@ pub enum Name {
     Losses,
     Pruned,
     Outliers,
+    Before,
+    After,
 }
 
 /// All names, with their words.
-pub const NAMES: [(Name, &str); 12] = [
+pub const NAMES: [(Name, &str); 14] = [
     (Name::Xs, "xs"),
     (Name::Ys, "ys"),
     (Name::Ws, "ws"),
@@ -34,6 +36,8 @@ pub const NAMES: [(Name, &str); 12] = [
     (Name::Losses, "losses"),
     (Name::Pruned, "pruned"),
     (Name::Outliers, "outliers"),
+    (Name::Before, "before"),
+    (Name::After, "after"),
 ];
 
 /// What a text lends before its first line.
@@ -49,6 +53,8 @@ pub const LENT: Lengths = Lengths {
     lower: MOST_SAMPLES,
     upper: MOST_SAMPLES,
     outlier: MOST_SAMPLES,
+    before: TERMS,
+    after: TERMS,
     losses: MOST_SAMPLES,
 };
 
@@ -66,6 +72,8 @@ pub struct Memory {
     pub lower: Vec<f64>,
     pub upper: Vec<f64>,
     pub outlier: Vec<u8>,
+    pub before: Vec<f64>,
+    pub after: Vec<f64>,
     pub losses: Vec<f64>,
 }
 
@@ -82,6 +90,8 @@ pub struct Lent<'a> {
     pub lower: &'a mut [f64],
     pub upper: &'a mut [f64],
     pub outlier: &'a mut [u8],
+    pub before: &'a mut [f64],
+    pub after: &'a mut [f64],
     pub losses: &'a mut [f64],
 }
 
@@ -115,6 +125,8 @@ impl Name {
             Name::Losses => &mut lengths.losses,
             Name::Pruned => &mut lengths.pruned,
             Name::Outliers => &mut lengths.outlier,
+            Name::Before => &mut lengths.before,
+            Name::After => &mut lengths.after,
         }
     }
 }
@@ -136,6 +148,8 @@ impl Memory {
             lower: floats(),
             upper: floats(),
             outlier: bytes(),
+            before: floats(),
+            after: floats(),
             losses: floats(),
         }
     }
@@ -154,6 +168,8 @@ impl Memory {
             lower: &mut self.lower[..lengths.lower],
             upper: &mut self.upper[..lengths.upper],
             outlier: &mut self.outlier[..lengths.outlier],
+            before: &mut self.before[..lengths.before],
+            after: &mut self.after[..lengths.after],
             losses: &mut self.losses[..lengths.losses],
         }
     }
@@ -172,6 +188,8 @@ impl Memory {
             Name::Losses => Places::Floats(&self.losses),
             Name::Pruned => Places::Bytes(&self.pruned),
             Name::Outliers => Places::Bytes(&self.outlier),
+            Name::Before => Places::Floats(&self.before),
+            Name::After => Places::Floats(&self.after),
         }
     }
 
@@ -187,6 +205,8 @@ impl Memory {
             Name::Errors => &mut self.errors,
             Name::Lower => &mut self.lower,
             Name::Upper => &mut self.upper,
+            Name::Before => &mut self.before,
+            Name::After => &mut self.after,
             Name::Losses => &mut self.losses,
             Name::Pruned | Name::Outliers => return None,
         })

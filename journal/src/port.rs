@@ -193,6 +193,34 @@ fn band_into(
     answer
 }
 
+/// A split with so many places for its total. It writes one and none past it; a refused one writes none.
+fn split_into(
+    places: usize,
+    count: usize,
+    lent: &mut Lent,
+    settings: Settings,
+    limit: usize,
+) -> Answer {
+    let mut total = [UNWRITTEN; 2];
+    let (words, values) = settings_lists(settings, count);
+    let packed = book_read!(
+        sys::stakebook_split,
+        lent,
+        (count, words.as_ptr(), words.len(), values.as_ptr(), values.len(), limit),
+        (before, after),
+        (total.as_mut_ptr(), places)
+    );
+    let answer = read(packed, |packed| Answer::Split {
+        b: sys::samples_before(packed),
+        degrees: (sys::degree(packed), sys::degree_after(packed)),
+        tests: sys::tests(packed),
+        total: total[0],
+    });
+    let written = usize::from(matches!(answer, Answer::Split { .. }));
+    assert!(total[written..].iter().all(|&number| number == UNWRITTEN), "{total:?}");
+    answer
+}
+
 /// Losses with so many places for their two numbers. They write two and none past them; refused ones write none.
 fn losses_into(places: usize, count: usize, lent: &mut Lent, settings: Settings) -> Answer {
     let mut numbers = [UNWRITTEN; 3];
@@ -305,6 +333,16 @@ impl Calls for Port {
             (count, words.as_ptr(), words.len(), values.as_ptr(), values.len()),
             (coefficients, errors, pruned, lower, upper, outlier)
         ))
+    }
+
+    /// Without a place for the total it is refused by 1, and nothing is written.
+    fn split(&self, count: usize, mut lent: Lent, settings: Settings, limit: usize) -> Answer {
+        let places = |lent: &Lent| [&*lent.scratch, &*lent.before, &*lent.after].map(bits_of);
+        let before = places(&lent);
+        let short = split_into(0, count, &mut lent, settings, limit);
+        let same = places(&lent) == before;
+        assert!(short == Answer::Refused(1) && same, "no place for a total: {short:?}");
+        split_into(1, count, &mut lent, settings, limit)
     }
 
     fn losses(&self, count: usize, mut lent: Lent, settings: Settings) -> Answer {

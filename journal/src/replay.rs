@@ -84,7 +84,9 @@ impl Buffers {
             lower: &mut self.memory.lower[at..at + lent.lower],
             upper: &mut self.memory.upper[at..at + lent.upper],
             outlier: &mut self.memory.outlier[at..at + lent.outlier],
-            // No record asks for losses.
+            // No record holds a call that writes these.
+            before: &mut [],
+            after: &mut [],
             losses: &mut [],
         }
     }

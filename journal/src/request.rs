@@ -105,6 +105,7 @@ fn call(word: &[u8], fields: &mut Fields) -> Read<Call> {
         b"carry" => Call::Carry,
         b"fit" => Call::Fit { degree: fields.number()? },
         b"report" => Call::Report(fields.settings()?),
+        b"split" => Call::Split { limit: fields.number()?, settings: fields.settings()? },
         b"losses" => Call::Losses(fields.settings()?),
         b"validate" => Call::Validate {
             folds: fields.number()?,
@@ -235,6 +236,17 @@ impl<'a> Fields<'a> {
         Ok(digits.chunks(2).map(|pair| 16 * pair[0] + pair[1]).collect())
     }
 
+    /// A report's.
+    fn settings(&mut self) -> Read<Settings> {
+        Ok(Settings {
+            bound: self.bound()?,
+            criterion: self.criterion()?,
+            confidence: self.confidence()?,
+            tolerance: self.tolerance()?,
+            pruning: self.pruning()?,
+        })
+    }
+
     fn bound(&mut self) -> Read<DegreeBound> {
         let of: fn(usize) -> DegreeBound = match self.next()? {
             b"conservative" => |_| DegreeBound::Conservative,
@@ -277,16 +289,6 @@ impl<'a> Fields<'a> {
             _ => return self.malformed(Message::NotAName),
         };
         Ok(of(self.float()?))
-    }
-
-    fn settings(&mut self) -> Read<Settings> {
-        Ok(Settings {
-            bound: self.bound()?,
-            criterion: self.criterion()?,
-            confidence: self.confidence()?,
-            tolerance: self.tolerance()?,
-            pruning: self.pruning()?,
-        })
     }
 
     /// No field at all is polyfit's rule.
@@ -429,6 +431,9 @@ impl fmt::Display for Call {
             Call::Carry => write!(f, "carry"),
             Call::Fit { degree } => write!(f, "fit {degree}"),
             Call::Report(settings) => write!(f, "report {}", settings_fields(*settings)),
+            Call::Split { limit, settings } => {
+                write!(f, "split {limit} {}", settings_fields(*settings))
+            }
             Call::Losses(settings) => write!(f, "losses {}", settings_fields(*settings)),
             Call::Validate { folds, bound, criterion } => {
                 let criterion = criterion_field(*criterion);
@@ -553,6 +558,21 @@ mod tests {
                 &format!("report relaxed 0 aic p95 {ONE} none {ONE} size 1"),
                 "field 10: one too many",
             ),
+            ("split", "field 2: missing"),
+            ("split relaxed 0", "field 2: not a number"),
+            ("split 1234567890", "field 2: not a number"),
+            ("split 30 tight", "field 3: not a name"),
+            ("split 30 custom 1 aic", "field 6: missing"),
+            (&format!("split 30 custom 1 aic p95 {ONE} none {ONE}"), "fits"),
+            (&format!("split 30 custom 1 aic p95 {ONE} none {ONE} size"), "fits"),
+            (&format!("split 30 custom 1 aic p95 {ONE} none {ONE} sign"), "field 10: not a name"),
+            (
+                &format!("split 30 custom 1 aic p95 {ONE} none {ONE} size 1"),
+                "field 11: one too many",
+            ),
+            ("lent before 4200", "fits"),
+            ("show after 0 17", "fits"),
+            (&format!("put before 16 {ONE}"), "fits"),
             (&format!("losses relaxed 0 aic p95 {ONE} none {ONE}"), "fits"),
             (&format!("losses relaxed 0 aic p95 {ONE} none {ONE} sign"), "field 9: not a name"),
             ("losses relaxed", "field 3: missing"),
@@ -629,6 +649,8 @@ mod tests {
             "fit 15".to_string(),
             format!("report custom 7 bic p999 0000000000000000 measurement {ONE}"),
             format!("report custom 7 bic p999 0000000000000000 measurement {ONE} size"),
+            "split 0 relaxed 0 aic p80 0000000000000000 none 0000000000000000".to_string(),
+            format!("split 999999999 custom 3 bic custom {ONE} variance {ONE} size"),
             format!("losses custom 7 bic p999 0000000000000000 measurement {ONE}"),
             format!("losses custom 7 bic p999 0000000000000000 measurement {ONE} size"),
             "validate 10 aggressive 0 aic".to_string(),

@@ -23,6 +23,7 @@ pub trait Calls {
     fn carry(&self, count: usize, lent: Lent) -> Answer;
     fn fit(&self, count: usize, lent: Lent, degree: usize) -> Answer;
     fn report(&self, count: usize, lent: Lent, settings: Settings) -> Answer;
+    fn split(&self, count: usize, lent: Lent, settings: Settings, limit: usize) -> Answer;
     fn losses(&self, count: usize, lent: Lent, settings: Settings) -> Answer;
     fn validate(
         &self,
@@ -66,6 +67,7 @@ impl<T: Calls> Side for T {
             Call::Carry => self.carry(count, lent),
             Call::Fit { degree } => self.fit(count, lent, *degree),
             Call::Report(settings) => self.report(count, lent, *settings),
+            Call::Split { limit, settings } => self.split(count, lent, *settings, *limit),
             Call::Losses(settings) => self.losses(count, lent, *settings),
             Call::Validate { folds, bound, criterion } => {
                 self.validate(count, lent, *folds, *bound, *criterion)
@@ -152,6 +154,18 @@ impl Calls for Judge {
             solved: a.solved,
             outliers: a.outliers,
             pruned: a.pruned,
+        })
+    }
+
+    fn split(&self, count: usize, lent: Lent, settings: Settings, limit: usize) -> Answer {
+        let memory = memory!(lent);
+        let by = (settings, limit);
+        let result = book::split(count, &memory, by, lent.scratch, lent.before, lent.after);
+        answer(result, |a| Answer::Split {
+            b: a.b,
+            degrees: (a.degree_before, a.degree_after),
+            tests: a.tests,
+            total: a.total,
         })
     }
 

@@ -1,15 +1,16 @@
 //! The lists of tests/ at the top of the repository: their answers are the judge's and the proved
-//! library's, and the lists of edges, of lines, of weights, of windows and of losses meet the edges
-//! that their comments name.
+//! library's, and the lists of edges, of lines, of weights, of splits, of windows and of losses meet the
+//! edges that their comments name.
 
 use std::path::PathBuf;
 use std::process::Command;
 
 use journal::request::read;
 use journal::{run, Call, Journal, Judge, Port, Request, Side};
-use judge::fit::{self, Criterion};
+use judge::fit::{self, Criterion, Settings};
 use judge::numbers::NAN_BITS;
-use judge::statistics::{huber_loss, median_absolute_deviation, HUBER_CONST};
+use judge::split::{self, side_fit};
+use judge::statistics::{huber_loss, max_degree, median_absolute_deviation, HUBER_CONST};
 use judge::sums::{folded_afresh, powers, TERMS};
 use judge::Sample;
 
@@ -28,7 +29,7 @@ fn printed(side: &dyn Side, name: &str) -> String {
 }
 
 fn check_answers(side: &dyn Side) {
-    for name in ["edges", "season", "lines", "weights", "windows", "losses", "fixed"] {
+    for name in ["edges", "season", "lines", "weights", "split", "windows", "losses", "fixed"] {
         let answers = String::from_utf8(file(&format!("{name}.answers"))).unwrap();
         let printed = printed(side, name);
         for (number, (kept, new)) in answers.lines().zip(printed.lines()).enumerate() {
@@ -50,7 +51,7 @@ fn answers_are_the_librarys() {
 
 #[test]
 fn lists_are_as_made() {
-    for name in ["edges", "season", "lines", "weights", "windows", "losses"] {
+    for name in ["edges", "season", "lines", "weights", "split", "windows", "losses"] {
         let made = Command::new(env!("CARGO_BIN_EXE_lists")).arg(name).output().unwrap();
         assert!(made.stdout == file(&format!("{name}.calls")), "{name}.calls");
     }
@@ -1251,4 +1252,209 @@ fn season_has_every_message_and_refusal() {
         let refusal = format!("refused {number}");
         assert!(answers.lines().any(|line| line == refusal), "{refusal}");
     }
+}
+
+/// A part of the list of splits.
+fn split_part(comment: &str) -> Edge {
+    part("split.calls", comment)
+}
+
+impl Edge {
+    /// The settings of the splits.
+    fn split_settings(&self) -> Vec<Settings> {
+        let settings = |request| match request {
+            Request::Call(Call::Split { settings, .. }) => Some(settings),
+            _ => None,
+        };
+        self.requests().into_iter().filter_map(settings).collect()
+    }
+
+    /// The break, the degrees and the tests of a split's answer, and its total.
+    fn split(&self, at: usize) -> ([usize; 4], f64) {
+        let fields: Vec<&str> = self.of("split")[at].split(' ').collect();
+        let numbers = [1, 2, 3, 4].map(|at| fields[at].parse().unwrap());
+        (numbers, f64::from_bits(u64::from_str_radix(fields[5], 16).unwrap()))
+    }
+}
+
+/// The header's numbers: a bend at 4, and 3 is answered.
+#[test]
+fn short_sides() {
+    let bend = split_part("bend: eight samples");
+    assert_eq!(bend.split(0), ([3, 1, 1, 30], -113.35496093152223));
+    assert_eq!(bend.of("split")[1], "refused 16");
+    assert_eq!((bend.split(2), bend.split(5)), (bend.split(0), bend.split(0)));
+    assert_eq!(bend.of("split")[3..5], ["refused 16"; 2]);
+    let at_4 = &split::breaks(&bend.samples(), bend.split_settings()[0])[2..3];
+    assert!((split::least_total(at_4).unwrap().total - -17.7).abs() < 0.05);
+    let two = split_part("bend: each side of two");
+    let (answer, total) = two.split(0);
+    assert_eq!((answer[0], total / 2.0), (2, 2.0 * judge::numbers::ln(f64::EPSILON) + 2.0));
+    assert!((0..4).all(|at| two.split(at).1 == total));
+    let pit = split_part("bend: forty samples");
+    assert_eq!((pit.split(1).0[0], pit.split(2).0[0], pit.split(3).0[0]), (18, 18, 18));
+}
+
+#[test]
+fn equal_totals() {
+    let seven = split_part("equals: of seven");
+    let breaks = split::breaks(&seven.samples(), seven.split_settings()[0]);
+    let total = |b: usize| split::least_total(&breaks[b - 2..b - 1]).unwrap().total;
+    assert_eq!((seven.split(0).0[0], total(2), total(5)), (2, total(5), seven.split(0).1));
+    assert_eq!(split_part("equals: of any four").split(0).0[0], 2);
+    let five = split_part("equals: one sample");
+    let (samples, settings) = (five.samples(), five.split_settings()[0]);
+    let score = |side: &[Sample]| side_fit(side, settings).unwrap().score;
+    assert!(score(&samples[..1]) + score(&samples[1..]) < five.split(0).1);
+}
+
+/// The total and the break that another score of each side would give.
+fn broken_by(samples: &[Sample], score: impl Fn(usize, &[Sample]) -> Option<f64>) -> usize {
+    let mut best = (f64::INFINITY, 0);
+    for b in 2..=samples.len() - 2 {
+        let scores = (score(0, &samples[..b]), score(b, &samples[b..]));
+        if let (Some(before), Some(after)) = scores {
+            if before + after < best.0 {
+                best = (before + after, b);
+            }
+        }
+    }
+    best.1
+}
+
+#[test]
+fn chosen_scores_are_added() {
+    let edge = split_part("scores: those of the chosen");
+    let samples = edge.samples();
+    for (at, settings) in edge.split_settings().into_iter().enumerate() {
+        let by_least = broken_by(&samples, |_, side| {
+            let bound = max_degree(settings.bound, side.len());
+            let scores = fit::scores(side, &folded_afresh(side), bound, settings.criterion);
+            Some(fit::least(&scores))
+        });
+        assert_ne!(edge.split(at).0[0], by_least);
+    }
+    let two_above = split_part("scores: a chosen degree");
+    assert_eq!(two_above.split(0).0[..2], [3, 0]);
+    let first = &two_above.samples()[..3];
+    let scores = fit::scores(first, &folded_afresh(first), 1, Criterion::Aic);
+    assert_eq!(scores[0].unwrap() - scores[1].unwrap(), 2.0);
+}
+
+#[test]
+fn breaks_passed_over() {
+    let sides = |edge: &Edge| -> Vec<(usize, bool, bool)> {
+        let breaks = split::breaks(&edge.samples(), edge.split_settings()[0]);
+        breaks.iter().map(|at| (at.b, at.before.is_some(), at.after.is_some())).collect()
+    };
+    let before = split_part("passed over: the side before");
+    assert_eq!(sides(&before), [(2, true, true), (3, false, true), (4, false, true)]);
+    assert_eq!(before.split(0).0, [2, 0, 0, 6]);
+    let after = split_part("passed over: the side after");
+    assert_eq!(sides(&after), [(2, true, false), (3, true, false), (4, true, true)]);
+    assert_eq!(after.split(0).0, [4, 0, 0, 6]);
+    let all = split_part("passed over: every break, so");
+    assert_eq!(all.of("split"), ["refused 11", "refused 11", "refused 16", "refused 16"]);
+    let six = split_part("passed over: every break of six");
+    assert_eq!(six.of("split"), ["refused 11", "refused 16"]);
+}
+
+#[test]
+fn tests_are_counted() {
+    let equal = split_part("counts: equal x's");
+    assert_eq!((equal.split(0).0[3], equal.split(2).0[3]), (2, 6));
+    assert_eq!((equal.split(4).0[3], equal.split(5).0[3]), (30, 30));
+    assert!([1, 3, 6].iter().all(|at| equal.of("split")[*at] == "refused 16"));
+    let years = split_part("counts: years");
+    let (samples, settings) = (years.samples(), years.split_settings()[0]);
+    let unfailing = |side: usize| (1..=side.min(5)).sum::<usize>();
+    let all: usize = (2..=8).map(|b| unfailing(b) + unfailing(10 - b)).sum();
+    assert!(years.split(0).0[3] < all);
+    assert_eq!(years.split(0).0[3], split::tests(&split::breaks(&samples, settings)));
+    let over = split_part("counts: the tests of a break");
+    assert_eq!((over.split(0).0[3], &over.of("split")[1..]), (6, &["refused 16"; 2][..]));
+}
+
+#[test]
+fn sums_of_the_sides() {
+    let edge = split_part("sums: those after the break");
+    let (samples, settings) = (edge.samples(), edge.split_settings()[0]);
+    let whole = folded_afresh(&samples);
+    let by_subtraction = broken_by(&samples, |b, side| {
+        let mut sums = folded_afresh(&samples[..b]);
+        (0..sums.len()).for_each(|at| sums[at] = whole[at] - sums[at]);
+        let bound = max_degree(settings.bound, side.len());
+        let sums = if b == 0 { folded_afresh(side) } else { sums };
+        let scores = fit::scores(side, &sums, bound, settings.criterion);
+        scores[fit::chosen(&scores)?]
+    });
+    assert_eq!((edge.split(0).0[0], by_subtraction), (7, 3));
+    let lent = split_part("sums: the lent ones");
+    assert_eq!((lent.split(0), lent.shown("after")), (edge.split(0), edge.shown("after")));
+    let weights = split_part("sums: with weights");
+    assert_eq!((weights.split(0).0[0], weights.split(1).0[0]), (7, 4));
+    assert_ne!(weights.shown("before")[1], weights.shown("before")[2]);
+}
+
+#[test]
+fn bounds_of_the_sides() {
+    let own = split_part("bounds: a side's own");
+    // One pivot of a side below 16 samples, of degrees 0 and 1 three, and from 24 on six.
+    let side = |n: usize| match n {
+        0..=15 => 1,
+        16..=23 => 3,
+        _ => 6,
+    };
+    let all: usize = (2..=30).map(|b| side(b) + side(32 - b)).sum();
+    assert_eq!((own.split(0).0[3], own.split(2).0[3]), (all, all));
+    let sixteen = split_part("bounds: 8 by the whole list's: Custom");
+    let (passes, refused) = (sixteen.of("split"), ["refused 8"; 2]);
+    assert!(passes[0].starts_with("split ") && passes[1] == "refused 16");
+    assert_eq!((&passes[2..4], passes[5]), (&refused[..], "refused 16"));
+    assert_eq!(split_part("bounds: 8 by the whole list's: Aggr").of("split"), ["refused 8"]);
+}
+
+#[test]
+fn splits_refused_in_order() {
+    let short = split_part("refused by 1: each memory");
+    assert_eq!(short.of("split")[..7], ["refused 1"; 7]);
+    assert!(short.of("split")[7].starts_with("split "));
+    assert_eq!(split_part("refused by 1: a count").of("split"), ["refused 1"; 2]);
+    let others = split_part("refused by 1: what only");
+    assert!(others.of("split").iter().all(|answer| answer.starts_with("split ")));
+    let seven = split_part("order: 7");
+    for answers in seven.of("split")[..32].chunks(8) {
+        assert_eq!(answers[..2], ["refused 7"; 2]);
+        assert_eq!((&answers[2..4], &answers[4..]), (&["refused 4"; 2][..], &["refused 1"; 4][..]));
+    }
+    let eight = split_part("order: 8");
+    let answers = eight.of("split");
+    let first = ["refused 8", "refused 8", "refused 4", "refused 4", "refused 16"];
+    assert_eq!((&answers[..5], &answers[6..]), (&first[..], &["refused 1"; 6][..]));
+    for answers in split_part("order: 4").of("split").chunks(12) {
+        assert_eq!((&answers[..8], answers[8]), (&["refused 4"; 8][..], "refused 8"));
+        assert!(answers[10].starts_with("split ") && answers[11] == "refused 16");
+    }
+    let last = split_part("order: 16 before 11");
+    let first = ["refused 16", "refused 16", "refused 11", "refused 4"];
+    assert_eq!(last.of("split")[..4], first);
+}
+
+#[test]
+fn scratch_of_splits() {
+    let edge = split_part("scratch:");
+    let shown = edge.shown("scratch");
+    let mark = |i: usize| (500.0 + i as f64).to_bits();
+    let marks = |n: usize| (0..n).map(mark).collect::<Vec<_>>();
+    let cleared = |n: usize| [vec![0; n], vec![mark(n)]].concat();
+    assert_eq!(shown[..3], [marks(18), cleared(17), cleared(17)]);
+    // 11 clears four places; 7 leaves them.
+    assert_eq!(shown[3..], [cleared(4), marks(5)]);
+    let written = edge.shown("before");
+    assert_eq!(written[0], written[1]);
+    assert_eq!(written[2][16], (616.0_f64).to_bits());
+    assert_eq!(
+        (&written[2][1..16], &written[3], &written[4]),
+        (&[0; 15][..], &written[0], &written[0])
+    );
 }

@@ -58,6 +58,14 @@ pub fn solve(sums: &[f64], k: usize) -> Option<Vec<f64>> {
     solve_system(corner(sums, k), b)
 }
 
+/// The pivots that solve compares on the k by k corner, a failing one included (document 02, E8).
+pub fn pivots_compared(sums: &[f64], k: usize) -> usize {
+    let mut b: Vec<f64> = (0..k).map(|i| g(sums, i)).collect();
+    let held = eliminate(&mut corner(sums, k), &mut b);
+    let failed = usize::from(held < k);
+    held + failed
+}
+
 /// Inverse: the same on the corner with 2⁻⁵² first added to each diagonal place, once per unit column.
 pub fn inverse(sums: &[f64], k: usize) -> Option<Matrix> {
     let mut m = corner(sums, k);
@@ -93,6 +101,8 @@ mod tests {
         let samples = [(2.0, 1.0), (2.0, 5.0)].map(|(x, y)| Sample::unweighted(x, y));
         assert_eq!(solve(&folded_afresh(&samples), 2), None);
         assert_eq!(solve(&folded_afresh(&samples), 1), Some(vec![3.0]));
+        let compared = [1, 2, 3].map(|k| pivots_compared(&folded_afresh(&samples), k));
+        assert_eq!(compared, [1, 2, 2]);
     }
 
     /// The pivot must be greater than the bound, not equal to it, and a NaN is not greater.

@@ -1,7 +1,7 @@
 //! Each call on small lent memory: what it answers, what it writes, and by which number it is
 //! refused where several would do. The expected values are worked out by hand from the documents.
 
-use judge::book::{self, LossesAnswer, Memory, ReportAnswer, ReportMemory};
+use judge::book::{self, LossesAnswer, Memory, ReportAnswer, ReportMemory, SplitAnswer};
 use judge::fit::{Band, Criterion, PruningRule, Settings};
 use judge::frame::{encode, encode_weighted};
 use judge::numbers::bits;
@@ -49,6 +49,8 @@ struct Book {
     lower: Vec<f64>,
     upper: Vec<f64>,
     outlier: Vec<u8>,
+    before: Vec<f64>,
+    after: Vec<f64>,
     losses: Vec<f64>,
 }
 
@@ -68,6 +70,8 @@ impl Book {
             lower: vec![MARK; capacity + 1],
             upper: vec![MARK; capacity + 1],
             outlier: vec![77; capacity + 1],
+            before: vec![MARK; TERMS + 1],
+            after: vec![MARK; TERMS + 1],
             losses: vec![MARK; capacity + 1],
         };
         book.count = book::open(&mut book.sums).unwrap();
@@ -165,6 +169,12 @@ impl Book {
         let memory = memory!(self);
         let (confidence, tolerance) = (Confidence::P95, Tolerance::None);
         book::band(self.count, &memory, (x, degree), confidence, tolerance, &mut self.scratch)
+    }
+
+    fn split(&mut self, settings: Settings, limit: usize) -> Result<SplitAnswer, u8> {
+        let memory = memory!(self);
+        let (before, after) = (&mut self.before, &mut self.after);
+        book::split(self.count, &memory, (settings, limit), &mut self.scratch, before, after)
     }
 
     fn is_folded(&self, samples: &[(f64, f64)]) -> bool {
@@ -938,4 +948,91 @@ fn carry_of_a_two_column_book() {
     assert_eq!((&carried.x[..3], &carried.y[..3]), (&book.x[..3], &book.y[..3]));
     assert_eq!((&carried.weight[..3], carried.sums), (&book.weight[..3], book.sums));
     assert_eq!((carried.coefficients, carried.errors), (book.coefficients, book.errors));
+}
+
+/// A step: 1, 1, 1 and then 5, 5, 5, at whole x.
+const STEP: [(f64, f64); 6] =
+    [(0.0, 1.0), (1.0, 1.0), (2.0, 1.0), (3.0, 5.0), (4.0, 5.0), (5.0, 5.0)];
+
+const AIC_0: Settings = Settings { bound: DegreeBound::Custom(0), ..AIC_1 };
+
+/// Document 02, E8: three breaks, each side one pivot. After 2 the rest leaves −3, 1, 1, 1, whose median absolute
+/// deviation is 0, so that both sides score as if they were exact, as at 3; but three samples on a side cost
+/// 2 × 1 × 2 / 1 more, n / k being below 4. The lent sums are not read.
+#[test]
+fn split_writes_both_fits() {
+    let mut book = Book::new(7, &STEP);
+    book.sums.fill(NAN);
+    let answer = book.split(AIC_0, 6).unwrap();
+    let floor = judge::numbers::ln(f64::EPSILON);
+    let total = (2.0 * floor + 2.0) + (4.0 * floor + 2.0);
+    let expected = SplitAnswer { total, b: 2, tests: 6, degree_before: 0, degree_after: 0 };
+    assert_eq!(answer, expected);
+    let terms = |first: f64| {
+        let mut terms = vec![0.0; TERMS];
+        terms[0] = first;
+        terms.push(MARK);
+        terms.iter().map(|v| bits(*v)).collect::<Vec<_>>()
+    };
+    let places = |places: &[f64]| places.iter().map(|v| bits(*v)).collect::<Vec<_>>();
+    assert_eq!((places(&book.before), places(&book.after)), (terms(1.0), terms(4.0)));
+    assert_eq!(book.scratch, [0.0, 0.0, 0.0, 0.0, 0.0, 0.0, MARK, MARK]);
+    assert_eq!((book.coefficients[0], book.errors[0], book.lower[0]), (MARK, MARK, MARK));
+}
+
+/// One test too few gives 16, before 11; scratch is cleared, and nothing is written.
+#[test]
+fn split_past_its_limit() {
+    let mut book = Book::new(6, &STEP);
+    let none = Book::new(6, &[(0.0, f64::MAX); 4]);
+    assert_eq!(book.split(AIC_0, 5), Err(16));
+    assert_eq!(book.scratch, [0.0, 0.0, 0.0, 0.0, 0.0, 0.0, MARK]);
+    assert_eq!((&book.before, &book.after), (&none.before, &none.after));
+    assert!(book.split(AIC_0, usize::MAX).is_ok());
+    let mut book = none;
+    assert_eq!((book.split(AIC_0, 1), book.split(AIC_0, 2)), (Err(16), Err(11)));
+    assert_eq!(book.scratch[..5], [0.0, 0.0, 0.0, 0.0, MARK]);
+    assert_eq!((book.before, book.after), (vec![MARK; TERMS + 1], vec![MARK; TERMS + 1]));
+}
+
+#[test]
+fn split_is_refused_in_order() {
+    let mut book = Book::new(17, &LINE);
+    let nan_score = Settings { confidence: Confidence::Custom(NAN), ..AIC_1 };
+    let nan_tolerance = Settings { tolerance: Tolerance::Variance(NAN), ..AIC_1 };
+    let wide = Settings { bound: DegreeBound::Custom(20), ..AIC_1 };
+    assert_eq!(book.split(AIC_1, 0), Err(7));
+    assert_eq!((book.split(nan_score, 0), book.split(nan_tolerance, 0)), (Err(4), Err(4)));
+    for i in 3..16 {
+        book.add(f64::from(i), 1.0).unwrap();
+    }
+    assert_eq!(book.split(wide, 0), Err(16), "bounded by n - 1, which is 15");
+    book.scratch.fill(MARK);
+    book.add(16.0, 1.0).unwrap();
+    assert_eq!(book.split(wide, 0), Err(8));
+    book.weight[16] = INFINITY;
+    assert_eq!(book.split(wide, 0), Err(4));
+    book.before.truncate(TERMS - 1);
+    assert_eq!(book.split(wide, 0), Err(1));
+    assert_eq!(book.scratch, vec![MARK; 18]);
+}
+
+/// Each memory one place too short, also where the call would be refused later.
+#[test]
+fn split_on_short_memory() {
+    let shorten: [fn(&mut Book); 6] = [
+        |book| book.sums.truncate(PLACES - 1),
+        |book| book.scratch.truncate(5),
+        |book| book.before.truncate(TERMS - 1),
+        |book| book.after.truncate(TERMS - 1),
+        |book| book.weight.truncate(5),
+        |book| book.count = 7,
+    ];
+    for shorten in shorten {
+        let mut book = Book::new(6, &STEP);
+        shorten(&mut book);
+        let nan_tolerance = Settings { tolerance: Tolerance::Absolute(NAN), ..AIC_0 };
+        assert_eq!((book.split(AIC_0, 6), book.split(nan_tolerance, 6)), (Err(1), Err(1)));
+        assert!(book.scratch.iter().all(|v| *v == MARK));
+    }
 }

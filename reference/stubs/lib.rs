@@ -12,6 +12,6 @@ mod fit;
 mod polynomial;
 
 pub use fit::*;
-// Not in the text: the weights of patch 6.
-pub use nalgebra::with_weights;
+// Not in the text: the weights of patch 6, and the count of pivots of the shim.
+pub use nalgebra::{count_pivots, with_weights};
 pub use polynomial::*;

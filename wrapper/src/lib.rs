@@ -95,6 +95,20 @@ pub struct Band {
     pub upper: f64,
 }
 
+/// A list broken in two, each side with a curve of its own.
+#[derive(Debug, Clone, Copy, PartialEq)]
+pub struct Split {
+    /// The sum of the two chosen scores, the least of all breaks.
+    pub total: f64,
+    /// How many samples lie before the break: the index of the first one after it.
+    pub samples_before: usize,
+    /// The pivot tests of the whole search: a limit of so many lets the same split through.
+    pub tests: usize,
+    /// The curves before the break and after it.
+    pub before: Fit,
+    pub after: Fit,
+}
+
 /// What a report found. Its lists are the book's, until the next call.
 #[derive(Debug, Clone, Copy, PartialEq)]
 pub struct Report<'a> {
@@ -424,6 +438,55 @@ impl Book {
             upper: &self.upper[..n],
             outlying: &self.outliers[..n],
             counts: (sys::outliers(answer), sys::pruned(answer)),
+        })
+    }
+
+    /// Breaks the list in two, melt season and cold season, each with a curve of its own: of every break
+    /// that leaves at least two samples on each side, in list order, the one with the least total of the
+    /// two chosen scores, the first among equals. Refused by [`Refusal::NotFinite`],
+    /// [`Refusal::NoSamples`] below 4 samples, [`Refusal::DegreeTooHigh`] by the bound for the whole
+    /// list, [`Refusal::LimitPassed`] and [`Refusal::NoDegree`].
+    ///
+    /// The limit bounds the time: a search that needs more pivot tests than it is refused, and ends
+    /// there. `usize::MAX` is no limit. Of the settings only bound and criterion count.
+    ///
+    /// On short lists the least total favours short sides, whatever their y's: two samples of equal weight
+    /// leave residuals of one size, whose median absolute deviation is 0, so that they score as if they
+    /// were exact. Believe a break with many samples on both sides; `include/stakebook.h` says more.
+    ///
+    /// ```
+    /// # use stakebook::{
+    /// #     Book, Confidence, Criterion, DegreeBound, PruningRule, Refusal, Settings, Tolerance,
+    /// # };
+    /// let mut book = Book::with_capacity(8);
+    /// book.add_lines(b"0 0\n1 1.1\n2 1.9\n3 3.05\n4 2.95\n5 2.1\n6 0.9\n7 0.02\n")?;
+    /// let settings = Settings {
+    ///     bound: DegreeBound::Custom(1),
+    ///     criterion: Criterion::Aic,
+    ///     confidence: Confidence::P95,
+    ///     tolerance: Tolerance::None,
+    ///     pruning: PruningRule::default(),
+    /// };
+    /// let split = book.split(settings, usize::MAX)?;
+    /// // The bend is at 4.
+    /// assert_eq!((split.samples_before, split.tests), (3, 30));
+    /// assert_eq!(book.split(settings, 29), Err(Refusal::LimitPassed));
+    /// # Ok::<(), Refusal>(())
+    /// ```
+    pub fn split(&mut self, settings: Settings, limit: usize) -> Result<Split, Refusal> {
+        let (words, values) = settings.lists();
+        let (mut before, mut after, mut total) = ([0.0; TERMS], [0.0; TERMS], [0.0]);
+        let answer = lend!(stakebook_split(
+            self.count, words.as_ptr(), words.len(), values.as_ptr(), values.len(), limit;
+            self.xs, self.ys, self.ws, self.sums, self.scratch, before, after, total
+        ));
+        let answer = judged(answer)?;
+        Ok(Split {
+            total: total[0],
+            samples_before: sys::samples_before(answer),
+            tests: sys::tests(answer),
+            before: Fit { degree: sys::degree(answer), terms: before },
+            after: Fit { degree: sys::degree_after(answer), terms: after },
         })
     }
 

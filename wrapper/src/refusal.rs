@@ -1,7 +1,7 @@
 //! Why a call was refused.
 
-/// The fifteen refusals, by number. They are checked in this order, but 13 and 14 after 3, and 15
-/// after 4. A refused call changes no sample and writes no result.
+/// The sixteen refusals, by number. They are checked in this order, but 13 and 14 after 3, 15 after 4,
+/// and 16 after 10. A refused call changes no sample and writes no result.
 #[derive(Debug, Clone, Copy, PartialEq, Eq)]
 pub enum Refusal {
     /// 1: a lent memory is too short, or the count is above capacity.
@@ -16,7 +16,7 @@ pub enum Refusal {
     Full,
     /// 6: there is no sample of this index.
     NoSuchSample,
-    /// 7: there are no samples, or the folds are below 2 or above their number.
+    /// 7: there are no samples, for a split fewer than 4, or the folds are below 2 or above their number.
     NoSamples,
     /// 8: the degree is at or above the number of samples, or above 15.
     DegreeTooHigh,
@@ -24,7 +24,7 @@ pub enum Refusal {
     OutOfRange,
     /// 10: the degree is unsolved.
     Unsolved,
-    /// 11: no degree is chosen.
+    /// 11: no degree is chosen; for a split, on both sides of no break.
     NoDegree,
     /// 12: the covariance can't be worked out.
     NoCovariance,
@@ -34,17 +34,19 @@ pub enum Refusal {
     TooManyDigits,
     /// 15: a weight that is being added is not above zero.
     WeightNotAboveZero,
+    /// 16: a split's search needs more pivot tests than its limit.
+    LimitPassed,
 }
 
 impl Refusal {
-    /// Its number, 1 to 15.
+    /// Its number, 1 to 16.
     pub fn number(self) -> u8 {
         self as u8
     }
 
     /// The refusal of a number; none for 0.
     pub(crate) fn of(number: u8) -> Option<Refusal> {
-        const ALL: [Refusal; 15] = [
+        const ALL: [Refusal; 16] = [
             Refusal::Memory,
             Refusal::FrameLength,
             Refusal::FrameVersion,
@@ -60,6 +62,7 @@ impl Refusal {
             Refusal::MalformedLine,
             Refusal::TooManyDigits,
             Refusal::WeightNotAboveZero,
+            Refusal::LimitPassed,
         ];
         (number != 0).then(|| ALL[usize::from(number) - 1])
     }
@@ -74,7 +77,7 @@ impl std::fmt::Display for Refusal {
             Refusal::NotFinite => "a number is not finite",
             Refusal::Full => "the book is full",
             Refusal::NoSuchSample => "there is no sample of this index",
-            Refusal::NoSamples => "there are no samples, or no such folds",
+            Refusal::NoSamples => "there are no samples, or too few, or no such folds",
             Refusal::DegreeTooHigh => "the degree is too high",
             Refusal::OutOfRange => "x lies outside the samples",
             Refusal::Unsolved => "the degree is unsolved",
@@ -83,6 +86,7 @@ impl std::fmt::Display for Refusal {
             Refusal::MalformedLine => "a line is not two readings with one space between them",
             Refusal::TooManyDigits => "a reading has too many digits",
             Refusal::WeightNotAboveZero => "a weight is not above zero",
+            Refusal::LimitPassed => "the search needs more pivot tests than the limit",
         })
     }
 }
@@ -97,10 +101,10 @@ mod tests {
     #[test]
     fn by_number() {
         assert_eq!(Refusal::of(0), None);
-        let all: Vec<Refusal> = (1..=15).filter_map(Refusal::of).collect();
-        assert!(all.iter().map(|refusal| refusal.number()).eq(1..=15));
+        let all: Vec<Refusal> = (1..=16).filter_map(Refusal::of).collect();
+        assert!(all.iter().map(|refusal| refusal.number()).eq(1..=16));
         let words: std::collections::BTreeSet<String> =
             all.iter().map(Refusal::to_string).collect();
-        assert_eq!(words.len(), 15);
+        assert_eq!(words.len(), 16);
     }
 }

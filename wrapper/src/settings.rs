@@ -66,7 +66,7 @@ pub enum PruningRule {
     Size,
 }
 
-/// A report's settings.
+/// The settings of a report or a split.
 #[derive(Debug, Clone, Copy, PartialEq)]
 pub struct Settings {
     pub bound: DegreeBound,

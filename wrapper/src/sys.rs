@@ -260,6 +260,30 @@ extern "C" {
         outliers: *mut u8,
         outliers_len: usize,
     ) -> u64;
+    pub fn stakebook_split(
+        count: usize,
+        words: *const u32,
+        words_len: usize,
+        values: *const f64,
+        values_len: usize,
+        limit: usize,
+        xs: *const f64,
+        xs_len: usize,
+        ys: *const f64,
+        ys_len: usize,
+        ws: *const f64,
+        ws_len: usize,
+        sums: *const f64,
+        sums_len: usize,
+        scratch: *mut f64,
+        scratch_len: usize,
+        before: *mut f64,
+        before_len: usize,
+        after: *mut f64,
+        after_len: usize,
+        total: *mut f64,
+        total_len: usize,
+    ) -> u64;
     pub fn stakebook_losses(
         count: usize,
         words: *const u32,
@@ -339,7 +363,7 @@ pub fn count(answer: u64) -> usize {
     (answer & 0x00FF_FFFF_FFFF_FFFF) as usize
 }
 
-/// The degree, in the answer of a fit, a validation, a report or losses.
+/// The degree, in the answer of a fit, a validation, a report or losses; of a split, the one before the break.
 pub fn degree(answer: u64) -> usize {
     (answer & 0xFF) as usize
 }
@@ -357,4 +381,19 @@ pub fn pruned(answer: u64) -> usize {
 /// The number of outliers, in the answer of a report.
 pub fn outliers(answer: u64) -> usize {
     (answer >> 32 & 0xFFFF) as usize
+}
+
+/// The degree after the break, in the answer of a split.
+pub fn degree_after(answer: u64) -> usize {
+    (answer >> 8 & 0xFF) as usize
+}
+
+/// The number of samples before the break, in the answer of a split.
+pub fn samples_before(answer: u64) -> usize {
+    (answer >> 16 & 0xFFFF) as usize
+}
+
+/// The number of pivot tests made, in the answer of a split.
+pub fn tests(answer: u64) -> usize {
+    (answer >> 32 & 0x00FF_FFFF) as usize
 }

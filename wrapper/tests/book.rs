@@ -136,6 +136,45 @@ fn pruning_by_either_rule() {
     assert_eq!(report.solved, 4);
 }
 
+/// Document 02's E8: the header's example, whose bend is at 4, and each refusal.
+#[test]
+fn a_split() {
+    let ys = [0.0, 1.1, 1.9, 3.05, 2.95, 2.1, 0.9, 0.02];
+    let samples: Vec<(f64, f64)> = ys.iter().enumerate().map(|(i, &y)| (i as f64, y)).collect();
+    let mut book = book_of(&samples);
+    let split = book.split(SETTINGS, 30).expect("a break");
+    assert_eq!((split.total, split.samples_before), (-113.35496093152223, 3));
+    assert_eq!((split.tests, split.before.degree, split.after.degree), (30, 1, 1));
+    assert_eq!(split.before.coefficients().len(), 2);
+    assert_eq!(book.split(SETTINGS, usize::MAX), Ok(split));
+    assert_eq!(book.split(SETTINGS, 29), Err(Refusal::LimitPassed));
+    let by_size = Settings { pruning: PruningRule::Size, ..SETTINGS };
+    assert_eq!(book.split(by_size, 30), Ok(split));
+    let not_finite = Settings { tolerance: Tolerance::Absolute(f64::NAN), ..SETTINGS };
+    assert_eq!(book.split(not_finite, 0), Err(Refusal::NotFinite));
+    assert_eq!(book_of(&samples[..3]).split(SETTINGS, 0), Err(Refusal::NoSamples));
+    assert_eq!(book_of(&[(0.0, f64::MAX); 4]).split(SETTINGS, 99), Err(Refusal::NoDegree));
+    let mut long = Book::with_capacity(17);
+    for i in 0..17 {
+        long.add(f64::from(i), 1.0).expect("a finite sample, and room");
+    }
+    let wide = Settings { bound: DegreeBound::Custom(usize::MAX), ..SETTINGS };
+    assert_eq!(long.split(wide, 0), Err(Refusal::DegreeTooHigh));
+    assert_eq!(Refusal::LimitPassed.number(), 16);
+}
+
+/// Both sides are fitted with their weights.
+#[test]
+fn a_weighted_split() {
+    let mut book = Book::with_capacity(4);
+    for (x, y, weight) in [(0.0, 2.0, 1.0), (1.0, 6.0, 3.0), (2.0, 1.0, 2.0), (3.0, 4.0, 1.0)] {
+        book.add_weighted(x, y, weight).expect("a sample that is added");
+    }
+    let constant = Settings { bound: DegreeBound::Custom(0), ..SETTINGS };
+    let split = book.split(constant, 2).expect("one break");
+    assert_eq!((split.before.coefficients(), split.after.coefficients()), (&[5.0][..], &[2.0][..]));
+}
+
 /// A window of the latest three: the oldest goes, and the sums are those of what stays.
 #[test]
 fn a_window_of_three() {

@@ -4,6 +4,7 @@
 //! `lists season`: a season of a field group, with every malformed line and document 01's refusals.
 //! `lists lines`: readings as written in the field book, document 02's E1.
 //! `lists weights`: weighted samples, document 02's E5.
+//! `lists split`: a list broken in two, document 02's E8.
 //! `lists windows`: window books, document 02's E11.
 //! `lists losses`: losses line by line, document 02's E12.
 
@@ -12,6 +13,7 @@ mod lines;
 mod list;
 mod losses;
 mod season;
+mod split;
 mod weights;
 mod windows;
 
@@ -23,10 +25,11 @@ fn main() -> ExitCode {
         Some("season") => season::season(),
         Some("lines") => lines::lines(),
         Some("weights") => weights::weights(),
+        Some("split") => split::split(),
         Some("windows") => windows::windows(),
         Some("losses") => losses::losses(),
         _ => {
-            eprintln!("lists edges, season, lines, weights, windows, or losses");
+            eprintln!("lists edges, season, lines, weights, split, windows, or losses");
             return ExitCode::FAILURE;
         }
     };

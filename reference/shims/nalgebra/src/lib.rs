@@ -8,6 +8,7 @@
 mod complex;
 mod field;
 mod matrix;
+mod pivots;
 mod stand_ins;
 mod svd;
 mod weights;
@@ -15,5 +16,6 @@ mod weights;
 pub use complex::{Complex, Normed};
 pub use field::{convert, AbsDiffEq, ComplexField, RealField, Scalar};
 pub use matrix::{DMatrix, DVector, Dim, Dyn, MatrixView, MatrixViewMut, OVector, VecStorage};
+pub use pivots::count_pivots;
 pub use svd::SVD;
 pub use weights::with_weights;

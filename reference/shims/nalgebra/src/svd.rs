@@ -3,6 +3,7 @@
 
 use crate::field::{convert, RealField};
 use crate::matrix::{DMatrix, DVector};
+use crate::pivots;
 
 /// The name and the methods are nalgebra's; nothing is decomposed, the matrix is kept.
 pub struct SVD<T> {
@@ -31,7 +32,10 @@ impl<T: RealField> SVD<T> {
     /// the rows of X, eliminated.
     pub fn solve(&self, b: &DVector<T>, _epsilon: T) -> Result<DVector<T>, &'static str> {
         let transposed = self.matrix.transpose();
-        eliminate(&transposed * &self.matrix, &transposed * b)
+        let mut compared = 0;
+        let solution = eliminate(&transposed * &self.matrix, &transposed * b, || compared += 1);
+        pivots::note(compared);
+        solution
     }
 
     /// The inverse of a square matrix, one elimination for each unit column. The diagonal has been
@@ -42,7 +46,7 @@ impl<T: RealField> SVD<T> {
         for column in 0..k {
             let unit =
                 DVector::from_fn(k, 1, |i, _| if i == column { T::one() } else { T::zero() });
-            let solution = eliminate(self.matrix.clone(), unit)?;
+            let solution = eliminate(self.matrix.clone(), unit, || {})?;
             for i in 0..k {
                 inverse[(i, column)] = solution[i];
             }
@@ -54,15 +58,17 @@ impl<T: RealField> SVD<T> {
 /// 2⁻⁴⁸, exactly.
 const PIVOT_FACTOR: f64 = 1.0 / (1u64 << 48) as f64;
 
-/// Solves m × c = b in place.
+/// Solves m × c = b in place; says of each pivot that it compares it.
 fn eliminate<T: RealField>(
     mut m: DMatrix<T>,
     mut b: DVector<T>,
+    mut compare: impl FnMut(),
 ) -> Result<DVector<T>, &'static str> {
     let k = m.nrows();
     let factor: T = convert(PIVOT_FACTOR);
     let least: Vec<T> = (0..k).map(|p| factor * m[(p, p)]).collect();
     for p in 0..k {
+        compare();
         // The order of a NaN is none, and none is not greater.
         if m[(p, p)].partial_cmp(&least[p]) != Some(std::cmp::Ordering::Greater) {
             return Err("pivot too small");
