@@ -1,6 +1,6 @@
 /* Prints the figures that README.md and stakebook.h give, of the library that it is linked with: make -C examples/c measure
  * Outliers among clean readings, the bounds by name, the degrees that raw years and times leave unsolved, and stack and time of each call at
- * n 4,096. It takes half a minute. */
+ * n 4,096, and what a limit of a split costs. It takes a minute. */
 #define _XOPEN_SOURCE 700
 #include <math.h>
 #include <stdio.h>
@@ -16,6 +16,9 @@ static double xs[ROOM], ys[ROOM], ws[ROOM], sums[STAKEBOOK_SUMS], scratch[ROOM],
 static double coefficients[STAKEBOOK_TERMS], errors[STAKEBOOK_TERMS], lower[ROOM], upper[ROOM];
 static uint8_t pruned[STAKEBOOK_TERMS], outliers[ROOM], frame[3 + 16 * 4095], weighted[3 + 24 * 2730], text[11 * ROOM];
 static size_t count;
+
+/* what is lent for a list of no values: it is not read, and must not be NULL */
+static const double no_values[1];
 
 static uint64_t add(double x, double y) {
     uint64_t answer = stakebook_add(count, x, y, 1, xs, ROOM, ys, ROOM, ws, ROOM, sums, STAKEBOOK_SUMS);
@@ -128,6 +131,19 @@ static void one_report_by(void) {
     static const uint32_t settings[] = {STAKEBOOK_CUSTOM_DEGREE, 15, STAKEBOOK_AIC, STAKEBOOK_P95, STAKEBOOK_VARIANCE, STAKEBOOK_BY_SIZE};
     static const double values[] = {0, 0.1};
     stakebook_report_by(count, settings, 6, values, 2, LENT);
+}
+/* settings by two lists: Custom `most`, AIC */
+static uint64_t split(uint32_t most) {
+    const uint32_t words[] = {STAKEBOOK_CUSTOM_DEGREE, most};
+    return stakebook_split(count, words, 2, no_values, 0, SIZE_MAX, xs, ROOM, ys, ROOM, ws, ROOM, sums, STAKEBOOK_SUMS, scratch, ROOM, coefficients,
+                           STAKEBOOK_TERMS, errors, STAKEBOOK_TERMS, numbers, 1);
+}
+static void split_3(void) { split(3); }
+static void split_8(void) { split(8); }
+static void split_15(void) { split(15); }
+static void one_losses(void) {
+    const uint32_t words[] = {STAKEBOOK_CUSTOM_DEGREE, 15};
+    stakebook_losses(count, words, 2, no_values, 0, xs, ROOM, ys, ROOM, ws, ROOM, sums, STAKEBOOK_SUMS, scratch, ROOM, lower, ROOM, numbers, 2);
 }
 static void one_reader(void) { stakebook_reader(frame, sizeof frame); }
 static void one_next(void) { stakebook_next(weighted, sizeof weighted, 3, sample, STAKEBOOK_SAMPLE); }
@@ -254,5 +270,20 @@ int main(void) {
     show_cost("validate in 10 folds up to degree 15", ten_folds, 20);
     show_cost("validate in 4,096 folds up to degree 3", all_folds_3, 3);
     show_cost("validate in 4,096 folds up to degree 15", all_folds_15, 3);
+    show_cost("losses up to degree 15", one_losses, 100);
+    show_cost("split up to degree 3", split_3, 3);
+    show_cost("split up to degree 8", split_8, 3);
+    show_cost("split up to degree 15", split_15, 3);
+    /* what a limit costs in time: of a search, the pivot tests and the time of one */
+    const size_t lists[] = {100, 1000, ROOM};
+    for (int i = 0; i < 3; i++)
+        for (uint32_t most = 3; most <= 8; most += 5) {
+            season(lists[i], 0, 1);
+            double start = seconds();
+            uint64_t answer = split(most);
+            double took = seconds() - start;
+            printf("split of %zu up to degree %u: %u pivot tests, %.3f ms, %.2f us a test\n", lists[i], most, stakebook_tests(answer), 1000 * took,
+                   1e6 * took / stakebook_tests(answer));
+        }
     return 0;
 }
