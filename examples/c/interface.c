@@ -1,5 +1,5 @@
-/* Checks of the C interface that no list of calls reaches: a frame read sample by sample, a replay beside its single calls, the calls of two
- * columns beside those of three at weight 1, and a book carried over from two columns to three. What is expected is worked out by hand here, or is what
+/* Checks of the C interface that no list of calls reaches: a frame read sample by sample, a window of the latest samples, a replay beside its single calls,
+ * the calls of two columns beside those of three at weight 1, and a book carried over from two columns to three. What is expected is worked out by hand here, or is what
  * the other calls leave. It prints what fails, and ends with 1 if anything does. */
 #include <math.h>
 #include <stdio.h>
@@ -164,6 +164,68 @@ static void check_frames(void) {
     /* one byte fewer than a sample of version 2 has */
     framed(frame, 2, numbers, 3);
     CHECK(stakebook_next(frame, 3 + 23, 3, sample, STAKEBOOK_SAMPLE) == 0);
+}
+
+/* ---- a window */
+
+/* an add to the book of the latest samples, as many as the columns lent have places */
+static unsigned add_window(struct book *book, size_t latest, double x, double y, double weight) {
+    return changed(book, stakebook_add_window(book->count, x, y, weight, book->xs, latest, book->ys, latest, book->ws, latest, book->sums, STAKEBOOK_SUMS));
+}
+
+static void check_window(void) {
+    /* the latest three of five; the third outweighs the digits of the others */
+    static const double samples[5][3] = {{0, 2, 1}, {1, 6, 3}, {2, 1e16, 1}, {3, 1, 0.5}, {4, 8, 2}};
+    uint8_t frame[LONGEST];
+    struct book book = {0}, other = {0};
+    opened(&book);
+    opened(&other);
+    for (size_t i = 0; i < 5; i++) {
+        if (other.count == 3) CHECK(withdraw(&other, 0) == 0);
+        CHECK(add(&other, samples[i][0], samples[i][1], samples[i][2]) == 0);
+        CHECK(add_window(&book, 3, samples[i][0], samples[i][1], samples[i][2]) == 0);
+        CHECK(book.count == (i < 3 ? i + 1 : 3) && same_samples(&book, &other) && same_weights(&book, &other));
+    }
+    CHECK(book.xs[0] == 2 && book.xs[1] == 3 && book.xs[2] == 4 && book.ws[1] == 0.5 && book.xs[3] == 0);
+    /* the big one goes, and the sums are those of a book that never held it */
+    CHECK(add_window(&book, 3, 5, 9, 1) == 0 && book.sums[256] == 0.5 + 16 + 9);
+    opened(&other);
+    CHECK(add(&other, 3, 1, 0.5) == 0 && add(&other, 4, 8, 2) == 0 && add(&other, 5, 9, 1) == 0);
+    CHECK(same_samples(&book, &other) && same_weights(&book, &other));
+
+    /* a refused one withdraws nothing: 1, 4, 15 */
+    memcpy(&other, &book, sizeof book);
+    CHECK(add_window(&book, 3, NAN, 0, 1) == 4 && add_window(&book, 3, 0, INFINITY, 1) == 4 && add_window(&book, 3, 0, 0, NAN) == 4);
+    CHECK(add_window(&book, 3, 0, 0, 0) == 15 && add_window(&book, 3, 0, 0, -1) == 15 && add_window(&book, 3, NAN, 0, 0) == 4);
+    CHECK(add_window(&book, 2, NAN, 0, 0) == 1);
+    CHECK(stakebook_add_window(3, 0, 0, 1, book.xs, 3, book.ys, 3, book.ws, 3, book.sums, STAKEBOOK_SUMS - 1) == (uint64_t)1 << 56);
+    /* all others keep 5 */
+    CHECK(stakebook_add(3, 0, 0, 1, book.xs, 3, book.ys, 3, book.ws, 3, book.sums, STAKEBOOK_SUMS) == (uint64_t)5 << 56);
+    CHECK(stakebook_add_frame(3, frame, framed(frame, 1, samples[0], 2), book.xs, 3, book.ys, 3, book.ws, 3, book.sums, STAKEBOOK_SUMS) ==
+          (uint64_t)5 << 56);
+    CHECK(stakebook_add_lines(3, (const uint8_t *)"0 0\n", 4, book.xs, 3, book.ys, 3, book.ws, 3, book.sums, STAKEBOOK_SUMS) == (uint64_t)5 << 56);
+    CHECK(memcmp(&book, &other, sizeof book) == 0);
+    /* the shortest column is the window's length, and a longer one is left past it */
+    CHECK(stakebook_add_window(3, 6, 7, 1, book.xs, ROOM, book.ys, 3, book.ws, ROOM, book.sums, STAKEBOOK_SUMS) == 3 && book.xs[2] == 6 && book.xs[3] == 0);
+
+    /* a window of one, and of none: 5, after 4 and 15 */
+    struct book one = {0}, none = {0};
+    opened(&one);
+    for (size_t i = 0; i < 3; i++) CHECK(add_window(&one, 1, samples[i][0], samples[i][1], samples[i][2]) == 0 && one.count == 1);
+    opened(&other);
+    CHECK(add(&other, 2, 1e16, 1) == 0 && same_samples(&one, &other) && one.xs[1] == 0);
+    opened(&none);
+    memcpy(&other, &none, sizeof none);
+    CHECK(add_window(&none, 0, 1, 1, 1) == 5 && add_window(&none, 0, 1, NAN, 1) == 4 && add_window(&none, 0, 1, 1, 0) == 15);
+    CHECK(stakebook_add_window(0, 1, 1, 1, none.xs, ROOM, none.ys, ROOM, none.ws, 0, none.sums, STAKEBOOK_SUMS) == (uint64_t)5 << 56);
+    CHECK(memcmp(&none, &other, sizeof none) == 0);
+
+    /* at most the latest 4,096, however long the columns */
+    static double columns[3][4100], sums[STAKEBOOK_SUMS];
+    for (size_t i = 0; i < 4100; i++) columns[0][i] = (double)i, columns[2][i] = 1;
+    CHECK(stakebook_add_window(4096, -1, 1, 2, columns[0], 4100, columns[1], 4100, columns[2], 4100, sums, STAKEBOOK_SUMS) == 4096);
+    CHECK(columns[0][0] == 1 && columns[0][4094] == 4095 && columns[0][4095] == -1 && columns[0][4096] == 4096 && columns[2][4095] == 2);
+    CHECK(sums[0] == 4095 + 2);
 }
 
 /* ---- a replay */
@@ -353,6 +415,7 @@ static void check_carry(void) {
 int main(void) {
     check_weights();
     check_frames();
+    check_window();
     check_replay();
     check_two_columns();
     check_carry();

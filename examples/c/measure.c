@@ -121,6 +121,7 @@ static void one_add(void) { stakebook_add(count - 1, 0.5, 1, 0.3, xs, ROOM, ys, 
 static void one_correct(void) { stakebook_correct(count, 0, 1, xs, ROOM, ys, ROOM, ws, ROOM, sums, STAKEBOOK_SUMS); }
 static void two_column_withdraw(void) { stakebook_two_column_withdraw(count, 0, xs, ROOM, ys, ROOM, sums, STAKEBOOK_SUMS); }
 static void one_withdraw(void) { stakebook_withdraw(count, 0, xs, ROOM, ys, ROOM, ws, ROOM, sums, STAKEBOOK_SUMS); }
+static void one_window(void) { stakebook_add_window(count, 0.5, 1, 0.3, xs, ROOM, ys, ROOM, ws, ROOM, sums, STAKEBOOK_SUMS); }
 static void one_frame(void) { stakebook_add_frame(0, frame, sizeof frame, xs, ROOM, ys, ROOM, ws, ROOM, sums, STAKEBOOK_SUMS); }
 static void one_weighted(void) { stakebook_add_frame(0, weighted, sizeof weighted, xs, ROOM, ys, ROOM, ws, ROOM, sums, STAKEBOOK_SUMS); }
 static void one_text(void) { stakebook_add_lines(0, text, sizeof text, xs, ROOM, ys, ROOM, ws, ROOM, sums, STAKEBOOK_SUMS); }
@@ -255,6 +256,7 @@ int main(void) {
     show_cost("correct", one_correct, 100);
     show_cost("withdraw", one_withdraw, 100);
     show_cost("withdraw from two columns", two_column_withdraw, 100);
+    show_cost("add_window, full", one_window, 100);
     show_cost("add_frame", one_frame, 100);
     show_cost("add_frame of version 2 with 2,730 samples", one_weighted, 100);
     show_cost("add_lines", one_text, 100);
