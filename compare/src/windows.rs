@@ -26,7 +26,7 @@ const EVENTS: [&str; 10] = [
 ];
 
 /// Calls on a book from which samples went: answered, and refused by 5.
-const ANSWERED: [&str; 10] = [
+const ANSWERED: [&str; 11] = [
     "add_window",
     "correct",
     "withdraw",
@@ -34,6 +34,7 @@ const ANSWERED: [&str; 10] = [
     "add_lines",
     "fit",
     "report",
+    "split",
     "losses",
     "validate",
     "band",

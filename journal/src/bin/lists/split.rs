@@ -17,7 +17,7 @@ const BEND: [f64; 8] = [0.0, 1.1, 1.9, 3.05, 2.95, 2.1, 0.9, 0.02];
 const INFINITY: f64 = f64::INFINITY;
 
 impl List {
-    fn split(&mut self, settings: Settings, limit: usize) {
+    pub fn split(&mut self, settings: Settings, limit: usize) {
         self.call(Call::Split { limit, settings });
     }
 
