@@ -1,5 +1,5 @@
 /* Checks of the C interface that no list of calls reaches: a frame read sample by sample, a window of the latest samples, a replay beside its single calls,
- * the calls of two columns beside those of three at weight 1, and a book carried over from two columns to three. What is expected is worked out by hand here, or is what
+ * the calls of two columns beside those of three at weight 1, a book carried over from two columns to three, and what a split and the losses write. What is expected is worked out by hand here, or is what
  * the other calls leave. It prints what fails, and ends with 1 if anything does. */
 #include <math.h>
 #include <stdio.h>
@@ -412,6 +412,41 @@ static void check_carry(void) {
     CHECK(columns[2][0] == 1 && columns[2][4095] == 1 && columns[2][4096] == 0);
 }
 
+/* the header's example of a split, its limit and its refusals; and the losses of a report */
+static void check_split_and_losses(void) {
+    static const double xs[8] = {0, 1, 2, 3, 4, 5, 6, 7}, ys[8] = {0, 1.1, 1.9, 3.05, 2.95, 2.1, 0.9, 0.02}, ws[8] = {1, 1, 1, 1, 1, 1, 1, 1};
+    static const uint32_t words[2] = {STAKEBOOK_CUSTOM_DEGREE, 1};
+    static const double values[1], nothing[STAKEBOOK_TERMS];
+    double scratch[8] = {7, 7, 7, 7, 7, 7, 7, 7}, before[STAKEBOOK_TERMS] = {0}, after[STAKEBOOK_TERMS] = {0}, numbers[2] = {0}, losses[9] = {0};
+    double columns[3][8], sums[STAKEBOOK_SUMS];
+    size_t count = stakebook_count(stakebook_open(sums, STAKEBOOK_SUMS));
+    for (size_t i = 0; i < 8; i++)
+        count = stakebook_count(stakebook_add(count, xs[i], ys[i], ws[i], columns[0], 8, columns[1], 8, columns[2], 8, sums, STAKEBOOK_SUMS));
+#define SPLIT(count, limit, places, total_len)                                                                                                          \
+    stakebook_split(count, words, 2, values, 0, limit, columns[0], 8, columns[1], 8, columns[2], 8, sums, STAKEBOOK_SUMS, scratch, 8, before, places, \
+                    after, STAKEBOOK_TERMS, numbers, total_len)
+    /* 1 before all else, 7 below four samples: nothing is written */
+    CHECK(SPLIT(8, 0, STAKEBOOK_TERMS, 0) == (uint64_t)1 << 56 && SPLIT(3, 0, STAKEBOOK_TERMS - 1, 1) == (uint64_t)1 << 56);
+    CHECK(SPLIT(3, 0, STAKEBOOK_TERMS, 1) == (uint64_t)7 << 56 && scratch[0] == 7);
+    /* 16 one below the number of tests: scratch alone is written */
+    CHECK(SPLIT(8, 29, STAKEBOOK_TERMS, 1) == (uint64_t)16 << 56 && scratch[0] == 0 && scratch[7] == 0 && numbers[0] == 0);
+    CHECK(same_numbers(before, nothing, STAKEBOOK_TERMS) && same_numbers(after, nothing, STAKEBOOK_TERMS));
+    uint64_t answer = SPLIT(8, 30, STAKEBOOK_TERMS, 1);
+    CHECK(stakebook_refusal(answer) == 0 && stakebook_break(answer) == 3 && stakebook_tests(answer) == 30);
+    CHECK(stakebook_degree(answer) == 1 && stakebook_degree_after(answer) == 1 && numbers[0] == -113.35496093152223);
+    CHECK(before[1] > 0.9 && after[1] < -0.8 && before[2] == 0 && after[2] == 0);
+    CHECK(SPLIT(8, SIZE_MAX, STAKEBOOK_TERMS, 2) == answer && numbers[1] == 0);
+
+    /* the losses add up to the total, and no place past the count is written */
+    losses[8] = 7;
+    answer = stakebook_losses(8, words, 2, values, 0, columns[0], 8, columns[1], 8, columns[2], 8, sums, STAKEBOOK_SUMS, scratch, 8, losses, 9, numbers, 2);
+    double total = 0;
+    for (size_t i = 0; i < 8; i++) total += losses[i];
+    CHECK(stakebook_refusal(answer) == 0 && stakebook_degree(answer) <= 1 && total == numbers[0] && total > 0 && losses[8] == 7);
+    CHECK(stakebook_losses(8, words, 2, values, 0, columns[0], 8, columns[1], 8, columns[2], 8, sums, STAKEBOOK_SUMS, scratch, 8, losses, 9, numbers, 1) ==
+          (uint64_t)1 << 56);
+}
+
 int main(void) {
     check_weights();
     check_frames();
@@ -419,6 +454,7 @@ int main(void) {
     check_replay();
     check_two_columns();
     check_carry();
+    check_split_and_losses();
     printf("C interface: %d checks, %d failed\n", checks, failures);
     return failures != 0;
 }
