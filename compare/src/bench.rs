@@ -91,10 +91,14 @@ fn best(mut call: impl FnMut()) -> f64 {
 }
 
 fn by_side(side: &dyn Side, call: &Call, count: usize, samples: &[Sample]) -> f64 {
-    let mut memory = memory_of(samples);
-    best(|| {
-        black_box(side.make(call, count, lent(&mut memory)));
-    })
+    answered(side, call, count, samples).0
+}
+
+/// The best time, and what was answered last.
+fn answered(side: &dyn Side, call: &Call, count: usize, samples: &[Sample]) -> (f64, Answer) {
+    let (mut memory, mut answer) = (memory_of(samples), Answer::Book(count));
+    let time = best(|| answer = black_box(side.make(call, count, lent(&mut memory))));
+    (time, answer)
 }
 
 /// polyfit's time, where it has such a call.
@@ -140,8 +144,19 @@ fn cell(value: Option<f64>, places: usize) -> String {
 
 /// Prints a row and answers the port's time.
 fn print_row(name: &str, call: &Call, count: usize, samples: &[Sample], port: &dyn Side) -> f64 {
+    print_answered(name, call, count, samples, port).0
+}
+
+/// The same, with the port's answer.
+fn print_answered(
+    name: &str,
+    call: &Call,
+    count: usize,
+    samples: &[Sample],
+    port: &dyn Side,
+) -> (f64, Answer) {
     let plain = by_side(&Judge, call, count, samples);
-    let ported = by_side(port, call, count, samples);
+    let (ported, answer) = answered(port, call, count, samples);
     let (theirs, gsl) = (by_reference(call, samples), by_gsl(call, samples));
     let ratio = |time: Option<f64>| cell(time.map(|time| time / ported), 1);
     println!(
@@ -153,7 +168,7 @@ fn print_row(name: &str, call: &Call, count: usize, samples: &[Sample], port: &d
         cell(theirs, 4),
         cell(gsl, 4)
     );
-    ported
+    (ported, answer)
 }
 
 /// x⁰ to x¹⁵ in 14 products, as document 01's power gives them.
@@ -270,8 +285,9 @@ fn print_splits(port: &dyn Side) {
             let bound = DegreeBound::Custom(degree);
             let settings = Settings { bound, criterion, confidence, tolerance, pruning };
             let call = Call::Split { limit: usize::MAX, settings };
-            let time = print_row(&format!("split, bound {degree}"), &call, count, &samples, port);
-            let tests = match port.make(&call, count, lent(&mut memory_of(&samples))) {
+            let name = format!("split, bound {degree}");
+            let (time, answer) = print_answered(&name, &call, count, &samples, port);
+            let tests = match answer {
                 Answer::Split { tests, .. } => tests as f64,
                 answer => panic!("a split of {count}: {answer:?}"),
             };
