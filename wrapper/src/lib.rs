@@ -450,9 +450,9 @@ impl Book {
     /// The limit bounds the time: a search that needs more pivot tests than it is refused, and ends
     /// there. `usize::MAX` is no limit. Of the settings only bound and criterion count.
     ///
-    /// On short lists the least total favours short sides, whatever their y's: two samples of equal weight
-    /// leave residuals of one size, whose median absolute deviation is 0, so that they score as if they
-    /// were exact. Believe a break with many samples on both sides; `include/stakebook.h` says more.
+    /// On short lists the least total favours short sides: two samples of equal weight leave residuals of
+    /// one size, whose median absolute deviation is 0 or next to it, so that they score as if they were
+    /// exact. Believe a break with many samples on both sides; `include/stakebook.h` says more.
     ///
     /// ```
     /// # use stakebook::{

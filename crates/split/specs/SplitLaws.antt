@@ -146,6 +146,13 @@ module _ (n : ℕ) (bound : DegreeBound) (criterion : Criterion) (limit : ℕ) (
       go (inr (inl (a, f, e))) = Memᴰ·append-right (0 ∷ 1 ∷ 4 ∷ 7 ∷ 8 ∷ 16 ∷ []) (List·Memᴰ·head (ap splitNumber (answer-11 e)))
       go (inr (inr (a, f, e))) = List·Memᴰ·head (ap splitNumber (answer-0 e))
 
+-- a split that refusals 1 to 9 let through is what is said above
+pub let-through : (n : ℕ) (settings : Settings) (limit : ℕ) (samples : List Sample) (columns : List ℕ) (sums : ℕ) (places : Places)
+    → splitRefusal n settings samples columns sums places ≡ 0
+    → splitOn n settings limit samples columns sums places ≡ splitPast n (settings .bound) (settings .criterion) limit (weightedRows samples)
+unfolding splitOn
+let-through n settings limit samples columns sums places e = rw e
+
 -- what a split may answer, by number
 pub split-answers : (n : ℕ) (settings : Settings) (limit : ℕ) (samples : List Sample) (columns : List ℕ) (sums : ℕ) (places : Places)
     → List·Memᴰ (splitNumber (splitOn n settings limit samples columns sums places .answer)) (0 ∷ 1 ∷ 4 ∷ 7 ∷ 8 ∷ 16 ∷ 11 ∷ [])
