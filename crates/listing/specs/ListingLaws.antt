@@ -4,11 +4,12 @@ use mathlib.Core.List.{List, [], _∷_, _++_, flatten}
 use Prim.Native.Nat.{ℕ, zero, suc, _+_, _*_, _≤_, _<_, min}
 use native.Mathlib.Omega.{arith}
 use lib.Ieee.{Float, nan, ofBits, toBits}
-use lib.ListN.{length, getD, replicate, length-append}
+use lib.ListN.{length, getD, replicate, length-append, List·getD-append}
 use Rattle.basis.specs.Counts.{countOf}
 use Rattle.basis.specs.CountLaws.{curve-count}
 use Rattle.loops.specs.Digits.{digits}
 use Rattle.loops.specs.Places.{table}
+use Rattle.loops.specs.PlaceLaws.{table-same}
 use Rattle.value.specs.Numbers.{zeroF, oneF}
 use Rattle.listing.specs.WritingLaws.{flatten-again}
 use Rattle.listing.specs.Text.{ascii, decimal, decimalIn, hexadecimal, bitsOf, fields, line}
@@ -87,6 +88,15 @@ loss-again i ls = flatten-again (λ j. lossLine j (getD ls j nan)) i
 -- a line for each of n losses
 pub loss-count : (n : ℕ) (ls : List Float) → length ls ≡ n → lossCount n ls ≡ n
 loss-count n ls h = omega arith
+
+-- losses that stand in front of longer memory print the same
+pub losses-front : (n : ℕ) (ls rest : List Float) (total : Float) → length ls ≡ n → lossListing n (ls ++ rest) total ≡ lossListing n ls total
+unfolding lossListing lossLines
+losses-front n ls rest total h =
+    let a : lossCount n (ls ++ rest) ≡ n = omega (arith, length-append ls rest, h) in
+    let b : lossCount n ls ≡ n = loss-count n ls h in
+    let f : (k : ℕ) → k < n → lossLine k (getD (ls ++ rest) k nan) ≡ lossLine k (getD ls k nan) = λ k q. ap (lossLine k) (List·getD-append ls rest nan k (omega (arith, q, h))) in
+    rw (a, b) (ap (λ l. flatten l ++ totalLine total) (table-same _ _ n f))
 
 -- a loss line of an index below 10,000 has at most 27 bytes, the line of the total 23
 pub length-loss : (i : ℕ) (v : Float) → i < 10000 → length (lossLine i v) ≤ 27

@@ -28,11 +28,14 @@ use Rattle.fit.specs.Chosen.{choiceOf, countsOf, tried}
 use Rattle.refusal.specs.Refusals.{settle, firstOf}
 use Rattle.refusal.specs.Tests.{tooShort}
 use Rattle.refusal.specs.Laws.{settled-among}
+use Rattle.refusal.specs.RoomLaws.{long-enough}
 use Rattle.measure.specs.Measures.{inverseFails, covarianceAt}
 use Rattle.lent.specs.Written.{zeros}
 use Rattle.settings.specs.declared.Settings.{Settings}
 use Rattle.report.specs.declared.Places.{Places}
+use Rattle.report.specs.declared.ReportAnswer.the-variants as reports
 use Rattle.report.specs.Refusals.{reportNeeds, reportRefusal}
+use Rattle.report.specs.RefusalLaws.{report-room}
 use Rattle.report.specs.Reports.{ReportOut, reportNumber, refusedLate, refusedEarly, writtenBy, reportOf, reportPast, reportOn}
 use Rattle.report.specs.Chosen.{reportChoice}
 use Rattle.report.specs.ChosenLaws.{chosen-solved}
@@ -107,6 +110,48 @@ same-answer n settings samples sums columns places scratch losses lent h q =
     rw (same-refusal n settings samples columns places scratch losses lent h q)
     (settled-same (reportRefusal n settings samples columns places lent) (lossPast n settings rows sums) (reportPast n settings rows sums)
     (same-number n settings rows sums (choice .solved) (choice .chosen)))
+
+-- so where a report tells a degree, it is the chosen one, and the losses are told of it
+written-degree : (n : ℕ) (settings : Settings) (rows : List Row) (e solved : ℕ) (c v : List Float) (d : Degree) (s u p : ℕ)
+    → writtenBy n settings rows e solved c v .answer ≡ reports.Report d s u p → record { 0 = e } ≡ d
+unfolding writtenBy
+written-degree n settings rows e solved c v d s u p h = cc
+
+of-chosen : (n : ℕ) (settings : Settings) (rows : List Row) (sums : List Float) (solved : ℕ) (o : OptionDegree) (d : Degree) (s u p : ℕ)
+    → reportOf n settings rows sums solved o .answer ≡ reports.Report d s u p
+    → (o ≡ Some d) × (lossOf n settings rows sums o ≡ lossesBy n settings rows sums (d .0))
+unfolding lossOf reportOf
+of-chosen n settings rows sums solved None d s u p h = absurd (let z : _≡_ {A = ℕ} 0 1 = cc in omega arith)
+of-chosen n settings rows sums solved (Some e) d s u p h =
+    go (inverseFails sums k) _ (written-degree n settings rows (e .0) solved (solve sums k .c) (covarianceAt sums rows k) d s u p) h
+  where
+    k : ℕ
+    k = countOf Curve (e .0)
+
+    go : (t : Bool) (w : ReportOut) → (w .answer ≡ reports.Report d s u p → e ≡ d) → cond t (refusedLate n 12) w .answer ≡ reports.Report d s u p
+        → (Some e ≡ Some d) × (cond t (lossLate n 12) (lossesBy n settings rows sums (e .0)) ≡ lossesBy n settings rows sums (d .0))
+    go true w f q = absurd (let z : _≡_ {A = ℕ} 0 1 = cc in omega arith)
+    go false w f q = (ap (λ x. Some x) (f q), ap (λ (x : Degree). lossesBy n settings rows sums (x .0)) (f q))
+
+settled-with : (r q : ℕ) (w : ReportOut) (a b : LossOut) (C : Type 0) (d : Degree) (s u p : ℕ) → (r ≡ 0 → q ≡ 0) → (w .answer ≡ reports.Report d s u p → C × (a ≡ b))
+    → settle r w (refusedEarly r) .answer ≡ reports.Report d s u p → C × (settle q a (lossRefused q) ≡ b)
+settled-with zero q w a b C d s u p f g h = rw (f refl) (g h)
+settled-with (suc r) q w a b C d s u p f g h = absurd (let z : _≡_ {A = ℕ} 0 1 = cc in omega arith)
+
+pub told-with-report : (n : ℕ) (settings : Settings) (samples : List Sample) (sums : List Float) (columns : List ℕ) (places scratch losses : ℕ) (lent : Places)
+    → tooShort n columns (lossNeeds n places scratch losses) ≡ false
+    → (d : Degree) (s u p : ℕ) → reportOn n settings samples sums columns places lent .answer ≡ reports.Report d s u p
+    → (reportChoice n settings (rowsOf samples) sums .chosen ≡ Some d)
+    × (lossOn n settings samples sums columns places scratch losses ≡ lossesBy n settings (rowsOf samples) sums (d .0))
+unfolding lossOn reportOn lossPast reportPast
+told-with-report n settings samples sums columns places scratch losses lent h d s u p e =
+    let rows = rowsOf samples in
+    let choice = reportChoice n settings rows sums in
+    settled-with (reportRefusal n settings samples columns places lent) (lossRefusal n settings samples columns places scratch losses) (reportPast n settings rows sums)
+    (lossPast n settings rows sums) (lossesBy n settings rows sums (d .0)) (choice .chosen ≡ Some d) d s u p
+    (λ z.
+    same-refusal n settings samples columns places scratch losses lent h (long-enough n columns (reportNeeds n places lent) (report-room n settings samples columns places lent z .room)) ∙ z)
+    (of-chosen n settings rows sums (choice .solved) (choice .chosen) d s u p) e
 
 -- ---- the total
 
