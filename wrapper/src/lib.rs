@@ -11,7 +11,7 @@
 //! [`TwoColumnBook`] is for a season that was begun before samples had weights; it is carried into a
 //! [`Book`].
 //!
-//! A call needs at most 32 KB of stack. What it takes in time, and how both were measured, is said
+//! A call needs at most 40 KB of stack. What it takes in time, and how both were measured, is said
 //! in `include/stakebook.h`.
 //!
 //! ```
