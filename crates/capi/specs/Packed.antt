@@ -59,12 +59,13 @@ unfoldable pub packedFit : FitAnswer → ℕ
 packedFit (fits.Fit d) = d .0
 packedFit (fits.Refused k) = packedRefusal k
 
--- a report: the degree in bits 0 to 7, the solved degrees in bits 8 to 15, the pruned terms in bits 16 to 23, the outliers in bits 32 to 47
-abbrev pub packedCounts : ℕ → ℕ → ℕ → ℕ → ℕ
-packedCounts degree solved outliers pruned = degree + solved * 0x100 + pruned * 0x1_0000 + outliers * 0x1_0000_0000
+-- four numbers: in bits 0 to 7, 8 to 15, 16 to 31 and 32 to 55
+abbrev pub packedFields : ℕ → ℕ → ℕ → ℕ → ℕ
+packedFields a b c d = a + b * 0x100 + c * 0x1_0000 + d * 0x1_0000_0000
 
+-- a report: the degree, the solved degrees, the pruned terms, the outliers
 unfoldable pub packedReport : ReportAnswer → ℕ
-packedReport (reports.Report d solved outliers pruned) = packedCounts (d .0) solved outliers pruned
+packedReport (reports.Report d solved outliers pruned) = packedFields (d .0) solved pruned outliers
 packedReport (reports.Refused k) = packedRefusal k
 
 -- a band: 0, its three numbers are written
@@ -81,13 +82,9 @@ bandNumbers (bands.Refused k) = []
 unfoldable pub bandInto : ℕ → BandOut → BandOut
 bandInto places o = cond (ltb places 3) (bandRefused 1) o
 
--- a split: the degree before the break in bits 0 to 7, the one after it in bits 8 to 15, the number of samples before it in bits 16 to 31, the pivot tests
--- in bits 32 to 55
-abbrev pub packedBreak : ℕ → ℕ → ℕ → ℕ → ℕ
-packedBreak before after at tests = before + after * 0x100 + at * 0x1_0000 + tests * 0x1_0000_0000
-
+-- a split: the degree before the break, the one after it, the number of samples before it, the pivot tests
 unfoldable pub packedSplit : SplitAnswer → ℕ
-packedSplit (splits.Split total at tests d e) = packedBreak (d .0) (e .0) at tests
+packedSplit (splits.Split total at tests d e) = packedFields (d .0) (e .0) at tests
 packedSplit (splits.Refused k) = packedRefusal k
 
 -- its total; a refused call writes none

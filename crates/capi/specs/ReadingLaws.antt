@@ -42,7 +42,7 @@ use Rattle.losses.specs.Losses.{lossOut}
 use Rattle.ledger.specs.Ledger.{Call}
 use Rattle.ledger.specs.ReadCalls.{ReadCall}
 use Rattle.replay.specs.Replay.{Memory, Ran}
-use Rattle.capi.specs.Packed.{packedOpened, packedRead, bandInto, packedRefusal, packedBook, packedFit, packedBand, packedCounts, packedReport, packedLosses, lossInto, BookFits, FitFits, BandFits, ReportFits, LossFits}
+use Rattle.capi.specs.Packed.{packedOpened, packedRead, bandInto, packedRefusal, packedBook, packedFit, packedBand, packedFields, packedReport, packedLosses, lossInto, BookFits, FitFits, BandFits, ReportFits, LossFits}
 use Rattle.carried.specs.Carry.{carryOut}
 use Rattle.capi.specs.CarryFitting.{carry-fits}
 use Rattle.capi.specs.LossFitting.{loss-fits}
@@ -83,47 +83,51 @@ unfolding BandFits BandRead packedBand
 band-read (bands.Band b) h = refl
 band-read (bands.Refused k) h = refusal-read k
 
-module _ (d s o p : ℕ) (hd : d ≤ 15) (hs : s ≤ 16) (ho : o ≤ 4096) (hp : p ≤ 16) where
-  none-in : numberIn (packedCounts d s o p) ≡ 0
-  none-in = div-eq-of-lt (omega arith)
-
-  degree-in : degreeIn (packedCounts d s o p) ≡ d
-  degree-in =
-      let e : packedCounts d s o p ≡ d + (s + p * 0x100 + o * 0x100_0000) * 0x100 = omega arith in
-      ap degreeIn e ∙ lower-part 0x100 d (s + p * 0x100 + o * 0x100_0000) (omega arith)
-
-  solved-in : solvedIn (packedCounts d s o p) ≡ s
-  solved-in =
-      let e : packedCounts d s o p ≡ d + (s + p * 0x100 + o * 0x100_0000) * 0x100 = omega arith in
-      let u : s + p * 0x100 + o * 0x100_0000 ≡ s + (p + o * 0x1_0000) * 0x100 = omega arith in
-      ap solvedIn e ∙ ap (λ q. q % 0x100) (upper-part 0x100 d (s + p * 0x100 + o * 0x100_0000) (omega arith) ∙ u)
-      ∙ lower-part 0x100 s (p + o * 0x1_0000) (omega arith)
-
-  pruned-in : prunedIn (packedCounts d s o p) ≡ p
-  pruned-in =
-      let e : packedCounts d s o p ≡ d + s * 0x100 + (p + o * 0x1_0000) * 0x1_0000 = omega arith in
-      let u : p + o * 0x1_0000 ≡ p + (o * 0x100) * 0x100 = omega arith in
-      ap prunedIn e ∙ ap (λ q. q % 0x100) (upper-part 0x1_0000 (d + s * 0x100) (p + o * 0x1_0000) (omega arith) ∙ u)
-      ∙ lower-part 0x100 p (o * 0x100) (omega arith)
-
-  outliers-in : outliersIn (packedCounts d s o p) ≡ o
-  outliers-in =
-      ap (λ q. q % 0x1_0000) (upper-part 0x1_0000_0000 (d + s * 0x100 + p * 0x1_0000) o (omega arith)) ∙ mod-eq-of-lt (omega arith)
-
-pub report-read : (a : ReportAnswer) → ReportFits a → ReportRead (packedReport a) a
-unfolding ReportFits ReportRead packedReport
-report-read (reports.Report d s o p) h =
-    let hd = h .0 in
-    let hs = h .1 in
-    let ho = h .2 in
-    let hp = h .3 in
-    (none-in (d .0) s o p hd hs ho hp, degree-in (d .0) s o p hd hs ho hp, solved-in (d .0) s o p hd hs ho hp, pruned-in (d .0) s o p hd hs ho hp, outliers-in (d .0) s o p hd hs ho hp)
-report-read (reports.Refused k) h = refusal-read k
-
 pub loss-read : (a : LossAnswer) → LossFits a → LossRead (packedLosses a) a
 unfolding LossFits LossRead packedLosses
 loss-read (losses.Losses d total score) h = (div-eq-of-lt (omega arith), mod-eq-of-lt (omega arith))
 loss-read (losses.Refused k) h = refusal-read k
+
+-- four numbers, each below what its field holds
+module _ (a b c d : ℕ) (ha : a < 0x100) (hb : b < 0x100) (hc : c < 0x1_0000) (hd : d < 0x100_0000) where
+  pub none-in : numberIn (packedFields a b c d) ≡ 0
+  none-in = div-eq-of-lt (omega arith)
+
+  pub first-in : packedFields a b c d % 0x100 ≡ a
+  first-in =
+      let e : packedFields a b c d ≡ a + (b + c * 0x100 + d * 0x100_0000) * 0x100 = omega arith in
+      ap (λ q. q % 0x100) e ∙ lower-part 0x100 a (b + c * 0x100 + d * 0x100_0000) ha
+
+  pub second-in : packedFields a b c d / 0x100 % 0x100 ≡ b
+  second-in =
+      let e : packedFields a b c d ≡ a + (b + c * 0x100 + d * 0x100_0000) * 0x100 = omega arith in
+      let u : b + c * 0x100 + d * 0x100_0000 ≡ b + (c + d * 0x1_0000) * 0x100 = omega arith in
+      ap (λ q. q / 0x100 % 0x100) e ∙ ap (λ q. q % 0x100) (upper-part 0x100 a (b + c * 0x100 + d * 0x100_0000) ha ∙ u)
+      ∙ lower-part 0x100 b (c + d * 0x1_0000) hb
+
+  pub third-of : packedFields a b c d / 0x1_0000 ≡ c + d * 0x1_0000
+  third-of =
+      let e : packedFields a b c d ≡ a + b * 0x100 + (c + d * 0x1_0000) * 0x1_0000 = omega arith in
+      ap (λ q. q / 0x1_0000) e ∙ upper-part 0x1_0000 (a + b * 0x100) (c + d * 0x1_0000) (omega arith)
+
+  pub fourth-of : packedFields a b c d / 0x1_0000_0000 ≡ d
+  fourth-of = upper-part 0x1_0000_0000 (a + b * 0x100 + c * 0x1_0000) d (omega arith)
+
+pub report-read : (a : ReportAnswer) → ReportFits a → ReportRead (packedReport a) a
+unfolding ReportFits ReportRead packedReport
+report-read (reports.Report d s o p) h =
+    let hd : d .0 < 0x100 = omega (arith, h .0) in
+    let hs : s < 0x100 = omega (arith, h .1) in
+    let ho : o < 0x100_0000 = omega (arith, h .2) in
+    let hp : p < 0x1_0000 = omega (arith, h .3) in
+    let u : p + o * 0x1_0000 ≡ p + (o * 0x100) * 0x100 = omega arith in (
+      none-in (d .0) s p o hd hs hp ho,
+      first-in (d .0) s p o hd hs hp ho,
+      second-in (d .0) s p o hd hs hp ho,
+      ap (λ q. q % 0x100) (third-of (d .0) s p o hd hs hp ho ∙ u) ∙ lower-part 0x100 p (o * 0x100) (omega (arith, h .3)),
+      ap (λ q. q % 0x1_0000) (fourth-of (d .0) s p o hd hs hp ho) ∙ mod-eq-of-lt (omega (arith, h .2)),
+    )
+report-read (reports.Refused k) h = refusal-read k
 
 -- ---- so for every call, whatever it was given: the packed answer is read as the answer
 

@@ -3,7 +3,7 @@ use mathlib.Core.Path.{_≡_, refl, ap, _∙_}
 use mathlib.Core.Bool.{Bool, true, false, cond}
 use mathlib.Core.List.{List, []}
 use Prim.Native.Nat.{ℕ, zero, suc, _+_, _*_, _/_, _%_, _≤_, _<_}
-use native.Mathlib.Nat.{div-eq-of-lt, mod-eq-of-lt}
+use native.Mathlib.Nat.{mod-eq-of-lt}
 use native.Mathlib.Omega.{arith}
 use borrow.Author.Tests.{not-false}
 use lib.Dec.{ltb}
@@ -24,9 +24,9 @@ use Rattle.split.specs.SearchLaws.{search-tests, found-room}
 use Rattle.split.specs.Refusals.{splitRefusal, searchRefusal}
 use Rattle.split.specs.RefusalLaws.{split-numbers, split-room, search-numbers, search-found}
 use Rattle.split.specs.Splits.{SplitOut, splitRefused, splitAt, splitPast, splitOn, splitOut}
-use Rattle.capi.specs.Packed.{packedBreak, packedSplit, splitInto, SplitFits}
-use Rattle.capi.specs.Reading.{numberIn, degreeIn, afterIn, breakIn, testsIn, SplitRead}
-use Rattle.capi.specs.ReadingLaws.{upper-part, lower-part, refusal-read}
+use Rattle.capi.specs.Packed.{packedSplit, splitInto, SplitFits}
+use Rattle.capi.specs.Reading.{SplitRead}
+use Rattle.capi.specs.ReadingLaws.{lower-part, refusal-read, none-in, first-in, second-in, third-of, fourth-of}
 
 split-settles : (k : ℕ) (good : SplitOut) (scratch : List Float) → k ≤ mostNumber → (k ≡ 0 → SplitFits (good .answer))
     → SplitFits (settle k good (splitRefused k scratch) .answer)
@@ -69,40 +69,19 @@ split-fits n settings limit columns sums places =
 
 -- ---- read back
 
-module _ (d e at tests : ℕ) (hd : d ≤ 15) (he : e ≤ 15) (ha : at ≤ 4096) (ht : tests ≤ 1113296) where
-  none-in : numberIn (packedBreak d e at tests) ≡ 0
-  none-in = div-eq-of-lt (omega arith)
-
-  before-in : degreeIn (packedBreak d e at tests) ≡ d
-  before-in =
-      let q : packedBreak d e at tests ≡ d + (e + at * 0x100 + tests * 0x100_0000) * 0x100 = omega arith in
-      ap degreeIn q ∙ lower-part 0x100 d (e + at * 0x100 + tests * 0x100_0000) (omega arith)
-
-  after-in : afterIn (packedBreak d e at tests) ≡ e
-  after-in =
-      let q : packedBreak d e at tests ≡ d + (e + at * 0x100 + tests * 0x100_0000) * 0x100 = omega arith in
-      let u : e + at * 0x100 + tests * 0x100_0000 ≡ e + (at + tests * 0x1_0000) * 0x100 = omega arith in
-      ap afterIn q ∙ ap (λ p. p % 0x100) (upper-part 0x100 d (e + at * 0x100 + tests * 0x100_0000) (omega arith) ∙ u)
-      ∙ lower-part 0x100 e (at + tests * 0x1_0000) (omega arith)
-
-  break-in : breakIn (packedBreak d e at tests) ≡ at
-  break-in =
-      let q : packedBreak d e at tests ≡ d + e * 0x100 + (at + tests * 0x1_0000) * 0x1_0000 = omega arith in
-      ap breakIn q ∙ ap (λ p. p % 0x1_0000) (upper-part 0x1_0000 (d + e * 0x100) (at + tests * 0x1_0000) (omega arith))
-      ∙ lower-part 0x1_0000 at tests (omega arith)
-
-  tests-in : testsIn (packedBreak d e at tests) ≡ tests
-  tests-in =
-      ap (λ p. p % 0x100_0000) (upper-part 0x1_0000_0000 (d + e * 0x100 + at * 0x1_0000) tests (omega arith)) ∙ mod-eq-of-lt (omega arith)
-
 split-read : (a : SplitAnswer) → SplitFits a → SplitRead (packedSplit a) a
 unfolding SplitFits SplitRead packedSplit
 split-read (splits.Split total at tests d e) h =
-    let hd = h .0 in
-    let he = h .1 in
-    let ha = h .2 in
-    let ht = h .3 in
-    (none-in (d .0) (e .0) at tests hd he ha ht, before-in (d .0) (e .0) at tests hd he ha ht, after-in (d .0) (e .0) at tests hd he ha ht, break-in (d .0) (e .0) at tests hd he ha ht, tests-in (d .0) (e .0) at tests hd he ha ht)
+    let hd : d .0 < 0x100 = omega (arith, h .0) in
+    let he : e .0 < 0x100 = omega (arith, h .1) in
+    let ha : at < 0x1_0000 = omega (arith, h .2) in
+    let ht : tests < 0x100_0000 = omega (arith, h .3) in (
+      none-in (d .0) (e .0) at tests hd he ha ht,
+      first-in (d .0) (e .0) at tests hd he ha ht,
+      second-in (d .0) (e .0) at tests hd he ha ht,
+      ap (λ q. q % 0x1_0000) (third-of (d .0) (e .0) at tests hd he ha ht) ∙ lower-part 0x1_0000 at tests ha,
+      ap (λ q. q % 0x100_0000) (fourth-of (d .0) (e .0) at tests hd he ha ht) ∙ mod-eq-of-lt ht,
+    )
 split-read (splits.Refused k) h = refusal-read k
 
 pub split-back : (n : ℕ) (settings : Settings) (limit : ℕ) (columns : Columns) (sums : ℕ) (places : Places) (into : ℕ)

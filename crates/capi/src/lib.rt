@@ -12,9 +12,8 @@ use report::ReportAnswer;
 use split::SplitAnswer;
 ghost use mathlib.Core.Path.{_≡_};
 ghost use mathlib.Core.List.{[]};
-ghost use Prim.Native.Nat.{_≤_};
+ghost use Prim.Native.Nat.{_≤_, _<_};
 ghost use lib.ListN.{length};
-ghost use Rattle.basis.specs.Sizes.{highestDegree, maxSamples, maxTerms};
 ghost use Rattle.book.specs.Calls.{openOut, addOut, correctOut, withdrawOut, addFrameOut, addLinesOut};
 ghost use Rattle.book.specs.Window.{windowOut};
 ghost use Rattle.samples.specs.Columns.{columnsOf, noColumns};
@@ -26,13 +25,12 @@ ghost use Rattle.query.specs.Bands.{bandOut};
 ghost use Rattle.report.specs.Outputs.{outputs};
 ghost use Rattle.losses.specs.Losses.{lossOut};
 ghost use Rattle.carried.specs.Carry.{carryOut};
-ghost use Rattle.split.specs.Rooms.{mostTests};
 ghost use Rattle.split.specs.Splits.{lentSplit};
 ghost use Rattle.two_column.specs.Pairs.{columns as pairColumns};
 ghost use Rattle.two_column.specs.Calls.{openOut as pairOpenOut, addOut as pairAddOut, correctOut as pairCorrectOut, withdrawOut as pairWithdrawOut, addFrameOut as pairFrameOut};
 ghost use Rattle.replay.specs.Replay.{memory};
 ghost use Rattle.settings.specs.Numbers.{boundOf, criterionOf, confidenceOf, toleranceOf, settingsOf, settingsIn};
-ghost use Rattle.capi.specs.Packed.{packedCounts, packedReport, ReportFits, packedBand, bandNumbers, BookPacked, PairPacked, FitPacked, BandPacked, bandInto, ReportPackedIs, packedBreak, packedSplit, splitTotal, SplitFits, SplitPackedIs, packedLosses, lossNumbers, LossPacked, lossInto, packedOpened, packedRead, readNumbers, ReadPacked, ReplayPacked};
+ghost use Rattle.capi.specs.Packed.{packedFields, packedReport, ReportFits, packedBand, bandNumbers, BookPacked, PairPacked, FitPacked, BandPacked, bandInto, ReportPackedIs, packedSplit, splitTotal, SplitFits, SplitPackedIs, packedLosses, lossNumbers, LossPacked, lossInto, packedOpened, packedRead, readNumbers, ReadPacked, ReplayPacked};
 
 // The places that a band is written to, the total and the score of losses, and a reader's sample.
 const BAND: usize = 3;
@@ -41,16 +39,16 @@ const TOLD: usize = 2;
 
 const SAMPLE: usize = 3;
 
-// The four numbers of a report, each in its field.
-fn counts(degree: usize, solved: usize, outliers: usize, pruned: usize) -> u64
-    requires { ⌜ (degree ≤ highestDegree) × (solved ≤ maxTerms) × (outliers ≤ maxSamples) × (pruned ≤ maxTerms) ⌝ }
-    ensures { λ r. ⌜ r ≡ packedCounts degree solved outliers pruned ⌝ }
+// Four numbers, each in its field: bits 0 to 7, 8 to 15, 16 to 31 and 32 to 55.
+fn fields(a: usize, b: usize, c: usize, d: usize) -> u64
+    requires { ⌜ (a < 0x100) × (b < 0x100) × (c < 0x1_0000) × (d < 0x100_0000) ⌝ }
+    ensures { λ r. ⌜ r ≡ packedFields a b c d ⌝ }
 {
-    let all = degree + solved * 0x100 + pruned * 0x1_0000 + outliers * 0x1_0000_0000;
+    let all = a + b * 0x100 + c * 0x1_0000 + d * 0x1_0000_0000;
     all as u64
 }
 
-// A report: the degree in bits 0 to 7, the solved degrees in bits 8 to 15, the pruned terms in bits 16 to 23, the outliers in bits 32 to 47.
+// A report: the degree, the solved degrees, the pruned terms and the outliers.
 fn packed_report(answer: ReportAnswer) -> u64
     requires { ⌜ ReportFits answer ⌝ }
     ensures { λ r. ⌜ r ≡ packedReport answer ⌝ }
@@ -61,7 +59,7 @@ fn packed_report(answer: ReportAnswer) -> u64
             solved,
             outliers,
             pruned,
-        } => counts(degree.0, solved, outliers, pruned),
+        } => fields(degree.0, solved, pruned, outliers),
         ReportAnswer::Refused(k) => packed::refused(k),
     }
 }
@@ -82,16 +80,7 @@ fn packed_band(answer: BandAnswer, numbers: &mut [f64]) -> u64
     }
 }
 
-// The four numbers of a split, each in its field.
-fn break_counts(earlier: usize, later: usize, at: usize, tests: usize) -> u64
-    requires { ⌜ (earlier ≤ highestDegree) × (later ≤ highestDegree) × (at ≤ maxSamples) × (tests ≤ mostTests) ⌝ }
-    ensures { λ r. ⌜ r ≡ packedBreak earlier later at tests ⌝ }
-{
-    let all = earlier + later * 0x100 + at * 0x1_0000 + tests * 0x1_0000_0000;
-    all as u64
-}
-
-// A split: both degrees in bits 0 to 15, the samples before the break in bits 16 to 31, the pivot tests in bits 32 to 55; its total is written.
+// A split: both degrees, the samples before the break and the pivot tests; its total is written.
 fn packed_split(answer: SplitAnswer, total: &mut [f64]) -> u64
     requires { ⌜ SplitFits answer ⌝ }
     requires { ⌜ 1 ≤ length (now total) ⌝ }
@@ -106,7 +95,7 @@ fn packed_split(answer: SplitAnswer, total: &mut [f64]) -> u64
             after,
         } => {
             total[0] = sum;
-            break_counts(before.0, after.0, at, tests)
+            fields(before.0, after.0, at, tests)
         }
         SplitAnswer::Refused(k) => packed::refused(k),
     }

@@ -52,52 +52,37 @@ module _ (L R : ℕ → Choice) (i : ℕ) where
       go true q = inr (ltb-true b m q)
       go false q = inl (omega (arith, ltb-false b m q))
 
+  -- s stays the best, if break m does not total less or is passed over
+  kept : (m : ℕ) (s : Best) → (both L R m ≡ true → lt (totalOf (L m) (R m)) (s .total) ≡ false) → IsBest L R i m s → IsBest L R i (m + 1) s
+  kept m s q w =
+      record {
+        after-first = w .after-first;
+        before-last = omega (arith, w .before-last);
+        left = w .left;
+        right = w .right;
+        totals = w .totals;
+        least = λ b a h c. least-of b a c (same-or-below b m h);
+        first = w .first;
+      }
+    where
+      least-of : (b : ℕ) → i ≤ b → both L R b ≡ true → (b ≡ m) ⊎ (b < m) → lt (totalOf (L b) (R b)) (s .total) ≡ false
+      least-of b a c (inl e) = rw e (q (ap (both L R) (sym e) ∙ c))
+      least-of b a c (inr l) = w .least b a l c
+
   -- break m is passed over
   passed : (m : ℕ) (s : Best) → both L R m ≡ false → Known m s → Known (m + 1) s
   unfolding Known
   passed m s q k =
-      (λ f. keep (k .0 f), λ f b a h. by-place b a (k .1 f) (same-or-below b m h))
+      (λ f. kept m s (λ c. never (sym q ∙ c)) (k .0 f), λ f b a h. by-place b a (k .1 f) (same-or-below b m h))
     where
       by-place : (b : ℕ) → i ≤ b → AllPassed L R i m → (b ≡ m) ⊎ (b < m) → both L R b ≡ false
       by-place b a o (inl e) = rw e q
       by-place b a o (inr l) = o b a l
 
-      least-of : IsBest L R i m s → (b : ℕ) → i ≤ b → both L R b ≡ true → (b ≡ m) ⊎ (b < m) → lt (totalOf (L b) (R b)) (s .total) ≡ false
-      least-of w b a c (inl e) = never (sym q ∙ ap (both L R) (sym e) ∙ c)
-      least-of w b a c (inr l) = w .least b a l c
-
-      keep : IsBest L R i m s → IsBest L R i (m + 1) s
-      keep w =
-          record {
-            after-first = w .after-first;
-            before-last = omega (arith, w .before-last);
-            left = w .left;
-            right = w .right;
-            totals = w .totals;
-            least = λ b a h c. least-of w b a c (same-or-below b m h);
-            first = w .first;
-          }
-
   -- it totals no less than s
   not-less : (m : ℕ) (s : Best) → s .found ≡ true → lt (totalOf (L m) (R m)) (s .total) ≡ false → Known m s → Known (m + 1) s
   unfolding Known
-  not-less m s f q k = (λ _. keep (k .0 f), λ g. never (sym g ∙ f))
-    where
-      least-of : IsBest L R i m s → (b : ℕ) → i ≤ b → both L R b ≡ true → (b ≡ m) ⊎ (b < m) → lt (totalOf (L b) (R b)) (s .total) ≡ false
-      least-of w b a c (inl e) = rw e q
-      least-of w b a c (inr l) = w .least b a l c
-
-      keep : IsBest L R i m s → IsBest L R i (m + 1) s
-      keep w =
-          record {
-            after-first = w .after-first;
-            before-last = omega (arith, w .before-last);
-            left = w .left;
-            right = w .right;
-            totals = w .totals;
-            least = λ b a h c. least-of w b a c (same-or-below b m h);
-            first = w .first;
-          }
+  not-less m s f q k = (λ _. kept m s (λ _. q) (k .0 f), λ g. never (sym g ∙ f))
 
   -- it is the best now
   new-best : (m : ℕ) (d e : Degree) → i ≤ m → L m .chosen ≡ Some d → R m .chosen ≡ Some e

@@ -1,18 +1,20 @@
 -- `capi::packed_report` meets its contract.
+use native.Mathlib.Omega.{arith}
 use borrow.Author.Needs.{needs}
 use Rattle.capi.specs.Packed.{packedReport, ReportFits}
 use Rattle.capi.proofs.packed_report.Statement.{statement}
 use Rattle.capi.proofs.packed_report.Tie as tie
 
-counts-requires : tie.Need-counts-requires
+fields-requires : tie.Need-fields-requires
 unfolding ReportFits
-counts-requires c κs =
+fields-requires c κs =
     let at-pre = c .before .before .before .pre in
-    rw (c .before .answer .given .1) at at-pre
+    let fits = rw (c .before .answer .given .1) at at-pre in
+    (omega (arith, fits .0), omega (arith, fits .1), omega (arith, fits .3), omega (arith, fits .2))
 
 returns : tie.Need-returns
 unfolding packedReport
-returns c = rw (c .before .before .answer .given .1) (c .counts .ensures)
+returns c = rw (c .before .before .answer .given .1) (c .fields .ensures)
 
 returns-2 : tie.Need-returns-2
 unfolding packedReport
@@ -23,7 +25,7 @@ packed-report-spec =
     tie.close
     (tie.spec
     (λ c. search needs)
-    counts-requires
+    fields-requires
     (λ c. search needs)
     (λ c κs. search needs)
     returns

@@ -7,12 +7,13 @@ use Rattle.capi.proofs.Promises.{one-written}
 use Rattle.capi.proofs.packed_split.Statement.{statement}
 use Rattle.capi.proofs.packed_split.Tie as tie
 
-break-counts-requires : tie.Need-break-counts-requires
+fields-requires : tie.Need-fields-requires
 unfolding SplitFits
-break-counts-requires c κs =
+fields-requires c κs =
     let at-pre = c .before .before .before .before .pre in
-    let fits = at-pre .0 in
-    rw (c .before .answer .given .1) at fits
+    let given = at-pre .0 in
+    let fits = rw (c .before .answer .given .1) at given in
+    (omega (arith, fits .0), omega (arith, fits .1), omega (arith, fits .2), omega (arith, fits .3))
 
 returns : tie.Need-returns
 unfolding packedSplit splitTotal
@@ -20,7 +21,7 @@ returns c =
     let at-answer = c .before .before .answer in
     let at-args = c .before .before .before .before .before .args in
     let at-pre = c .before .before .before .before .before .pre in
-    rw (at-answer .given .1) (c .break-counts .ensures, one-written _ (at-args .total .now) (at-pre .1))
+    rw (at-answer .given .1) (c .fields .ensures, one-written _ (at-args .total .now) (at-pre .1))
 
 returns-2 : tie.Need-returns-2
 unfolding packedSplit splitTotal
@@ -34,7 +35,7 @@ packed-split-spec =
     (tie.spec
     (λ c. search needs)
     (λ c. search needs)
-    break-counts-requires
+    fields-requires
     (λ c. search needs)
     (λ c κs. search needs)
     (λ c. search needs)
