@@ -1,4 +1,3 @@
 -- Laws that the proofs of the functions cite.
-pub mod Gap
 pub mod Frames
 pub mod Withdrawn

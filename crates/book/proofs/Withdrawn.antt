@@ -22,13 +22,14 @@ use Rattle.refusal.specs.Tests.{capacity}
 use Rattle.samples.specs.Columns.{Column, ofX, ofY, ofW, value, Columns, columnsOf, lengths, samplesOf}
 use Rattle.samples.specs.ColumnLaws.{of-every, lengths-same, columns-are}
 use Rattle.book.specs.Refusals.{withdrawRefusal, sumsLent}
-use Rattle.book.specs.Calls.{State, stateOf, stateAfter, Is, bookOf, bookAnswered, addNext, withdrawOut, withoutAt}
+use Rattle.lent.specs.Gaps.{withoutAt}
+use Rattle.lent.specs.GapLaws.{length-without}
+use Rattle.book.specs.Calls.{State, stateOf, stateAfter, Is, bookOf, bookAnswered, addNext, withdrawOut}
 use Rattle.book.specs.CallLaws.{is-answered}
 use Rattle.book.specs.Many.{added, RoomFor}
 use Rattle.book.specs.ManyLaws.{one-added}
 use Rattle.book.specs.Window.{windowRefusal, withPlace}
 use Rattle.book.specs.WindowLaws.{window-room}
-use Rattle.book.proofs.Gap.{length-without}
 
 -- sample i goes
 abbrev pub withdrawn : State → ℕ → State

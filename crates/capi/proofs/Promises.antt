@@ -16,9 +16,9 @@ use Rattle.query.specs.declared.FitAnswer.{FitAnswer}
 use Rattle.query.specs.declared.BandAnswer.{BandAnswer}
 use Rattle.query.specs.Fits.{FitOut, FitIs}
 use Rattle.query.specs.Bands.{BandOut, BandIs}
-use Rattle.report.specs.declared.ReportAnswer.{ReportAnswer}
-use Rattle.report.specs.Reports.{ReportOut, Does}
-use Rattle.report.specs.Outputs.{LentOutputs}
+use Rattle.reporting.specs.declared.ReportAnswer.{ReportAnswer}
+use Rattle.reporting.specs.Reports.{ReportOut, Does}
+use Rattle.reporting.specs.Outputs.{LentOutputs}
 use Rattle.split.specs.declared.SplitAnswer.{SplitAnswer}
 use Rattle.split.specs.declared.SplitAnswer.the-variants as splits
 use Rattle.split.specs.Splits.{SplitOut, LentSplit, splitRefused, Does as SplitDoes}

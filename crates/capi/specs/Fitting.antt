@@ -58,14 +58,15 @@ use Rattle.query.specs.RefusalLaws.{fit-numbers, validate-numbers, band-numbers
 use Rattle.query.specs.declared.BandAnswer.the-variants as bands
 use Rattle.query.specs.Fits.{FitOut, fitRefused, fitPast, fitOn, fitOut, validatePast, validateOn, validateOut}
 use Rattle.query.specs.Bands.{BandOut, bandRefused, bandPast, bandFor, bandOut}
-use Rattle.report.specs.declared.ReportAnswer.the-variants as reports
+use Rattle.reporting.specs.declared.ReportAnswer.the-variants as reports
 use Rattle.settings.specs.declared.Settings.{Settings}
-use Rattle.report.specs.declared.Places.{Places}
+use Rattle.reporting.specs.declared.Places.{Places}
 use Rattle.report.specs.Refusals.{reportRefusal}
 use Rattle.report.specs.RefusalLaws.{report-numbers, report-room}
-use Rattle.report.specs.Chosen.{reportChoice}
+use Rattle.report.specs.Reports.{reportChoice}
 use Rattle.report.specs.ChosenLaws.{chosen-solved}
-use Rattle.report.specs.Reports.{ReportOut, refusedEarly, refusedLate, reportOf, reportPast, reportOn, reportOut, writtenBy}
+use Rattle.reporting.specs.Reports.{ReportOut, refusedEarly, refusedLate, reportOf, writtenBy}
+use Rattle.report.specs.Reports.{reportPast, reportOn, reportOut}
 use Rattle.capi.specs.Packed.{BookFits, FitFits, BandFits, ReportFits, bandInto}
 
 -- ---- counts

@@ -18,7 +18,7 @@ use Rattle.refusal.specs.Refusals.{settle, mostNumber}
 use Rattle.refusal.specs.Laws.{among}
 use Rattle.measure.specs.Measures.{inverseFails}
 use Rattle.settings.specs.declared.Settings.{Settings}
-use Rattle.report.specs.Chosen.{reportChoice}
+use Rattle.report.specs.Reports.{reportChoice}
 use Rattle.report.specs.ChosenLaws.{chosen-solved}
 use Rattle.losses.specs.Refusals.{lossRefusal}
 use Rattle.losses.specs.RefusalLaws.{loss-numbers, loss-room}

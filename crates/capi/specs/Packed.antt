@@ -23,10 +23,11 @@ use Rattle.query.specs.declared.BandAnswer.{BandAnswer}
 use Rattle.query.specs.declared.BandAnswer.the-variants as bands
 use Rattle.query.specs.Fits.{FitOut, FitIs}
 use Rattle.query.specs.Bands.{BandOut, BandIs, bandRefused}
-use Rattle.report.specs.declared.ReportAnswer.{ReportAnswer}
-use Rattle.report.specs.declared.ReportAnswer.the-variants as reports
-use Rattle.report.specs.Reports.{ReportOut, reportOut, Does}
-use Rattle.report.specs.Outputs.{LentOutputs, placesOf}
+use Rattle.reporting.specs.declared.ReportAnswer.{ReportAnswer}
+use Rattle.reporting.specs.declared.ReportAnswer.the-variants as reports
+use Rattle.reporting.specs.Reports.{ReportOut, Does}
+use Rattle.report.specs.Reports.{reportOut}
+use Rattle.reporting.specs.Outputs.{LentOutputs, placesOf}
 use Rattle.split.specs.declared.SplitAnswer.{SplitAnswer}
 use Rattle.split.specs.declared.SplitAnswer.the-variants as splits
 use Rattle.split.specs.Rooms.{mostTests}

@@ -11,8 +11,8 @@ use Rattle.query.specs.declared.FitAnswer.{FitAnswer}
 use Rattle.query.specs.declared.FitAnswer.the-variants as fits
 use Rattle.query.specs.declared.BandAnswer.{BandAnswer}
 use Rattle.query.specs.declared.BandAnswer.the-variants as bands
-use Rattle.report.specs.declared.ReportAnswer.{ReportAnswer}
-use Rattle.report.specs.declared.ReportAnswer.the-variants as reports
+use Rattle.reporting.specs.declared.ReportAnswer.{ReportAnswer}
+use Rattle.reporting.specs.declared.ReportAnswer.the-variants as reports
 use Rattle.split.specs.declared.SplitAnswer.{SplitAnswer}
 use Rattle.split.specs.declared.SplitAnswer.the-variants as splits
 use Rattle.losses.specs.declared.LossAnswer.{LossAnswer}

@@ -32,9 +32,9 @@ use Rattle.query.specs.declared.BandAnswer.the-variants as bands
 use Rattle.query.specs.Fits.{fitOut, validateOut}
 use Rattle.query.specs.Bands.{bandOut}
 use Rattle.settings.specs.declared.Settings.{Settings}
-use Rattle.report.specs.declared.Places.{Places}
-use Rattle.report.specs.declared.ReportAnswer.{ReportAnswer}
-use Rattle.report.specs.declared.ReportAnswer.the-variants as reports
+use Rattle.reporting.specs.declared.Places.{Places}
+use Rattle.reporting.specs.declared.ReportAnswer.{ReportAnswer}
+use Rattle.reporting.specs.declared.ReportAnswer.the-variants as reports
 use Rattle.report.specs.Reports.{reportOut}
 use Rattle.losses.specs.declared.LossAnswer.{LossAnswer}
 use Rattle.losses.specs.declared.LossAnswer.the-variants as losses

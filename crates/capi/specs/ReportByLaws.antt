@@ -7,7 +7,7 @@ use lib.Ieee.{Float}
 use Rattle.samples.specs.Columns.{Columns}
 use Rattle.settings.specs.Numbers.{settingsOf, settingsIn}
 use Rattle.settings.specs.NumberLaws.{listed-all, listed-first}
-use Rattle.report.specs.declared.Places.{Places}
+use Rattle.reporting.specs.declared.Places.{Places}
 use Rattle.report.specs.Reports.{reportOut}
 use Rattle.capi.specs.Packed.{packedReport}
 use Rattle.capi.specs.Reading.{ReportRead}

@@ -5,7 +5,6 @@ use Prim.Native.Nat.{ℕ}
 use lib.Dec.{ltb}
 use lib.ListN.{getD}
 use lib.Ieee.{Float, nan, binary64, div, lt}
-use Rattle.basis.specs.Sizes.{maxTerms}
 use Rattle.loops.specs.Places.{table}
 use Rattle.value.specs.Absolute.{absF}
 use Rattle.value.specs.Numbers.{epsilon}
@@ -26,6 +25,6 @@ prunes rule t c error = lt epsilon (tested rule c) && lt (div binary64 (absF c) 
 unfoldable pub prunedAt : PruningRule → ℕ → List Float → List Float → Float → ℕ → ℕ
 prunedAt rule k c errors t i = mark (ltb i k && prunes rule t (getD c i nan) (getD errors i nan))
 
--- 16 pruning bytes: 1 pruned, else 0
-abbrev pub prunedBytes : PruningRule → ℕ → List Float → List Float → Float → List ℕ
-prunedBytes rule k c errors t = table (prunedAt rule k c errors t) maxTerms
+-- m pruning bytes: 1 pruned, else 0
+abbrev pub prunedBytes : ℕ → PruningRule → ℕ → List Float → List Float → Float → List ℕ
+prunedBytes m rule k c errors t = table (prunedAt rule k c errors t) m

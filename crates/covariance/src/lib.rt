@@ -174,22 +174,23 @@ fn mark(b: bool) -> u8
     if b { 1 } else { 0 }
 }
 
-// The first 16 places become the pruning bytes of k coefficients. Answers how many are pruned.
+// The first m places become the pruning bytes of k coefficients. Answers how many are pruned.
 pub fn put_pruned(
     rule: PruningRule,
     k: CoefficientCount,
     c: &[f64; TERMS],
     errors: &[f64; TERMS],
     t: f64,
+    m: usize,
     out: &mut [u8],
 ) -> usize
-    requires { ⌜ maxTerms ≤ length (now out) ⌝ }
-    ensures counted { λ r. ⌜ r ≡ ones (prunedBytes rule (k .0) (now (c .entry)) (now (errors .entry)) t) ⌝ }
-    ensures written { λ _. ⌜ now (out .exit) ≡ prunedBytes rule (k .0) (now (c .entry)) (now (errors .entry)) t ++ drop maxTerms (now (out .entry)) ⌝ }
+    requires { ⌜ (m ≤ maxTerms) × (m ≤ length (now out)) ⌝ }
+    ensures counted { λ r. ⌜ r ≡ ones (prunedBytes m rule (k .0) (now (c .entry)) (now (errors .entry)) t) ⌝ }
+    ensures written { λ _. ⌜ now (out .exit) ≡ prunedBytes m rule (k .0) (now (c .entry)) (now (errors .entry)) t ++ drop m (now (out .entry)) ⌝ }
 {
     let n = k.0;
     let mut count: usize = 0;
-    for i in 0..TERMS {
+    for i in 0..m {
         let b = mark((i < n) & prunes(rule, t, c[i], errors[i]));
         out[i] = b;
         count = count + b as usize;

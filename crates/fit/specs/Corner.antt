@@ -17,10 +17,11 @@ use Rattle.solve.specs.Solve.{solve}
 use Rattle.solve.specs.CornerLaws.{solve-corner}
 use Rattle.score.specs.declared.Criterion.{Criterion}
 use Rattle.choice.specs.Choice.{chosenOf}
-use Rattle.choice.specs.ChoiceLaws.{chosen-same, count-same}
+use Rattle.choice.specs.ChoiceLaws.{least-same, chosen-same, count-same}
 use Rattle.choice.specs.Laws.{chosen-score-same}
 use Rattle.fit.specs.Solved.{isSolved, scoreOn, scoredBy, pivotTests}
 use Rattle.fit.specs.Chosen.{countsOf, tried, testsOf, choiceOf}
+use Rattle.fit.specs.ChosenLaws.{flags-same, scores-same}
 
 -- two lists of sums that agree in the corner of m rows and columns
 module _ (m : ℕ) (fits : m ≤ 16) (s t : List Float) (hs : 256 ≤ length s) (ht : 256 ≤ length t) (same : SameCorner m s t) where
@@ -53,7 +54,7 @@ module _ (m : ℕ) (fits : m ≤ 16) (s t : List Float) (hs : 256 ≤ length s) 
     choice-corner =
         let S = tried criterion s rows counts in
         let R = tried criterion t rows counts in
-        rw (chosen-score-same S R (length counts) same-tried (chosenOf S (length counts)) refl, chosen-same S R (length counts) same-tried, count-same S R (length counts) same-tried, same-tests counts all)
+        rw (chosen-score-same S R (length counts) same-tried (chosenOf S (length counts)) refl, chosen-same S R (length counts) same-tried, least-same S R (length counts) same-tried, count-same S R (length counts) same-tried, same-tests counts all, flags-same S R (length counts) same-tried, scores-same S R (length counts) same-tried)
 
 -- the counts up to a degree's are at most its own
 pub counts-within : (basis : Basis) (last : ℕ) → All (λ k. k ≤ countOf basis last) (countsOf basis last)

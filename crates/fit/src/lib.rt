@@ -144,12 +144,16 @@ pub fn trial(
     }
 }
 
-// The chosen degree or none, its score (+0 where none is chosen), the number of solved degrees, and the number of pivot tests.
+// The chosen degree or none, its score (+0 where none is chosen), the least score, the number of solved degrees, and the number of pivot tests; and of
+// each degree whether it is solved, and its score.
 pub struct Choice {
     pub chosen: OptionDegree,
     pub score: f64,
+    pub least: f64,
     pub solved: usize,
     pub tests: usize,
+    pub flags: [bool; TERMS],
+    pub scores: [f64; TERMS],
 }
 
 // The choice among the degrees 0 to the bound. Only scores are kept; `attempt` solves the chosen degree again.
@@ -180,11 +184,15 @@ pub fn choose(
         tests = tests + t.tests;
     }
     let chosen = choice::lowest(&solved, &score, b);
+    let least = choice::least(&solved, &score, b);
     let number = choice::solved_of(&solved, b);
     Choice {
         chosen,
         score: choice::score_of(&score, chosen),
+        least,
         solved: number,
         tests,
+        flags: solved,
+        scores: score,
     }
 }

@@ -5,7 +5,7 @@ use lib.ListN.{length}
 use Rattle.runs.specs.RunLaws.{replies-at}
 use Rattle.samples.specs.Samples.{Sample}
 use Rattle.settings.specs.declared.Settings.{Settings}
-use Rattle.report.specs.declared.Places.{Places}
+use Rattle.reporting.specs.declared.Places.{Places}
 use Rattle.report.specs.Refusals.{reportRefusal}
 use Rattle.report.specs.Reports.{reportOn}
 use Rattle.ledger.specs.Ledger.{reads, Lent, lentOf, ledgerNext, ledgerReply, ledger, ledgerEnd, ledgerReplies}

@@ -16,7 +16,7 @@ use Rattle.monomial.specs.Rows.{weightedOf, weightedRows}
 use Rattle.monomial.specs.Sums.{addRow, sumsOf}
 use Rattle.monomial.specs.Parts.{yAside}
 use Rattle.monomial.specs.SumLaws.{length-sums, add-row-append, sums-again, corrected, terms-same, rows-again}
-use Rattle.book.specs.Calls.{withoutAt}
+use Rattle.lent.specs.Gaps.{withoutAt}
 use Rattle.ledger.specs.Ledger.{newY, seen}
 
 -- ---- a list of samples

@@ -31,7 +31,7 @@ use Rattle.book.specs.ManyLaws.{room-one, room-rest, one-added, many-added, add
 use Rattle.book.specs.Window.{windowRefusal, withPlace, windowOut}
 use Rattle.book.specs.WindowLaws.{window-room}
 use Rattle.ledger.specs.Ledger.{Change, adds, corrects, withdraws, frames, texts, windows, Lent, lentBy, outOf, newY, without, changed, refusalOf}
-use Rattle.book.proofs.Gap.{length-without}
+use Rattle.lent.specs.GapLaws.{length-without}
 use Rattle.book.proofs.Withdrawn.{withdrawn, place-made, place-free}
 use Rattle.ledger.proofs.Lists.{length-new, new-same, new-y, length-less, column-add, column-without, without-rest, samples-are, sums-rest, sums-add, sums-correct, sums-long, drop-later}
 

@@ -22,9 +22,10 @@ use Rattle.fit.specs.Solved.{scoredBy}
 use Rattle.fit.specs.Chosen.{countsOf, tried, choiceOf}
 use Rattle.measure.specs.Measures.{inverseFails, covarianceAt}
 use Rattle.settings.specs.declared.Settings.{Settings}
-use Rattle.report.specs.declared.ReportAnswer.the-variants as answers
-use Rattle.report.specs.Chosen.{reportChoice}
-use Rattle.report.specs.Reports.{ReportOut, reportNumber, refusedLate, writtenBy, reportOf, reportPast}
+use Rattle.reporting.specs.declared.ReportAnswer.the-variants as answers
+use Rattle.report.specs.Reports.{reportChoice}
+use Rattle.reporting.specs.Reports.{ReportOut, reportNumber, refusedLate, writtenBy, reportOf}
+use Rattle.report.specs.Reports.{reportPast}
 use Rattle.ledger.specs.Words.{Words, IsChosen, ledgerSums, degrees, scored}
 
 -- the choice among the counts 1 to bound + 1 is the choice among the degrees 0 to the bound

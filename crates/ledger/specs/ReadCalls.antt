@@ -8,8 +8,9 @@ use Rattle.score.specs.declared.Criterion.{Criterion}
 use Rattle.query.specs.Fits.{FitOut, fitOn, validateOn}
 use Rattle.query.specs.Bands.{BandOut, bandFor}
 use Rattle.settings.specs.declared.Settings.{Settings}
-use Rattle.report.specs.declared.Places.{Places}
-use Rattle.report.specs.Reports.{ReportOut, reportOn}
+use Rattle.reporting.specs.declared.Places.{Places}
+use Rattle.reporting.specs.Reports.{ReportOut}
+use Rattle.report.specs.Reports.{reportOn}
 use Rattle.split.specs.declared.Places.{Places as SplitPlaces}
 use Rattle.split.specs.Splits.{SplitOut, splitOn}
 use Rattle.losses.specs.Losses.{LossOut, lossOn}

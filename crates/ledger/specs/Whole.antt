@@ -9,9 +9,10 @@ use Rattle.monomial.specs.Rows.{weightedRows}
 use Rattle.monomial.specs.Sums.{sumsOf}
 use Rattle.book.specs.Calls.{bookOf, openOut}
 use Rattle.settings.specs.declared.Settings.{Settings}
-use Rattle.report.specs.declared.Places.{Places}
+use Rattle.reporting.specs.declared.Places.{Places}
 use Rattle.report.specs.Refusals.{reportRefusal}
-use Rattle.report.specs.Reports.{ReportOut, reportOn}
+use Rattle.reporting.specs.Reports.{ReportOut}
+use Rattle.report.specs.Reports.{reportOn}
 use Rattle.ledger.specs.Ledger.{Call, reads, Reply, told, Lent, lentOf, programReplies, opened, ledgerEnd, ledgerReplies, Agrees}
 use Rattle.ledger.specs.ReadCalls.{ReadCall, Told, reports, reportReply, readOn}
 use Rattle.ledger.specs.Words.{Words}

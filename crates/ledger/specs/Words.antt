@@ -19,8 +19,8 @@ use Rattle.choice.specs.declared.Scored.{Scored}
 use Rattle.fit.specs.Solved.{scoredBy}
 use Rattle.measure.specs.Measures.{inverseFails, covarianceAt}
 use Rattle.settings.specs.declared.Settings.{Settings}
-use Rattle.report.specs.declared.ReportAnswer.the-variants as answers
-use Rattle.report.specs.Reports.{ReportOut, writtenBy}
+use Rattle.reporting.specs.declared.ReportAnswer.the-variants as answers
+use Rattle.reporting.specs.Reports.{ReportOut, writtenBy}
 
 module _ (settings : Settings) (samples : List Sample) where
   -- the ledger's sums

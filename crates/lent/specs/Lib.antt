@@ -2,3 +2,5 @@
 pub mod Slices
 pub mod Written
 pub mod WrittenLaws
+pub mod Gaps
+pub mod GapLaws

@@ -29,8 +29,9 @@ use Rattle.lent.specs.Slices.{contentsOf}
 use Rattle.lent.specs.Written.{zeros}
 use Rattle.lent.specs.WrittenLaws.{over-by, over-cleared}
 use Rattle.settings.specs.declared.Settings.{Settings}
-use Rattle.report.specs.declared.Chosen.{Chosen}
-use Rattle.report.specs.Chosen.{reportChoice, chosenRefusal, Chooses}
+use Rattle.reporting.specs.declared.Chosen.{Chosen}
+use Rattle.reporting.specs.Chosen.{chosenRefusal, Chooses}
+use Rattle.report.specs.Reports.{reportChoice}
 use Rattle.report.specs.ChosenLaws.{chosen-solved}
 use Rattle.losses.specs.declared.LossAnswer.{LossAnswer}
 use Rattle.losses.specs.declared.LossAnswer.the-variants as answers

@@ -32,12 +32,13 @@ use Rattle.refusal.specs.RoomLaws.{long-enough}
 use Rattle.measure.specs.Measures.{inverseFails, covarianceAt}
 use Rattle.lent.specs.Written.{zeros}
 use Rattle.settings.specs.declared.Settings.{Settings}
-use Rattle.report.specs.declared.Places.{Places}
-use Rattle.report.specs.declared.ReportAnswer.the-variants as reports
+use Rattle.reporting.specs.declared.Places.{Places}
+use Rattle.reporting.specs.declared.ReportAnswer.the-variants as reports
 use Rattle.report.specs.Refusals.{reportNeeds, reportRefusal}
 use Rattle.report.specs.RefusalLaws.{report-room}
-use Rattle.report.specs.Reports.{ReportOut, reportNumber, refusedLate, refusedEarly, writtenBy, reportOf, reportPast, reportOn}
-use Rattle.report.specs.Chosen.{reportChoice}
+use Rattle.reporting.specs.Reports.{ReportOut, reportNumber, refusedLate, refusedEarly, writtenBy, reportOf}
+use Rattle.report.specs.Reports.{reportPast, reportOn}
+use Rattle.report.specs.Reports.{reportChoice}
 use Rattle.report.specs.ChosenLaws.{chosen-solved}
 use Rattle.losses.specs.declared.LossAnswer.the-variants as answers
 use Rattle.losses.specs.Refusals.{lossNeeds, lossRefusal}

@@ -23,7 +23,7 @@ use Rattle.measure.specs.Measures.{inverseFails}
 use Rattle.lent.specs.Slices.{Contents}
 use Rattle.lent.specs.Written.{over, zeros}
 use Rattle.settings.specs.declared.Settings.{Settings}
-use Rattle.report.specs.Chosen.{reportChoice}
+use Rattle.report.specs.Reports.{reportChoice}
 use Rattle.losses.specs.declared.LossAnswer.{LossAnswer}
 use Rattle.losses.specs.declared.LossAnswer.the-variants as answers
 use Rattle.losses.specs.Refusals.{lossRefusal}

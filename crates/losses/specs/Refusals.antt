@@ -6,7 +6,7 @@ use Rattle.samples.specs.Samples.{Sample}
 use Rattle.refusal.specs.Refusals.{Refusal, by, firstOf}
 use Rattle.refusal.specs.Tests.{Needed, needed, tooShort, noSamples}
 use Rattle.settings.specs.declared.Settings.{Settings}
-use Rattle.report.specs.Refusals.{settingsTests}
+use Rattle.reporting.specs.Refusals.{settingsTests}
 
 abbrev pub lossNeeds : ℕ → ℕ → ℕ → ℕ → List Needed
 lossNeeds n sums scratch losses = needed sumPlaces sums ∷ needed n scratch ∷ needed n losses ∷ []

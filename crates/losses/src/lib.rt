@@ -71,7 +71,7 @@ pub fn losses(
     if refusal != 0 {
         return LossAnswer::Refused(refusal);
     }
-    let m = report::choose(n, settings, xs, ys, &sums[..SUMS], &mut *scratch);
+    let m = reporting::choose(n, settings, xs, ys, &sums[..SUMS], &mut *scratch);
     if m.number != 0 {
         lent::clear(scratch, n);
         return LossAnswer::Refused(m.number);

@@ -26,5 +26,5 @@ pub fn loss_refusal(
     if refusal::too_short(n, xs.len(), ys.len(), ws.len(), memory) {
         return 1;
     }
-    report::settings_refusal(n, settings, xs, ys, ws, n == 0)
+    reporting::settings_refusal(n, settings, xs, ys, ws, n == 0)
 }

@@ -56,9 +56,9 @@ unfolding rowsAt rowAt rowOf termsAt
 curve-rows n xs zs ys ws = map-samples n (columnsOf xs ys ws) rowOf
 
 -- their y's are the first n places of the column
-pub ys-in-rows : (n : ℕ) (xs zs ys : List Float) → n ≤ length ys → ysIn (rowsAt Curve n xs zs ys) ≡ take n ys
+pub ys-in-rows : (basis : Basis) (n : ℕ) (xs zs ys : List Float) → n ≤ length ys → ysIn (rowsAt basis n xs zs ys) ≡ take n ys
 unfolding rowAt
-ys-in-rows n xs zs ys h = sym (map-rows-at Curve xs zs ys (λ (r : Row). r .y) n) ∙ table-take nan n ys h
+ys-in-rows basis n xs zs ys h = sym (map-rows-at basis xs zs ys (λ (r : Row). r .y) n) ∙ table-take nan n ys h
 
 -- ---- with weights
 

@@ -10,11 +10,11 @@ use Rattle.book.specs.declared.Answer.the-variants as answers
 use Rattle.book.specs.Calls.{Is, State, stateOf, bookAfter, addOut, correctOut, withdrawOut}
 use Rattle.samples.specs.Columns.{Columns}
 use Rattle.settings.specs.declared.Settings.{Settings}
-use Rattle.report.specs.declared.Places.{Places}
-use Rattle.report.specs.declared.ReportAnswer.{ReportAnswer}
-use Rattle.report.specs.declared.ReportAnswer.the-variants as tells
-use Rattle.report.specs.Reports.{ReportOut, Does}
-use Rattle.report.specs.Outputs.{Outputs, nothing, placesOf}
+use Rattle.reporting.specs.declared.Places.{Places}
+use Rattle.reporting.specs.declared.ReportAnswer.{ReportAnswer}
+use Rattle.reporting.specs.declared.ReportAnswer.the-variants as tells
+use Rattle.reporting.specs.Reports.{ReportOut, Does}
+use Rattle.reporting.specs.Outputs.{Outputs, nothing, placesOf}
 use Rattle.ledger.specs.Ledger.{said, changes, reads, Change, adds, corrects, withdraws, outOf, next, reply}
 use Rattle.ledger.specs.ReadCalls.{reports, readOn}
 use Rattle.replay.specs.declared.Done.{Done}

@@ -12,7 +12,7 @@ use lib.Ieee.{Float}
 use Rattle.loops.specs.Fold.{allOf}
 use Rattle.loops.specs.FoldLaws.{all-cons}
 use Rattle.loops.specs.Places.{table}
-use Rattle.report.specs.declared.Places.{Places}
+use Rattle.reporting.specs.declared.Places.{Places}
 use Rattle.replay.specs.declared.Buffers.{Buffers}
 use Rattle.replay.specs.Records.{placesAt, callCount, holds, holdsAll, fitsIn, allFit, hasRoom, wellFormed}
 use Rattle.replay.specs.Replay.{Memory, buffersIn}

@@ -21,9 +21,9 @@ use Rattle.refusal.specs.Refusals.{firstOf}
 use Rattle.book.specs.Calls.{Is, State, stateOf, bookOf, bookAfter, openOut}
 use Rattle.samples.specs.Columns.{Columns, noColumns, Column}
 use Rattle.settings.specs.declared.Settings.{Settings}
-use Rattle.report.specs.declared.Places.{Places}
+use Rattle.reporting.specs.declared.Places.{Places}
 use Rattle.report.specs.Reports.{reportOut}
-use Rattle.report.specs.Outputs.{Outputs, placesOf}
+use Rattle.reporting.specs.Outputs.{Outputs, placesOf}
 use Rattle.refusal.specs.Tests.{anyShort}
 use Rattle.ledger.specs.Ledger.{Call, Reply, next, reply, program, final, programReplies, opened}
 use Rattle.ledger.specs.ReadCalls.{ReadCall, Told, readOn}

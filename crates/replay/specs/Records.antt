@@ -11,7 +11,7 @@ use Rattle.loops.specs.Places.{table}
 use Rattle.basis.specs.Sizes.{sumPlaces}
 use Rattle.settings.specs.Numbers.{settingsOf}
 use Rattle.settings.specs.declared.Settings.{Settings}
-use Rattle.report.specs.declared.Places.{Places}
+use Rattle.reporting.specs.declared.Places.{Places}
 use Rattle.replay.specs.declared.Buffers.{Buffers}
 use Rattle.ledger.specs.Ledger.{Call, changes, reads, adds, corrects, withdraws}
 use Rattle.ledger.specs.ReadCalls.{ReadCall, reports}

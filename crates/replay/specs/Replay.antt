@@ -8,9 +8,9 @@ use lib.Ieee.{Float}
 use Rattle.book.specs.declared.Answer.the-variants as answers
 use Rattle.samples.specs.Columns.{Columns, columnsOf}
 use Rattle.lent.specs.Written.{over}
-use Rattle.report.specs.declared.ReportAnswer.{ReportAnswer}
-use Rattle.report.specs.declared.ReportAnswer.the-variants as reports
-use Rattle.report.specs.Outputs.{nothing, Outputs, LentOutputs, placesOf}
+use Rattle.reporting.specs.declared.ReportAnswer.{ReportAnswer}
+use Rattle.reporting.specs.declared.ReportAnswer.the-variants as reports
+use Rattle.reporting.specs.Outputs.{nothing, Outputs, LentOutputs, placesOf}
 use Rattle.ledger.specs.Ledger.{Call, Reply, said, told, lentOf, final, opened, ledgerEnd, ledgerReplies}
 use Rattle.ledger.specs.ReadCalls.{ReadCall, Told, fitReply, bandReply, reportReply, splitReply, lossReply, readOn}
 use Rattle.ledger.specs.Whole.{WholeBook}

@@ -7,14 +7,14 @@ use lib.Ieee.{Float}
 use Rattle.book.specs.declared.Answer.{Answer}
 use Rattle.book.specs.declared.Answer.the-variants as answers
 use Rattle.book.specs.Calls.{State, stateOf}
-use Rattle.report.specs.declared.Places.{Places}
-use Rattle.report.specs.declared.ReportAnswer.{ReportAnswer}
-use Rattle.report.specs.declared.ReportAnswer.the-variants as reports
-use Rattle.report.specs.Reports.{ReportOut}
+use Rattle.reporting.specs.declared.Places.{Places}
+use Rattle.reporting.specs.declared.ReportAnswer.{ReportAnswer}
+use Rattle.reporting.specs.declared.ReportAnswer.the-variants as reports
+use Rattle.reporting.specs.Reports.{ReportOut}
 use Rattle.ledger.specs.Ledger.{Call, next, reply}
 use Rattle.ledger.specs.ReadCalls.{ReadCall, readOn}
 use Rattle.replay.specs.declared.Done.{Done}
-use Rattle.report.specs.Outputs.{Outputs, LentOutputs}
+use Rattle.reporting.specs.Outputs.{Outputs, LentOutputs}
 use Rattle.replay.specs.Replay.{Memory, LentMemory, Ran, resultsOf, overAllAt, putResults, putOutputs}
 use Rattle.samples.specs.Columns.{Columns}
 

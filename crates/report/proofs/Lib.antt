@@ -1,3 +1,1 @@
-pub mod Choosing
-pub mod Writing
 pub mod Reporting

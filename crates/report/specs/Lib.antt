@@ -2,8 +2,6 @@
 pub mod Refusals
 pub mod Rooms
 pub mod RefusalLaws
-pub mod Chosen
-pub mod ChosenLaws
-pub mod Outputs
 pub mod Reports
+pub mod ChosenLaws
 pub mod ReportLaws

@@ -9,7 +9,7 @@ use Rattle.refusal.specs.Refusals.{numbersOf, InOrder, those, isAmong}
 use Rattle.refusal.specs.Laws.{numbered, first-none}
 use Rattle.refusal.specs.RoomLaws.{room}
 use Rattle.settings.specs.declared.Settings.{Settings}
-use Rattle.report.specs.declared.Places.{Places}
+use Rattle.reporting.specs.declared.Places.{Places}
 use Rattle.report.specs.Refusals.{reportTests, reportRefusal}
 use Rattle.report.specs.Rooms.{ReportRoom}
 

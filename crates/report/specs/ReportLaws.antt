@@ -14,13 +14,14 @@ use Rattle.refusal.specs.Refusals.{InOrder, those, isAmong}
 use Rattle.refusal.specs.Laws.{settled-among}
 use Rattle.measure.specs.Measures.{inverseFails}
 use Rattle.settings.specs.declared.Settings.{Settings}
-use Rattle.report.specs.declared.Places.{Places}
+use Rattle.reporting.specs.declared.Places.{Places}
 use Rattle.report.specs.Refusals.{reportRefusal}
 use Rattle.report.specs.RefusalLaws.{report-numbers}
-use Rattle.report.specs.Reports.{ReportOut, reportNumber, refusedLate, writtenBy, reportOf, reportPast, reportOn}
+use Rattle.reporting.specs.Reports.{ReportOut, reportNumber, refusedLate, writtenBy, reportOf}
+use Rattle.report.specs.Reports.{reportPast, reportOn}
 
 past-number : (n : ℕ) (settings : Settings) (rows : List Row) (sums : List Float) (solved : ℕ) (o : OptionDegree)
-    → List·Memᴰ (reportNumber (reportOf n settings rows sums solved o .answer)) (0 ∷ 1 ∷ 4 ∷ 7 ∷ 8 ∷ 11 ∷ 12 ∷ [])
+    → List·Memᴰ (reportNumber (reportOf Curve n settings rows sums solved o .answer)) (0 ∷ 1 ∷ 4 ∷ 7 ∷ 8 ∷ 11 ∷ 12 ∷ [])
 unfolding reportOf writtenBy
 past-number n settings rows sums solved None = Memᴰ·append-right (0 ∷ 1 ∷ 4 ∷ 7 ∷ 8 ∷ []) (List·Memᴰ·head refl)
 past-number n settings rows sums solved (Some d) = go (inverseFails sums (countOf Curve (d .0))) _ refl

@@ -5,7 +5,7 @@ use Rattle.basis.specs.Sizes.{highestDegree}
 use Rattle.statistics.specs.Degrees.{maxDegree}
 use Rattle.refusal.specs.Rooms.{Room}
 use Rattle.settings.specs.declared.Settings.{Settings}
-use Rattle.report.specs.declared.Places.{Places}
+use Rattle.reporting.specs.declared.Places.{Places}
 use Rattle.report.specs.Refusals.{reportNeeds}
 
 pub record ReportRoom (n : ℕ) (settings : Settings) (columns : List ℕ) (sums : ℕ) (places : Places) : Type 0 where

@@ -3,14 +3,11 @@ use basis::SUMS;
 use basis::TERMS;
 ghost use mathlib.Core.Path.{_≡_};
 ghost use mathlib.Core.List.{[], _∷_};
-ghost use Prim.Native.Nat.{_≤_};
-ghost use lib.ListN.{length};
 ghost use Rattle.samples.specs.Columns.{samplesOf, columnsOf, lengths};
 ghost use Rattle.refusal.specs.Tests.{tooShort};
 ghost use Rattle.lent.specs.Slices.{before};
-ghost use Rattle.refusal.specs.Refusals.{firstOf};
-ghost use Rattle.report.specs.Refusals.{reportNeeds, settingsTests, reportRefusal};
-use crate::Places;
+ghost use Rattle.report.specs.Refusals.{reportNeeds, reportRefusal};
+use reporting::Places;
 use settings::Settings;
 
 // 1, of a report: the sums, and all that it writes.
@@ -36,29 +33,6 @@ fn report_short(n: usize, xs: usize, ys: usize, ws: usize, sums: usize, p: Place
     )
 }
 
-// Past 1, of every call that chooses a degree by these settings; few: it has too few samples.
-pub fn settings_refusal(
-    n: usize,
-    settings: Settings,
-    xs: &[f64],
-    ys: &[f64],
-    ws: &[f64],
-    few: bool,
-) -> u8
-    requires { ⌜ (n ≤ length (now xs)) × (n ≤ length (now ys)) × (n ≤ length (now ws)) ⌝ }
-    ensures { λ r. ⌜ r ≡ firstOf (settingsTests n settings (samplesOf n (columnsOf (before xs) (before ys) (before ws))) few) ⌝ }
-{
-    let bound = settings.bound;
-    let confidence = settings.confidence;
-    let tolerance = settings.tolerance;
-    let score = refusal::score_finite(confidence);
-    let width = refusal::tolerance_finite(tolerance);
-    let samples = refusal::samples_finite(xs, ys, ws, n);
-    let wrong = !(score & width & samples);
-    let high = refusal::bound_too_high(bound, n);
-    refusal::first(wrong, 4, refusal::first(few, 7, refusal::first(high, 8, 0)))
-}
-
 pub fn report_refusal(
     n: usize,
     settings: Settings,
@@ -73,5 +47,5 @@ pub fn report_refusal(
     if report_short(n, xs.len(), ys.len(), ws.len(), sums, places) {
         return 1;
     }
-    settings_refusal(n, settings, xs, ys, ws, n == 0)
+    reporting::settings_refusal(n, settings, xs, ys, ws, n == 0)
 }

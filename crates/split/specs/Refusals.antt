@@ -9,7 +9,7 @@ use Rattle.samples.specs.Samples.{Sample}
 use Rattle.refusal.specs.Refusals.{Refusal, by, firstOf}
 use Rattle.refusal.specs.Tests.{Needed, needed, tooShort}
 use Rattle.settings.specs.declared.Settings.{Settings}
-use Rattle.report.specs.Refusals.{settingsTests}
+use Rattle.reporting.specs.Refusals.{settingsTests}
 use Rattle.split.specs.declared.Best.{Best}
 use Rattle.split.specs.declared.Places.{Places}
 

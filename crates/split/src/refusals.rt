@@ -38,5 +38,5 @@ pub fn split_refusal(
     if split_short(n, xs.len(), ys.len(), ws.len(), sums, places) {
         return 1;
     }
-    report::settings_refusal(n, settings, xs, ys, ws, n < 4)
+    reporting::settings_refusal(n, settings, xs, ys, ws, n < 4)
 }

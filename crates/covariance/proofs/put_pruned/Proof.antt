@@ -14,12 +14,12 @@ use Rattle.covariance.proofs.put_pruned.Statement.{statement}
 use Rattle.covariance.proofs.put_pruned.Tie as tie
 
 abbrev Inv-loop : tie.InvT-loop
-Inv-loop rule c errors t out₀ n count₀ i₀ out count i =
-    (i ≤ 16) × (length out ≡ length out₀) × (out ≡ each (λ j _. prunedAt rule n c errors t j) i out₀)
+Inv-loop rule c errors t m out₀ n count₀ i₀ out count i =
+    (i ≤ m) × (length out ≡ length out₀) × (out ≡ each (λ j _. prunedAt rule n c errors t j) i out₀)
     × (count ≤ i) × (count ≡ ones (table (prunedAt rule n c errors t) i))
 
 abbrev μ-loop : tie.MeasureT-loop
-μ-loop rule c errors t out₀ n count₀ i₀ out count i = 16 - i
+μ-loop rule c errors t m out₀ n count₀ i₀ out count i = m - i
 
 loop-holds : tie.Need-loop-holds Inv-loop μ-loop
 unfolding each ones fold table
@@ -50,9 +50,9 @@ loop-again c =
 returns : tie.Need-returns Inv-loop μ-loop
 returns c =
     let at-args = c .before .before .before .args in
-    let z : c .before .loop .i ≡ 16 = omega arith in
     let a = at-args in
-    (rw z at (c .before .loop .inv .4), (rw z at (c .before .loop .inv .2)) ∙ each-write (prunedAt (a .rule) (a .k .0) (a .c .now) (a .errors .now) (a .t)) 16 _ (search needs))
+    let z : c .before .loop .i ≡ a .m = omega arith in
+    (rw z at (c .before .loop .inv .4), (rw z at (c .before .loop .inv .2)) ∙ each-write (prunedAt (a .rule) (a .k .0) (a .c .now) (a .errors .now) (a .t)) (a .m) _ (search needs))
 
 pub put-pruned-spec : {M : Type 1} → statement M
 put-pruned-spec =

@@ -45,10 +45,10 @@ trial-requires c κs =
 add-tests : tie.Need-add-tests Inv-loop μ-loop
 add-tests c =
     let at-args = c .before .before .before .before .before .before .before .before .before .before .before .before .before .before .args in
-    let at-loop = c .before .before .before .before .before .before .before .loop in
-    let at-trial = c .before .before .before .trial in
     let at-k = c .before .before .before .before .before .k in
+    let at-loop = c .before .before .before .before .before .before .before .loop in
     let at-pre = c .before .before .before .before .before .before .before .before .before .before .before .before .before .before .pre in
+    let at-trial = c .before .before .before .trial in
     let a = at-args in
     let m = count-mono (a .basis) (at-loop .d) (a .bound .0) (omega arith) in
     let t = at-trial .ensures .1 .0 ∙ ap (pivotTests (a .sums .now)) (at-k .ensures) in
@@ -57,10 +57,10 @@ add-tests c =
 loop-again : tie.Need-loop-again Inv-loop μ-loop
 loop-again c =
     let at-args = c .before .before .before .before .before .before .before .before .before .before .before .before .before .before .args in
-    let at-loop = c .before .before .before .before .before .before .before .loop in
-    let at-trial = c .before .before .before .trial in
     let at-k = c .before .before .before .before .before .k in
+    let at-loop = c .before .before .before .before .before .before .before .loop in
     let at-pre = c .before .before .before .before .before .before .before .before .before .before .before .before .before .before .pre in
+    let at-trial = c .before .before .before .trial in
     let a = at-args in
     let rows = rowsAt (a .basis) (a .n) (a .xs .now) (a .zs .now) (a .ys .now) in
     let m = count-mono (a .basis) (at-loop .d) (a .bound .0) (omega arith) in
@@ -76,16 +76,18 @@ loop-again c =
 
 score-of-requires : tie.Need-score-of-requires Inv-loop μ-loop
 score-of-requires c κs =
-    let at-lowest = c .before .before .before .lowest in
+    let at-lowest = c .before .before .before .before .before .before .lowest in
     chosen-below _ _ 16 _ (search needs) (at-lowest .ensures)
 
 returns : tie.Need-returns Inv-loop μ-loop
 returns c =
-    let at-loop = c .before .before .before .before .before .before .before .before .loop in
-    let at-args = c .before .before .before .before .before .before .before .before .before .before .before .before .before .before .before .args in
-    let at-lowest = c .before .before .before .before .lowest in
+    let at-args = c .before .before .before .before .before .before .before .before .before .before .before .before .before .before .before .before .before .before .args in
+    let at-least = c .before .before .before .before .least in
+    let at-loop = c .before .before .before .before .before .before .before .before .before .before .before .loop in
+    let at-lowest = c .before .before .before .before .before .before .before .lowest in
+    let at-solved-of = c .before .before .solved-of in
     let z : at-loop .d ≡ at-args .bound .0 + 1 = omega arith in (
-      choice-is (at-args .basis) (at-args .criterion) (at-args .sums .now) (rowsAt (at-args .basis) (at-args .n) (at-args .xs .now) (at-args .zs .now) (at-args .ys .now)) (at-args .bound .0) (at-loop .solved) (at-loop .score) (search needs) (rw z at (at-loop .inv .3)) (rw z at (at-loop .inv .4)) _ _ _ _ (at-lowest .ensures) (c .score-of .ensures) (c .before .before .solved-of .ensures) (rw z at (at-loop .inv .5)),
+      choice-is (at-args .basis) (at-args .criterion) (at-args .sums .now) (rowsAt (at-args .basis) (at-args .n) (at-args .xs .now) (at-args .zs .now) (at-args .ys .now)) (at-args .bound .0) (at-loop .solved) (at-loop .score) (search needs) (rw z at (at-loop .inv .3)) (rw z at (at-loop .inv .4)) _ _ _ _ _ (at-lowest .ensures) (c .score-of .ensures) (at-least .ensures) (at-solved-of .ensures) (rw z at (at-loop .inv .5)),
       at-loop .inv .2,
     )
 
@@ -106,6 +108,7 @@ choose-spec =
     (λ c. search needs)
     (λ c. search needs)
     loop-again
+    (λ c κs. search needs)
     (λ c κs. search needs)
     (λ c κs. search needs)
     score-of-requires

@@ -1,48 +1,15 @@
--- `lent::put_terms` meets its contract. The loop's invariant: the places passed are copied.
-use mathlib.Core.Path.{_≡_, refl, _∙_}
-use Prim.Native.Nat.{_-_, _≤_}
-use native.Mathlib.Omega.{arith}
+-- `lent::put_terms` meets its contract.
+use mathlib.Core.Path.{_∙_}
 use borrow.Author.Needs.{needs}
-use lib.ListN.{length, getD, length-set}
-use lib.Ieee.{nan}
 use lib.Seq.{take-all}
-use Rattle.loops.specs.Places.{each}
-use Rattle.loops.specs.PlaceLaws.{each-again, each-copy}
 use Rattle.lent.proofs.put_terms.Statement.{statement}
 use Rattle.lent.proofs.put_terms.Tie as tie
 
-abbrev Inv-loop : tie.InvT-loop
-Inv-loop out₀ values i₀ out i = (i ≤ 16) × (length out ≡ length out₀) × (out ≡ each (λ j _. getD values j nan) i out₀)
-
-abbrev μ-loop : tie.MeasureT-loop
-μ-loop out₀ values i₀ out i = 16 - i
-
-loop-holds : tie.Need-loop-holds Inv-loop μ-loop
-unfolding each
-loop-holds c = (search needs, refl, refl)
-
-loop-again : tie.Need-loop-again Inv-loop μ-loop
-loop-again c = (search needs, simp length-set (c .before .loop .inv .1), rw (c .before .loop .inv .2) (each-again _ _ _ nan (search needs)))
-
-returns : tie.Need-returns Inv-loop μ-loop
+returns : tie.Need-returns
 returns c =
-    let z : c .before .loop .i ≡ 16 = omega arith in
-    let a = c .before .before .args in
-    (rw z at (c .before .loop .inv .2)) ∙ each-copy nan 16 (a .t1) (a .out .now) (search needs) (search needs) ∙ (rw (take-all 16 (a .t1) (search needs)))
+    let at-args = c .before .before .before .before .before .args in
+    let at-put-first = c .before .before .put-first in
+    at-put-first .ensures ∙ (rw (take-all 16 (at-args .values) (search needs)))
 
 pub put-terms-spec : {M : Type 1} → statement M
-put-terms-spec =
-    tie.close
-    (tie.spec
-    Inv-loop
-    μ-loop
-    loop-holds
-    (λ c. search needs)
-    (λ c. search needs)
-    (λ c. search needs)
-    (λ c. search needs)
-    (λ c. search needs)
-    (λ c. search needs)
-    loop-again
-    (λ c. search needs)
-    returns)
+put-terms-spec = tie.close (tie.spec (λ c κs. search needs) (λ c. search needs) returns)

@@ -99,7 +99,7 @@ returns-3 c =
     let w = band-room _ _ _ _ _ (at-args .x) (at-args .degree .0) (at-args .confidence) (at-args .tolerance) (sym (at-band-refusal .ensures) ∙ at-if1 .left) in
     band-through _ _ _ _ _ (sym (at-band-refusal .ensures) ∙ at-if1 .left)
     (rw same at (band-made (at-args .book .count) (at-args .x) (at-args .degree .0) (at-args .confidence) (at-args .tolerance) (rowsAt Curve (at-args .book .count) (at-args .xs .now) (at-args .xs .now) (at-args .ys .now)) _ _ _ (over-cleared _ _ _ _ (ran .within) (at-clear .ensures)) (sym (at-if2 .left) ∙ ran .number) _ _ _ _ _ (ran .coefficients) (ran .covariance (at-if2 .left)) (at-z-score .ensures)
-    (at-stddev-and-mean .ensures ∙ ap stddevAndMean (sym (ys-in-rows (at-args .book .count) (at-args .xs .now) (at-args .xs .now) (at-args .ys .now) (w .0 .within .1 .0)))) (rw (c .before .before .before .before .before .before .before .before .before .before .before .before .before .before .before .before .before .before .k .ensures, curve-terms) at (c .band-at .ensures))))
+    (at-stddev-and-mean .ensures ∙ ap stddevAndMean (sym (ys-in-rows Curve (at-args .book .count) (at-args .xs .now) (at-args .xs .now) (at-args .ys .now) (w .0 .within .1 .0)))) (rw (c .before .before .before .before .before .before .before .before .before .before .before .before .before .before .before .before .before .before .k .ensures, curve-terms) at (c .band-at .ensures))))
 
 pub band-spec : {M : Type 1} → statement M
 band-spec =

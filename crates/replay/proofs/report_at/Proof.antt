@@ -3,7 +3,7 @@ use mathlib.Core.Path.{ap}
 use Prim.Native.Nat.{_+_, _-_}
 use native.Mathlib.Omega.{arith}
 use borrow.Author.Needs.{needs}
-use Rattle.report.specs.Outputs.{Outputs}
+use Rattle.reporting.specs.Outputs.{Outputs}
 use Rattle.report.specs.Reports.{reportOut}
 use Rattle.samples.specs.Columns.{columnsOf}
 use Rattle.replay.proofs.Laws.{window-same}

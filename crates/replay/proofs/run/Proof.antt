@@ -3,7 +3,7 @@ use mathlib.Core.Path.{ap, _∙_}
 use Prim.Native.Nat.{_-_, _<_}
 use native.Mathlib.Omega.{arith}
 use borrow.Author.Needs.{needs}
-use Rattle.report.specs.declared.Places.{Places}
+use Rattle.reporting.specs.declared.Places.{Places}
 use Rattle.book.specs.Calls.{stateOf}
 use Rattle.replay.specs.Records.{callCount}
 use Rattle.replay.specs.Replay.{Memory, buffersIn}

@@ -1,10 +1,10 @@
--- `report::refusals::settings_refusal` meets its contract.
+-- `reporting::refusals::settings_refusal` meets its contract.
 use mathlib.Core.Path.{refl, ap, ap₂}
 use mathlib.Core.Bool.{Bool, not, _&&_}
 use borrow.Author.Needs.{needs}
 use Rattle.refusal.specs.Laws.{first-of, first-end}
-use Rattle.report.proofs.refusals.settings_refusal.Statement.{statement}
-use Rattle.report.proofs.refusals.settings_refusal.Tie as tie
+use Rattle.reporting.proofs.refusals.settings_refusal.Statement.{statement}
+use Rattle.reporting.proofs.refusals.settings_refusal.Tie as tie
 
 returns : tie.Need-returns
 returns c =

@@ -5,7 +5,7 @@ use lib.ListN.{length}
 use lib.Ieee.{Float}
 use Rattle.lent.specs.Slices.{Given, Slice, before, after}
 use Rattle.lent.specs.Written.{over, zeros}
-use Rattle.report.specs.declared.Places.{Places}
+use Rattle.reporting.specs.declared.Places.{Places}
 
 pub record Outputs : Type 0 where
   pub scratch : List Float

@@ -1,8 +1,10 @@
 -- What the writes of a report come to.
 use mathlib.Core.Path.{_≡_, ap, ap₂, _∙_}
 use mathlib.Core.List.{List, _++_, map}
-use Prim.Native.Nat.{ℕ, _+_}
-use lib.ListN.{length, drop, replicate, length-map, length-replicate}
+use Prim.Native.Nat.{ℕ, _+_, _≤_}
+use native.Mathlib.Omega.{arith}
+use lib.ListN.{length, take, drop, replicate, length-map, length-replicate}
+use lib.Seq.{length-take-le}
 use lib.Ieee.{Float}
 use Rattle.loops.specs.PlaceLaws.{length-each, length-table}
 use Rattle.value.specs.Numbers.{zeroF}
@@ -10,7 +12,7 @@ use Rattle.statistics.specs.Scores.{zScore, tScore, degreesOfFreedom}
 use Rattle.statistics.specs.Variances.{stddevAndMean}
 use Rattle.statistics.specs.declared.StddevAndMean.{StddevAndMean}
 use Rattle.basis.specs.Counts.{countOf}
-use Rattle.basis.specs.declared.Basis.the-variants.{Curve}
+use Rattle.basis.specs.declared.Basis.{Basis}
 use Rattle.monomial.specs.Rows.{Row, ysIn}
 use Rattle.covariance.specs.Covariance.{errorsOf}
 use Rattle.covariance.specs.Marks.{ones}
@@ -19,16 +21,16 @@ use Rattle.covariance.specs.Pruning.{prunedAt, prunedBytes}
 use Rattle.lent.specs.Written.{over, zeros}
 use Rattle.lent.specs.WrittenLaws.{over-by}
 use Rattle.settings.specs.declared.Settings.{Settings}
-use Rattle.report.specs.declared.ReportAnswer.the-variants as answers
-use Rattle.report.specs.Outputs.{Outputs}
-use Rattle.report.specs.Reports.{Does, writtenBy}
+use Rattle.reporting.specs.declared.ReportAnswer.the-variants as answers
+use Rattle.reporting.specs.Outputs.{Outputs}
+use Rattle.reporting.specs.Reports.{Does, termPlaces, writtenBy}
 
 length-errors : (k : ℕ) (v : List Float) → length (errorsOf k v) ≡ 16
 unfolding errorsOf
 length-errors k v = length-each _ k (replicate 16 zeroF) ∙ length-replicate 16 zeroF
 
-module _ (n : ℕ) (settings : Settings) (rows : List Row) (degree solved : ℕ) (c v : List Float) (sized : length c ≡ 16)
-    (k : ℕ) (ek : k ≡ countOf Curve degree) (counted : length rows ≡ n)
+module _ (basis : Basis) (n : ℕ) (settings : Settings) (rows : List Row) (degree solved : ℕ) (c v : List Float) (sized : length c ≡ 16)
+    (m : ℕ) (em : m ≡ termPlaces basis) (most : m ≤ 16) (k : ℕ) (ek : k ≡ countOf basis degree) (counted : length rows ≡ n)
     (t z : Float) (spread : StddevAndMean) (e : List Float) (et : t ≡ tScore (settings .confidence) (degreesOfFreedom n k))
     (ez : z ≡ zScore (settings .confidence)) (es : spread ≡ stddevAndMean (ysIn rows)) (ee : e ≡ errorsOf k v) where
   -- a value of each sample was written
@@ -36,23 +38,23 @@ module _ (n : ℕ) (settings : Settings) (rows : List Row) (degree solved : ℕ)
   rows-over f l l′ h = over-by n (map f rows) l l′ (length-map rows f ∙ counted) h
 
   pub writes-is : (marks terms : ℕ) (w w′ : Outputs)
-      → marks ≡ ones (outliersOf k c v (settings .tolerance) z (spread .stddev) rows) → terms ≡ ones (prunedBytes (settings .pruning) k c e t)
+      → marks ≡ ones (outliersOf k c v (settings .tolerance) z (spread .stddev) rows) → terms ≡ ones (prunedBytes m (settings .pruning) k c e t)
       → w′ .scratch ≡ zeros n ++ drop n (w .scratch)
-      → w′ .coefficients ≡ c ++ drop 16 (w .coefficients) → w′ .errors ≡ e ++ drop 16 (w .errors) → w′ .pruned ≡ prunedBytes (settings .pruning) k c e t ++ drop 16 (w .pruned)
+      → w′ .coefficients ≡ take m c ++ drop m (w .coefficients) → w′ .errors ≡ take m e ++ drop m (w .errors) → w′ .pruned ≡ prunedBytes m (settings .pruning) k c e t ++ drop m (w .pruned)
       → w′ .lower ≡ lowersOf k c v (settings .tolerance) z (spread .stddev) rows ++ drop n (w .lower)
       → w′ .upper ≡ uppersOf k c v (settings .tolerance) z (spread .stddev) rows ++ drop n (w .upper)
       → w′ .outliers ≡ outliersOf k c v (settings .tolerance) z (spread .stddev) rows ++ drop n (w .outliers)
-      → Does (writtenBy n settings rows degree solved c v) (answers.Report (record { 0 = degree }) solved marks terms) (record { found = w; left = w′ })
+      → Does (writtenBy basis n settings rows degree solved c v) (answers.Report (record { 0 = degree }) solved marks terms) (record { found = w; left = w′ })
   unfolding writtenBy
   writes-is marks terms w w′ hm ht hs hc he hp hl hu hb =
-      rw (← ek, ← et, ← ez, ← es, ← ee)
+      rw (← em, ← ek, ← et, ← ez, ← es, ← ee)
       (record {
         answer = ap₂ (λ o p. answers.Report (record { 0 = degree }) solved o p) hm ht;
         outputs = λ i. record {
           scratch = over-by n (zeros n) (w .scratch) (w′ .scratch) (length-replicate n zeroF) hs i;
-          coefficients = over-by 16 c (w .coefficients) (w′ .coefficients) sized hc i;
-          errors = over-by 16 e (w .errors) (w′ .errors) (ap length ee ∙ length-errors k v) he i;
-          pruned = over-by 16 (prunedBytes (settings .pruning) k c e t) (w .pruned) (w′ .pruned) (length-table (prunedAt (settings .pruning) k c e t) 16) hp i;
+          coefficients = over-by m (take m c) (w .coefficients) (w′ .coefficients) (length-take-le m c (omega (arith, sized))) hc i;
+          errors = over-by m (take m e) (w .errors) (w′ .errors) (length-take-le m e (omega (arith, ap length ee ∙ length-errors k v))) he i;
+          pruned = over-by m (prunedBytes m (settings .pruning) k c e t) (w .pruned) (w′ .pruned) (length-table (prunedAt (settings .pruning) k c e t) m) hp i;
           lower = rows-over (lowerOf k c v (settings .tolerance) z (spread .stddev)) (w .lower) (w′ .lower) hl i;
           upper = rows-over (upperOf k c v (settings .tolerance) z (spread .stddev)) (w .upper) (w′ .upper) hu i;
           outliers = rows-over (outlierOf k c v (settings .tolerance) z (spread .stddev)) (w .outliers) (w′ .outliers) hb i;
