@@ -281,13 +281,13 @@ module _ (k : ℕ) (c v : List Float) where
   unfolding outlierOf
   outliers-most t z sd rows h = omega (arith, ones-map (outlierOf k c v t z sd) (λ r. mark-most (outlies (bandAt k c v t z sd (r .terms)) (r .y))) rows)
 
-  pruned-most : (rule : PruningRule) (t : Float) → ones (prunedBytes rule k c v t) ≤ 16
+  pruned-most : (rule : PruningRule) (t : Float) → ones (prunedBytes 16 rule k c v t) ≤ 16
   unfolding prunedAt
   pruned-most rule t = ones-table (prunedAt rule k c v t) (λ i. mark-most (ltb i k && prunes rule t (getD c i nan) (getD v i nan))) 16
 
 module _ (n : ℕ) (settings : Settings) (rows : List Row) (sums : List Float)
     (few : length rows ≤ 4096) (most : maxDegree (settings .bound) n ≤ 15) where
-  written-fits : (degree solved : ℕ) (c v : List Float) → degree ≤ 15 → solved ≤ 16 → ReportFits (writtenBy n settings rows degree solved c v .answer)
+  written-fits : (degree solved : ℕ) (c v : List Float) → degree ≤ 15 → solved ≤ 16 → ReportFits (writtenBy Curve n settings rows degree solved c v .answer)
   unfolding ReportFits writtenBy
   written-fits degree solved c v h k =
       (h, k, outliers-most (countOf Curve degree) c v (settings .tolerance) _ _ rows few, pruned-most (countOf Curve degree) c _ (settings .pruning) _)
@@ -299,14 +299,14 @@ module _ (n : ℕ) (settings : Settings) (rows : List Row) (sums : List Float)
       omega (arith, solved-most (tried (settings .criterion) sums rows counts) (length counts), length-table (countOf Curve) (maxDegree (settings .bound) n + 1))
 
   chosen-fits : (o : OptionDegree) → reportChoice n settings rows sums .chosen ≡ o
-      → ReportFits (reportOf n settings rows sums (reportChoice n settings rows sums .solved) o .answer)
+      → ReportFits (reportOf Curve n settings rows sums (reportChoice n settings rows sums .solved) o .answer)
   unfolding reportOf ReportFits
   chosen-fits None e = (omega arith, omega arith)
   chosen-fits (Some d) e = go (inverseFails sums (countOf Curve (d .0)))
     where
       go : (t : Bool)
           → ReportFits
-          (cond t (refusedLate n 12) (writtenBy n settings rows (d .0) (reportChoice n settings rows sums .solved) (solve sums (countOf Curve (d .0)) .c) (covarianceAt sums rows (countOf Curve (d .0)))) .answer)
+          (cond t (refusedLate n 12) (writtenBy Curve n settings rows (d .0) (reportChoice n settings rows sums .solved) (solve sums (countOf Curve (d .0)) .c) (covarianceAt sums rows (countOf Curve (d .0)))) .answer)
       go true = (omega arith, omega arith)
       go false = written-fits (d .0) _ _ _ (omega (arith, chosen-solved n settings rows sums d e .0)) choice-solved
 

@@ -56,7 +56,7 @@ module _ (settings : Settings) (l : List Sample) where
 -- what a report answers past refusals 1 to 9, from the chosen degree or none
 module _ (settings : Settings) (l : List Sample) where
   abbrev pub reportBy : OptionDegree → ReportOut
-  reportBy c = reportOf (length l) settings (rowsOf l) (ledgerSums settings l) (solvedCount (scored settings l) (degrees settings l)) c
+  reportBy c = reportOf Curve (length l) settings (rowsOf l) (ledgerSums settings l) (solvedCount (scored settings l) (degrees settings l)) c
 
   pub past-chosen : reportPast (length l) settings (rowsOf l) (ledgerSums settings l) ≡ reportBy (chosenOf (scored settings l) (degrees settings l))
   unfolding reportPast
@@ -115,7 +115,7 @@ module _ (settings : Settings) (l : List Sample) (o : ReportOut) (e : o ≡ repo
   12-if-fails d w h = answered (Some (degree d)) (chosen-is S b d w) ∙ (rw h)
 
   otherwise : (d : ℕ) → IsChosen settings l d → inverseFails (ledgerSums settings l) (countOf Curve d) ≡ false
-      → o ≡ writtenBy (length l) settings (rowsOf l) d (solvedCount (scored settings l) (degrees settings l)) (solve (ledgerSums settings l) (countOf Curve d) .c) (covarianceAt (ledgerSums settings l) (rowsOf l) (countOf Curve d))
+      → o ≡ writtenBy Curve (length l) settings (rowsOf l) d (solvedCount (scored settings l) (degrees settings l)) (solve (ledgerSums settings l) (countOf Curve d) .c) (covarianceAt (ledgerSums settings l) (rowsOf l) (countOf Curve d))
   unfolding S b reportOf
   otherwise d w h = e ∙ ap (reportBy settings l) (chosen-is S b d w) ∙ (rw h)
 

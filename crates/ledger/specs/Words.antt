@@ -59,4 +59,4 @@ module _ (settings : Settings) (samples : List Sample) where
     -- Otherwise it names the chosen degree and the number of solved degrees, with that fit's coefficients, errors, bands, outliers and pruned terms,
     -- all as the ledger's samples give them.
     pub otherwise : (d : ℕ) → IsChosen d → inverseFails ledgerSums (countOf Curve d) ≡ false
-        → o ≡ writtenBy (length samples) settings (rowsOf samples) d (solvedCount scored degrees) (solve ledgerSums (countOf Curve d) .c) (covarianceAt ledgerSums (rowsOf samples) (countOf Curve d))
+        → o ≡ writtenBy Curve (length samples) settings (rowsOf samples) d (solvedCount scored degrees) (solve ledgerSums (countOf Curve d) .c) (covarianceAt ledgerSums (rowsOf samples) (countOf Curve d))

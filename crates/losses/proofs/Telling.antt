@@ -58,7 +58,7 @@ let-through q n settings rows own sums r s s′ l l′ e same f = rw (e, ← sam
 
 module _ (n : ℕ) (settings : Settings) (rows : List Row) (sums : List Float) where
   -- a number that is not 0 is what the losses are refused by
-  late : (o : OptionDegree) (r : ℕ) → r ≡ chosenRefusal o sums → (r ≡ 0 → ⊥) → lossOf n settings rows sums o ≡ lossLate n r
+  late : (o : OptionDegree) (r : ℕ) → r ≡ chosenRefusal Curve o sums → (r ≡ 0 → ⊥) → lossOf n settings rows sums o ≡ lossLate n r
   unfolding lossOf chosenRefusal
   late None r e h = ap (lossLate n) (sym e)
   late (Some d) r e h = go (inverseFails sums (countOf Curve (d .0))) _ e
@@ -67,7 +67,7 @@ module _ (n : ℕ) (settings : Settings) (rows : List Row) (sums : List Float) w
       go true w q = ap (lossLate n) (sym q)
       go false w q = absurd (h q)
 
-  chosen-whole : (d : Degree) → chosenRefusal (Some d) sums ≡ 0 → lossOf n settings rows sums (Some d) ≡ lossesBy n settings rows sums (d .0)
+  chosen-whole : (d : Degree) → chosenRefusal Curve (Some d) sums ≡ 0 → lossOf n settings rows sums (Some d) ≡ lossesBy n settings rows sums (d .0)
   unfolding lossOf chosenRefusal
   chosen-whole d e = go (inverseFails sums (countOf Curve (d .0))) _ e
     where
@@ -76,7 +76,7 @@ module _ (n : ℕ) (settings : Settings) (rows : List Row) (sums : List Float) w
       go false w q = refl
 
   -- m is what was chosen, and u scratch after it
-  module _ (s u : List Float) (m : Chosen) (ch : Chooses n settings rows sums s u m) where
+  module _ (s u : List Float) (m : Chosen) (ch : Chooses Curve (reportChoice n settings rows sums) n rows sums s u m) where
     -- 11 or 12: scratch is cleared
     pub refused-late : (m .number ≡ 0 → ⊥) → (l t : List Float) → t ≡ zeros n ++ drop n u
         → LossIs (lossPast n settings rows sums) (answers.Refused (m .number)) (contentsOf s t) (contentsOf l l)
@@ -94,7 +94,7 @@ module _ (n : ℕ) (settings : Settings) (rows : List Row) (sums : List Float) w
       unfolding lossPast
       told-by =
           let o = ch .degree z in
-          let e : chosenRefusal (Some (m .degree)) sums ≡ 0 = ap (λ d. chosenRefusal d sums) (sym o) ∙ sym (ch .number) ∙ z in
+          let e : chosenRefusal Curve (Some (m .degree)) sums ≡ 0 = ap (λ d. chosenRefusal Curve d sums) (sym o) ∙ sym (ch .number) ∙ z in
           ap (lossOf n settings rows sums) o ∙ chosen-whole (m .degree) e
 
       -- k is the count of its coefficients; the sizes of their residuals were written to scratch, which v is now

@@ -70,12 +70,12 @@ loss-answers n settings samples sums columns places scratch losses =
 
 -- ---- they answer where a report answers, and are refused by its number where it is refused
 
-written-number : (n : ℕ) (settings : Settings) (rows : List Row) (degree solved : ℕ) (c v : List Float) → reportNumber (writtenBy n settings rows degree solved c v .answer) ≡ 0
+written-number : (n : ℕ) (settings : Settings) (rows : List Row) (degree solved : ℕ) (c v : List Float) → reportNumber (writtenBy Curve n settings rows degree solved c v .answer) ≡ 0
 unfolding writtenBy
 written-number n settings rows degree solved c v = refl
 
 pub same-number : (n : ℕ) (settings : Settings) (rows : List Row) (sums : List Float) (solved : ℕ) (o : OptionDegree)
-    → lossNumber (lossOf n settings rows sums o .answer) ≡ reportNumber (reportOf n settings rows sums solved o .answer)
+    → lossNumber (lossOf n settings rows sums o .answer) ≡ reportNumber (reportOf Curve n settings rows sums solved o .answer)
 unfolding lossOf reportOf
 same-number n settings rows sums solved None = refl
 same-number n settings rows sums solved (Some d) =
@@ -114,12 +114,12 @@ same-answer n settings samples sums columns places scratch losses lent h q =
 
 -- so where a report tells a degree, it is the chosen one, and the losses are told of it
 written-degree : (n : ℕ) (settings : Settings) (rows : List Row) (e solved : ℕ) (c v : List Float) (d : Degree) (s u p : ℕ)
-    → writtenBy n settings rows e solved c v .answer ≡ reports.Report d s u p → record { 0 = e } ≡ d
+    → writtenBy Curve n settings rows e solved c v .answer ≡ reports.Report d s u p → record { 0 = e } ≡ d
 unfolding writtenBy
 written-degree n settings rows e solved c v d s u p h = cc
 
 of-chosen : (n : ℕ) (settings : Settings) (rows : List Row) (sums : List Float) (solved : ℕ) (o : OptionDegree) (d : Degree) (s u p : ℕ)
-    → reportOf n settings rows sums solved o .answer ≡ reports.Report d s u p
+    → reportOf Curve n settings rows sums solved o .answer ≡ reports.Report d s u p
     → (o ≡ Some d) × (lossOf n settings rows sums o ≡ lossesBy n settings rows sums (d .0))
 unfolding lossOf reportOf
 of-chosen n settings rows sums solved None d s u p h = absurd (let z : _≡_ {A = ℕ} 0 1 = cc in omega arith)

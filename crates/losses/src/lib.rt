@@ -71,7 +71,20 @@ pub fn losses(
     if refusal != 0 {
         return LossAnswer::Refused(refusal);
     }
-    let m = reporting::choose(n, settings, xs, ys, &sums[..SUMS], &mut *scratch);
+    let bound = settings.bound;
+    let criterion = settings.criterion;
+    let last = statistics::max_degree(bound, n);
+    let m = reporting::choose(
+        Basis::Curve,
+        n,
+        last,
+        criterion,
+        xs,
+        xs,
+        ys,
+        &sums[..SUMS],
+        &mut *scratch,
+    );
     if m.number != 0 {
         lent::clear(scratch, n);
         return LossAnswer::Refused(m.number);
@@ -79,7 +92,6 @@ pub fn losses(
     let degree = m.degree;
     let c = m.c;
     let k = degree.k(Basis::Curve);
-    let criterion = settings.criterion;
     fit::sizes(Basis::Curve, xs, xs, ys, n, k, &c, &mut *scratch);
     let total = put_losses(&*scratch, n, losses);
     lent::clear(scratch, n);
