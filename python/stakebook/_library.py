@@ -180,9 +180,9 @@ def library() -> Library:
             return Library(str(place))
     try:
         return Library(_SONAME)
-    except LibraryError as error:
+    except LibraryError:
         looked = ", ".join(str(place) for place in _places())
         raise LibraryError(
             f"no library was found: not by STAKEBOOK_LIBRARY, which is not set, not as {looked}, and not as the system's {_SONAME};"
             " install libstakebook, or run `make` in the checkout"
-        ) from error
+        ) from None
