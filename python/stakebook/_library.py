@@ -165,13 +165,17 @@ class Library:
 
 
 def _places() -> Tuple[Path, ...]:
-    """Where a library is looked for: beside the package, then where `make` puts it in a checkout."""
-    return (_HERE / _SONAME, _HERE / "libstakebook.so", _HERE.parents[1] / "target" / "lib" / "libstakebook.so")
+    """Where a library is looked for: beside the package, then PREFIX/lib of an installed one, or where `make` puts it in a checkout."""
+    if _HERE.parent.name == "dist-packages":
+        where = _HERE.parents[2] / _SONAME
+    else:
+        where = _HERE.parents[1] / "target" / "lib" / "libstakebook.so"
+    return _HERE / _SONAME, _HERE / "libstakebook.so", where
 
 
 @functools.lru_cache(maxsize=None)
 def library() -> Library:
-    """The library, loaded once: STAKEBOOK_LIBRARY's, else beside the package, else the checkout's, else the system's."""
+    """The library, loaded once: STAKEBOOK_LIBRARY's, else beside the package, else its tree's, else the system's."""
     named = os.environ.get("STAKEBOOK_LIBRARY")
     if named:
         return Library(named)

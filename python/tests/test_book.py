@@ -1185,7 +1185,7 @@ class Found(unittest.TestCase):
         self.assertEqual(done.stdout, "the library libc.so.6 has no function stakebook_open\n")
 
     def test_places(self):
-        """Beside the package, and in the checkout's target/lib; with neither and none of the system's it says where it looked."""
+        """Beside the package, in a checkout's target/lib and in an installed tree's lib; with none, nor one of the system's, it says where it looked."""
         code = "from stakebook import _library\nprint(_library.library().path)"
         library = self.library()
         with tempfile.TemporaryDirectory() as folder:
@@ -1197,6 +1197,11 @@ class Found(unittest.TestCase):
             self.assertEqual(done.returncode, 1)
             self.assertIn("LibraryError: no library was found", done.stdout)
             self.assertIn(str(Path(folder, "target", "lib", "libstakebook.so")), done.stdout)
+            installed = Path(folder, "lib", "python3", "dist-packages")
+            shutil.copytree(package, installed / "stakebook")
+            Path(folder, "lib", "libstakebook.so.1").symlink_to(library)
+            done = self.run_python(code, installed)
+            self.assertEqual((done.returncode, done.stdout), (0, f"{folder}/lib/libstakebook.so.1\n"))
             places = [Path(folder, "target", "lib", "libstakebook.so"), package / "libstakebook.so", package / "libstakebook.so.1"]
             for place in places:
                 place.parent.mkdir(parents=True, exist_ok=True)
