@@ -1226,7 +1226,7 @@ def load_tests(loader, tests, pattern):
     # a fence ends an example as a blank line does
     text = re.sub(r"^```.*$", "", path.read_text("utf-8"), flags=re.M)
     for part, section in enumerate(re.split(r"^(?=## )", text, flags=re.M)):
-        if ">>>" in section and (HAS_SCORES or "scores(" not in section):
+        if ">>>" in section and (HAS_SCORES or not re.search(r"^>>> .*\.scores\(", section, flags=re.M)):
             name = section.splitlines()[0].lstrip("# ")
             example = doctest.DocTestParser().get_doctest(section, {}, f"PYTHON.md: {name}", str(path), 0)
             tests.addTest(doctest.DocTestCase(example, optionflags=flags))
