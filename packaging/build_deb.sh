@@ -1,6 +1,6 @@
 #!/usr/bin/env bash
-# The Debian package, by dpkg's own tools: build_deb.sh VERSION JOURNAL, called by `make deb`. Its bytes hang on the files in it and on SOURCE_DATE_EPOCH,
-# which is the time of the last commit where it is not given.
+# The Debian package, by dpkg's own tools: build_deb.sh VERSION JOURNAL, called by `make deb`. Its bytes hang on the files in it, on SOURCE_DATE_EPOCH, which
+# is the time of the last commit, and on STAKEBOOK_COMMIT, which is its name; both are asked of git where they are not given.
 set -euo pipefail
 cd "$(dirname "$0")/.."
 version=$1 journal=$2
@@ -8,6 +8,7 @@ for part in target/bin/stakebook "$journal" bin/stake python/stakebook/__init__.
     [[ -f $part ]] || { echo "deb: $part is missing, and a package has all parts (docs/INSTALL.md)" >&2; exit 1; }
 done
 : "${SOURCE_DATE_EPOCH:=$(git log -1 --format=%ct)}"
+: "${STAKEBOOK_COMMIT:=$(git describe --always --dirty --abbrev=40 --exclude='*')}"
 export SOURCE_DATE_EPOCH LC_ALL=C TZ=UTC
 umask 022
 architecture=$(dpkg-architecture -qDEB_HOST_ARCH)
@@ -17,10 +18,19 @@ root=$work/root
 rm -rf "$work"
 mkdir -p "$root/DEBIAN" "$work/debian"
 
-make --silent install DESTDIR="$PWD/$root" PREFIX=/usr LIBDIR="$libdir"
+# Debian's folders, whatever the caller's are
+env -u MAKEFLAGS -u BINDIR -u INCLUDEDIR -u MANDIR -u DOCDIR -u PYTHONDIR make --silent install DESTDIR="$PWD/$root" PREFIX=/usr LIBDIR="$libdir"
 doc=$root/usr/share/doc/stakebook
 mv "$doc/NOTICE" "$doc/copyright"
 strip --strip-unneeded --remove-section=.comment --remove-section=.note "$root/usr/bin/journal"
+
+# what it was made from and by, for whoever makes it again and compares
+{
+    printf 'commit %s\nSOURCE_DATE_EPOCH %s\n' "$STAKEBOOK_COMMIT" "$SOURCE_DATE_EPOCH"
+    printf 'kit %s\n' "$(rt version 2>/dev/null || echo 'not there: the archive was given')"
+    printf 'linker %s\n%s\n' "$(ld --version | sed 1q)" "$(rustc --version)"
+    sha256sum target/staticlib/libcapi.a | sed 's,^\([^ ]*\) .*,sha256 of libcapi.a \1,'
+} >"$doc/BUILT"
 
 # the changelog that dpkg's tools take name and version from; what changed is told in the repository
 maintainer=$(sed -n 's/^Maintainer: //p' packaging/debian/control)

@@ -20,8 +20,10 @@ same() {
     diff "$2" "$3" >"$work/difference" || { head -n 20 "$work/difference"; fail "$1"; }
 }
 
+# for both builds, one of which has no repository
 export SOURCE_DATE_EPOCH=${SOURCE_DATE_EPOCH:-$(git log -1 --format=%ct)}
-make --silent all
+export STAKEBOOK_COMMIT=${STAKEBOOK_COMMIT:-$(git describe --always --dirty --abbrev=40 --exclude='*')}
+make --silent all journal
 version=$(sed -n 's/^#define STAKEBOOK_VERSION "\(.*\)"$/\1/p' include/stakebook.h)
 soname=libstakebook.so.${version%%.*}
 numbers=$(printf '#include "include/stakebook.h"\nSTAKEBOOK_VERSION_MAJOR.STAKEBOOK_VERSION_MINOR.STAKEBOOK_VERSION_PATCH\n' | cc -E -P -x c - | tail -n 1 | tr -d ' ')
@@ -63,6 +65,7 @@ echo "install: $(wc -l <"$work/header") functions are exported, those of the hea
 prefix=/opt/stakebook
 root=$work/root
 make --silent install PREFIX=$prefix DESTDIR="$root" 2>"$work/left_out"
+same "an installation leaves programs out" /dev/null "$work/left_out"
 [[ $(cd "$root" && find . -maxdepth 2 -mindepth 2) == "./opt/stakebook" ]] || fail "something is installed outside $prefix"
 for link in libstakebook.so:$soname $soname:libstakebook.so.$version; do
     [[ $(readlink "$root$prefix/lib/${link%:*}") == "${link#*:}" ]] || fail "${link%:*} is no link to ${link#*:}"
@@ -79,12 +82,12 @@ grep -qxF 'coefficients 3FF0000000000000 4000000000000000 0000000000000000' docs
 grep -qF 'answered is 3, with -113.35496093152223 (30 tests; a limit of 29 gives 16)' include/stakebook.h || fail "the header has another example of a split"
 echo '1 + 2 x' >"$work/line"
 
-# Builds and runs the consumers against what is installed under a root, whose pkg-config file lies in a folder of it.
+# Builds and runs the consumers against what is installed under a root, whose libraries lie in a folder of it: shared, static or both.
 consumers() {
     local lib=$1/$2 how
     export PKG_CONFIG_SYSROOT_DIR=$1 PKG_CONFIG_LIBDIR=$lib/pkgconfig PKG_CONFIG_ALLOW_SYSTEM_CFLAGS=1 PKG_CONFIG_ALLOW_SYSTEM_LIBS=1
     [[ $(pkg-config --modversion stakebook) == "$version" ]] || fail "pkg-config has another version than the header, $version"
-    for how in shared static; do
+    for how in "${@:3}"; do
         (
             cd "$work/empty"
             if [[ $how == static ]]; then flags="-static $(pkg-config --static --cflags --libs stakebook)"; else flags=$(pkg-config --cflags --libs stakebook); fi
@@ -105,7 +108,7 @@ consumers() {
         same "the manual page's example, $how, prints something else" "$work/line" "$work/page"
     done
 }
-consumers "$root" $prefix/lib
+consumers "$root" $prefix/lib shared static
 echo "install: consumers in C and C++, shared and static, answer as the documents and the judge"
 
 # ---- the Debian package: built, and installed into a root of its own
@@ -117,7 +120,7 @@ field() { dpkg-deb --field "target/$package" "$1"; }
 [[ $(field Depends) == *"libc6 (>= "* && $(field Depends) == *"python3 (>= 3.8)"* ]] || fail "the package depends on $(field Depends)"
 [[ $(field Recommends) == "python3-numpy, python3-matplotlib" ]] || fail "the package recommends $(field Recommends)"
 
-# Where this runs as root, dpkg itself installs and removes it; what it depends on is this machine's. No script of the package does anything in another root.
+# Where this runs as root, dpkg itself installs and removes it. What it depends on is not in that root, and its scripts do nothing there.
 debian=$work/debian
 mkdir -p "$debian/var/lib/dpkg/info" "$debian/var/lib/dpkg/updates"
 touch "$debian/var/lib/dpkg/status"
@@ -134,7 +137,7 @@ find "$debian/usr" ! -type l \( -perm /022 -o ! -perm -444 \) >"$work/modes"
 same "files of the package that not all can read, or others can write" /dev/null "$work/modes"
 dpkg-deb --contents "target/$package" | awk '$2 != "root/root"' >"$work/owners"
 same "files of the package that are not root's" /dev/null "$work/owners"
-consumers "$debian" "$libdir"
+consumers "$debian" "$libdir" shared
 echo "install: $package is installed in a root of its own, and its consumers answer the same"
 
 # ---- programs and manual pages, as they were installed
@@ -163,10 +166,27 @@ same "the installed stakebook has another listing" crates/stakebook/stdout "$wor
 "$debian/usr/bin/journal" <examples/c/season.calls >"$work/season"
 same "the installed journal is not as the judge" examples/c/season.answers "$work/season"
 
+# stake(1) has the commands and options that the installed command itself has, and no others
+export PYTHONDONTWRITEBYTECODE=1
+stake=$debian/usr/bin/stake
+"$stake" --help | sed -n '/^commands:/,/^$/ s/^    \([a-z]\+\) .*/\1/p' | sort >"$work/commands"
+sed -n '/^\.SH COMMANDS/,/^\.SH OPTIONS/ s/^\.B \([a-z]\+\) .*/\1/p' packaging/man/stake.1 | sort >"$work/described"
+same "stake(1) describes other commands than stake has" "$work/commands" "$work/described"
+while read -r command; do "$stake" "$command" --help; done <"$work/commands" | grep -oE -- '--[a-z][a-z-]*' | sort -u >"$work/options"
+sed 's/\\-/-/g' packaging/man/stake.1 | grep -oE -- '--[a-z][a-z-]*' | sort -u >"$work/described"
+same "stake(1) describes other options than stake has" "$work/options" "$work/described"
+
+# its example, from a CSV file to a page, in an empty folder
+mkdir "$work/pit"
+cp examples/pit.csv "$work/pit"
+sed -n '/^\.SH EXAMPLES/,$ { /^\.EX$/,/^\.EE$/ { /^\.E[XE]$/d; s/\\-/-/g; p } }' packaging/man/stake.1 >"$work/example"
+(cd "$work/pit" && PATH=$debian/usr/bin:$PATH bash -e "$work/example") >"$work/report" 2>&1 || { cat "$work/report"; fail "the example of stake(1) does not run"; }
+[[ -s $work/pit/pit.season && -s $work/pit/pit.html ]] || fail "the example of stake(1) makes no season or no page"
+
 # the Python package, by Debian's own Python and its standard library alone: the line through (0, 1) and (1, 3)
 line='import sys, stakebook; b = stakebook.Book(); b.add(0, 1); b.add(1, 3); sys.exit(list(b.fit(1).coefficients) != [1, 2])'
 for python in "$root$prefix" "$debian/usr"; do
-    PYTHONDONTWRITEBYTECODE=1 PYTHONPATH=$python/lib/python3/dist-packages /usr/bin/python3 -c "$line" || fail "the installed Python package has another line"
+    PYTHONPATH=$python/lib/python3/dist-packages /usr/bin/python3 -S -c "$line" || fail "the installed Python package has another line"
 done
 echo "install: programs, Python and $(find "$debian/usr/share/man" -type f | wc -l) manual pages are in order"
 
