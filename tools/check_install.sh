@@ -168,11 +168,18 @@ same "the installed journal is not as the judge" examples/c/season.answers "$wor
 
 # stake(1) has the commands and options that the installed command itself has, and no others
 export PYTHONDONTWRITEBYTECODE=1
-stake=$debian/usr/bin/stake
-"$stake" --help | sed -n '/^commands:/,/^$/ s/^    \([a-z]\+\) .*/\1/p' | sort >"$work/commands"
+"$debian/usr/bin/stake" --help | sed -n '/^commands:/,/^$/ s/^    \([a-z]\+\) .*/\1/p' | sort >"$work/commands"
 sed -n '/^\.SH COMMANDS/,/^\.SH OPTIONS/ s/^\.B \([a-z]\+\) .*/\1/p' packaging/man/stake.1 | sort >"$work/described"
 same "stake(1) describes other commands than stake has" "$work/commands" "$work/described"
-while read -r command; do "$stake" "$command" --help; done <"$work/commands" | grep -oE -- '--[a-z][a-z-]*' | sort -u >"$work/options"
+PYTHONPATH=$debian/usr/lib/python3/dist-packages /usr/bin/python3 -c '
+import sys
+from stakebook.command import main
+for command in sys.stdin.read().split():
+    try:
+        main([command, "--help"])
+    except SystemExit:
+        pass
+' <"$work/commands" | grep -oE -- '--[a-z][a-z-]*' | sort -u >"$work/options"
 sed 's/\\-/-/g' packaging/man/stake.1 | grep -oE -- '--[a-z][a-z-]*' | sort -u >"$work/described"
 same "stake(1) describes other options than stake has" "$work/options" "$work/described"
 
