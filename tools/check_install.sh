@@ -20,6 +20,9 @@ same() {
     diff "$2" "$3" >"$work/difference" || { head -n 20 "$work/difference"; fail "$1"; }
 }
 
+# the example of a manual page, as it is typed
+example() { sed -n '/^\.SH EXAMPLES/,$ { /^\.EX$/,/^\.EE$/ { /^\.E[XE]$/d; s/\\-/-/g; s/\\(aq/'\''/g; s/\\e/\\/g; p } }' "packaging/man/$1"; }
+
 # for both builds, one of which has no repository
 export SOURCE_DATE_EPOCH=${SOURCE_DATE_EPOCH:-$(git log -1 --format=%ct)}
 export STAKEBOOK_COMMIT=${STAKEBOOK_COMMIT:-$(git describe --always --dirty --abbrev=40 --exclude='*')}
@@ -75,7 +78,7 @@ cmp include/stakebook.h "$root$prefix/include/stakebook.h"
 mkdir "$work/empty"
 cp packaging/consumers/consumer.c packaging/consumers/consumer.cpp examples/c/season.c examples/c/printed.h "$work/empty"
 # the example of the manual page: a line through two samples
-sed -n '/^\.SH EXAMPLES/,$ { /^\.EX$/,/^\.EE$/ { /^\.E[XE]$/d; s/\\e/\\/g; p } }' packaging/man/stakebook.3 >"$work/empty/page.c"
+example stakebook.3 >"$work/empty/page.c"
 
 # The consumers' answers: those of docs/JOURNAL.md, of the header's words on a split, and of the judge. Where a document changes, so must `expected`.
 grep -qxF 'coefficients 3FF0000000000000 4000000000000000 0000000000000000' docs/JOURNAL.md || fail "docs/JOURNAL.md has another example"
@@ -166,6 +169,13 @@ same "the installed stakebook has another listing" crates/stakebook/stdout "$wor
 "$debian/usr/bin/journal" <examples/c/season.calls >"$work/season"
 same "the installed journal is not as the judge" examples/c/season.answers "$work/season"
 
+# the examples of their pages: the mean by weights of 0 and 4 is 3, and the journal's answers stand below its prompt
+by_hand() { PATH=$debian/usr/bin:$PATH bash -e -c "$1"; }
+by_hand "$(example stakebook.1)" | sed -n 's/^\(n\|degree\|c 0\) \([0-9A-F]*\).*/\2/p' >"$work/listing"
+same "the example of stakebook(1) prints something else" <(printf '2\n0\n4008000000000000\n') "$work/listing"
+by_hand "$(example journal.1 | sed -n 's/^\$ //p')" >"$work/listing"
+same "the example of journal(1) prints something else" <(example journal.1 | sed '/^\$ /d') "$work/listing"
+
 # stake(1) has the commands and options that the installed command itself has, and no others
 export PYTHONDONTWRITEBYTECODE=1
 "$debian/usr/bin/stake" --help | sed -n '/^commands:/,/^$/ s/^    \([a-z]\+\) .*/\1/p' | sort >"$work/commands"
@@ -186,8 +196,8 @@ same "stake(1) describes other options than stake has" "$work/options" "$work/de
 # its example, from a CSV file to a page, in an empty folder
 mkdir "$work/pit"
 cp examples/pit.csv "$work/pit"
-sed -n '/^\.SH EXAMPLES/,$ { /^\.EX$/,/^\.EE$/ { /^\.E[XE]$/d; s/\\-/-/g; p } }' packaging/man/stake.1 >"$work/example"
-(cd "$work/pit" && PATH=$debian/usr/bin:$PATH bash -e "$work/example") >"$work/report" 2>&1 || { cat "$work/report"; fail "the example of stake(1) does not run"; }
+example=$(example stake.1)
+(cd "$work/pit" && by_hand "$example") >"$work/report" 2>&1 || { cat "$work/report"; fail "the example of stake(1) does not run"; }
 [[ -s $work/pit/pit.season && -s $work/pit/pit.html ]] || fail "the example of stake(1) makes no season or no page"
 
 # the Python package, by Debian's own Python and its standard library alone: the line through (0, 1) and (1, 3)
