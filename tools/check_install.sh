@@ -161,7 +161,7 @@ done
 gzip -dc "$debian/usr/share/man/man3/stakebook.3.gz" >"$work/page"
 grep -o '^\.BR\? stakebook_[a-z0-9_]*' "$work/page" | sed 's/.* //' | sort -u | comm -23 "$work/header" - >"$work/missing"
 same "functions that stakebook(3) does not name" /dev/null "$work/missing"
-MANWIDTH=4000 man --local-file "$work/stakebook.3" | sed 's/’/'\''/g' | grep -oE '^ +[0-9]+ +[a-z].*' | sed -E 's/^ +([0-9]+) +/\1\t/' >"$work/refusals"
+MANWIDTH=4000 man --local-file "$work/stakebook.3" | grep -oE '^ +[0-9]+ +[a-z].*' | sed -E 's/^ +([0-9]+) +/\1\t/' >"$work/refusals"
 same "stakebook(3) has other words for the refusals" include/refusals.txt "$work/refusals"
 
 "$debian/usr/bin/stakebook" <crates/stakebook/stdin >"$work/listing"
