@@ -20,7 +20,8 @@ from . import season as seasons
 from ._library import LibraryError, Refused
 from .importing import RefusedField, decimal_point, read_table
 from .results import Report, Scores, Split, Validation
-from .season import Call, Numbers, Reading, RefusedName, RefusedRow, RefusedText, Season, SeasonError, SettingsText, counted
+from .season import Call, Reading, RefusedName, RefusedRow, Season
+from .seasonfile import NotSaved, Numbers, RefusedText, SeasonError, SettingsText, counted
 from .settings import Settings, plain
 
 #: A Debian package for each module that the pictures need.
@@ -432,8 +433,7 @@ def _term(power: int) -> str:
     return ("1", "x")[power] if power < 2 else f"x^{power}"
 
 
-def _named(season: Season, index: int) -> str:
-    reading = season.standing[index]
+def _named(reading: Reading) -> str:
     return f"{reading.name} ({reading.called})" if reading.called else reading.name
 
 
@@ -462,7 +462,8 @@ def _band_words(season: Season, report: Report) -> str:
     settings = report.settings
     tolerance = "" if settings.tolerance is None else f", with the tolerance {settings.tolerance[0]} {_six(settings.tolerance[1])}"
     words = f"The band ({_confidence_words(settings)}{tolerance}) is where the curve itself lies, not where single readings do. "
-    outside = [_named(season, index) for index in report.outside]
+    standing = season.standing
+    outside = [_named(standing[index]) for index in report.outside]
     if outside:
         words += f"Outside it {'lies' if len(outside) == 1 else 'lie'} {len(outside):,} of {counted(report.n, 'reading')}: {', '.join(outside)}."
     else:
@@ -487,13 +488,14 @@ def _report(arguments: argparse.Namespace) -> int:
         with _Progress("looking for the break"):
             split = season.book.split(settings, arguments.limit)
     warnings = season.warnings(report, scores, split)
+    standing = season.standing
     if arguments.json:
         _say_json(
             {
                 "season": season.path,
-                "readings": [reading.name for reading in season.standing],
+                "readings": [reading.name for reading in standing],
                 "report": report.as_dict(),
-                "outside": [season.standing[index].name for index in report.outside],
+                "outside": [standing[index].name for index in report.outside],
                 "scores": {**scores.as_dict(), "within": scores.within},
                 "bands": [band.as_dict() for band in bands],
                 "validation": validation and validation.as_dict(),
@@ -512,7 +514,7 @@ def _report(arguments: argparse.Namespace) -> int:
     if validation is not None:
         _say("\n" + validation.summary())
     if split is not None:
-        first, last = _named(season, split.at - 1), _named(season, split.at)
+        first, last = _named(standing[split.at - 1]), _named(standing[split.at])
         _say(f"\nThe list breaks between {first} and {last} (total {_six(split.total)}, {counted(split.tests, 'pivot test')}):")
         for words, count, degree, coefficients in (("before", split.at, split.degree_before, split.before), ("after", split.n - split.at, split.degree_after, split.after)):
             terms = " ".join(f"{_six(c)} {_term(i)}" if i else _six(c) for i, c in enumerate(coefficients))
@@ -677,7 +679,7 @@ def _run(arguments: argparse.Namespace, parser: argparse.ArgumentParser) -> int:
         parser.error(str(error))
     except (SeasonError, LibraryError) as error:
         _tell(str(error))
-        if arguments.changes and arguments.command != "new" and not isinstance(error, seasons.NotSaved):
+        if arguments.changes and arguments.command != "new" and not isinstance(error, NotSaved):
             _tell("the season is unchanged")
         return 1
 

@@ -8,7 +8,8 @@ import os
 import struct
 from typing import List
 
-from .season import Season, SeasonError, counted
+from .season import Season
+from .seasonfile import SeasonError, counted
 from .settings import Settings
 
 #: The most readings of a frame, whose length has 16 bits.

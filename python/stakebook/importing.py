@@ -14,7 +14,8 @@ import sys
 from dataclasses import dataclass
 from typing import Dict, Iterable, List, Optional, Sequence, Tuple
 
-from .season import NewRow, Numbers, RefusedText, SeasonError
+from .season import NewRow
+from .seasonfile import Numbers, RefusedText, SeasonError
 
 #: Headings by which a column is found without an option. Case, and what stands in brackets, do not count.
 X_NAMES = ("x", "depth", "tiefe", "profondeur", "profondità", "profondita")
@@ -98,7 +99,7 @@ def _begin(text: str, source: str) -> Tuple[str, int, str]:
     """From its heading on: the text, how many lines stand before, and the delimiter. Lines of comment before the heading, and Excel's `sep=` line, are passed over."""
     lines = io.StringIO(text, newline="")
     before = at = 0
-    delimiter = None
+    delimiter: Optional[str] = None
     for line in lines:
         content = line.strip("\r\n")
         told = re.fullmatch(r"sep=([,;\t])", content)
