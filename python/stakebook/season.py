@@ -24,8 +24,8 @@ from .seasonfile import (
     append_all,
     checked,
     counted,
-    entry_of,
     lock,
+    number_and_entry,
     opened,
     quoted,
     read_all,
@@ -136,16 +136,18 @@ class Call:
         return ("a new season: " if self.call == "new" else "settings: ") + words
 
 
-def judge_settings(text: SettingsText, numbers: Numbers) -> None:
+def _judged(settings: Union[Settings, SettingsText], numbers: Numbers) -> SettingsText:
     """Has the library refuse settings by which a report would be refused, by 4 or 8, however the readings are. A bound is capped by the readings less
     one, so that a degree above 15 is judged from 17 on."""
+    meant = settings.meant(numbers) if isinstance(settings, SettingsText) else settings
     book = Book(17)
     book.extend(range(17), [0.0] * 17)
     try:
-        book.report(text.meant(numbers))
+        book.report(meant)
     except Refused as refused:
         if refused.number in (4, 8):
             raise
+    return settings if isinstance(settings, SettingsText) else SettingsText.of(settings)
 
 
 class NewRow(NamedTuple):
@@ -257,8 +259,7 @@ class Season:
     ) -> "Season":
         """A new season, in a file that was not there."""
         path = os.fspath(path)
-        text = settings if isinstance(settings, SettingsText) else SettingsText.of(settings)
-        judge_settings(text, Numbers())
+        text = _judged(settings, Numbers())
         data = checked(FIRST) + checked(f"2 {text.body}{tail(source, note)}".encode())
         try:
             descriptor = os.open(path, os.O_WRONLY | os.O_CREAT | os.O_EXCL | os.O_APPEND | os.O_CLOEXEC, 0o666)
@@ -503,13 +504,13 @@ class Season:
             if unsolved[0] < different:
                 said.append(f"{words}: x lies far from 0 beside its spread. Subtract the middle of the x's from every x, and all may be.")
             else:
-                said.append(f"{words}: there are {counted(different, 'different x')}, and a degree needs one more than its number.")
+                said.append(f"{words}: there are {counted(different, 'different value')} of x, and a degree needs one more than its number.")
         if report.df == 0:
             said.append("There are as many coefficients as readings: the curve goes through all of them, and its errors and band say nothing.")
         outside = sum(report.outliers)
         if outside:
             said.append(
-                f"{outside:,} of {counted(n, 'reading')} lie outside the band. It is the band of the mean curve: it says where the curve lies, not where single"
+                f"{outside:,} of {counted(n, 'reading')} {'lies' if outside == 1 else 'lie'} outside the band. It is the band of the mean curve: it says where the curve lies, not where single"
                 " readings do, and grows narrower with more of them. So a mark is no sign of a bad reading."
             )
         if split is not None and min(split.at, split.n - split.at) < MANY:
@@ -541,18 +542,18 @@ class Season:
             begin = b"" if self._ended else CLOSES
             bodies = [f"left-out {self._torn_from} {self._lines}{tail(None, None)}"] + bodies
         lines = [checked(f"{place + i} {body}".encode()) for i, body in enumerate(bodies)]
-        entries = [entry_of(place + i, line[:-1]) for i, line in enumerate(lines)]
+        entries = [number_and_entry(line[:-1]) for line in lines]
         if None in entries:
             raise SeasonError(f"{bodies[entries.index(None)]!r} can't be a line of a season")
         data = begin + b"".join(lines)
         append_all(descriptor, self.path, data)
         self._known = _state(descriptor)
         pending: List[str] = []
-        taken = [(place + i, entry[0], entry[1]) for i, entry in enumerate(entries) if entry is not None]
+        taken = [(place + i, *entry[1]) for i, entry in enumerate(entries) if entry is not None]
         if self._torn_from is not None:
-            # The words of the tail stay; the line that tells of it now says the same.
+            # From now on it is a line of the file that tells of the tail.
+            self.left_out.remove(self.torn or "")
             self._take(*taken.pop(0), (), pending)
-            self.left_out.pop()
         self._lines, self._ended, self._torn_from, self.torn = place + len(lines) - 1, True, None, None
         call = self._take(*taken[0], [(line, fields) for line, _, fields in taken[1:]], pending)
         self._numbers.read(pending)
@@ -646,8 +647,7 @@ class Season:
 
     def set(self, settings: Union[Settings, SettingsText], source: Optional[str] = None, note: Optional[str] = None) -> None:
         """Other settings from here on."""
-        text = settings if isinstance(settings, SettingsText) else SettingsText.of(settings)
-        judge_settings(text, self._numbers)
+        text = _judged(settings, self._numbers)
         with self._writing() as descriptor:
             self._append(descriptor, [text.body + tail(source, note)])
 

@@ -155,8 +155,8 @@ def checked(body: bytes) -> bytes:
     return b"%b %08x\n" % (body, zlib.crc32(body))
 
 
-def entry_of(place: int, raw: bytes) -> Entry:
-    """A line's word and fields, its newline not in `raw`; None if it is not good."""
+def number_and_entry(raw: bytes) -> Optional[Tuple[str, Tuple[str, Tuple[Any, ...]]]]:
+    """The number that a line says, and its word and fields, if its check is right and it is of a form. Its newline is not in `raw`."""
     body = raw[:-9]
     if raw[-9:] != b" %08x" % zlib.crc32(body):
         return None
@@ -166,7 +166,7 @@ def entry_of(place: int, raw: bytes) -> Entry:
         return None
     form = _FORMS.get(word)
     match = form.fullmatch(rest) if form is not None else None
-    return (word, match.groups()) if match is not None and number == str(place) else None
+    return (number, (word, match.groups())) if match is not None else None
 
 
 def _why(place: int, raw: bytes, ended: bool) -> str:
@@ -284,7 +284,16 @@ class Scan:
             self.raw.pop()
         self._first_lines(data)
         self.entries: List[Entry] = [None, None]
-        self.entries += [entry_of(place, raw) for place, raw in enumerate(self.raw[1:], 2)]
+        #: Calls on another line than they say: no cut-off write leaves these.
+        self.moved: Set[int] = set()
+        for place, raw in enumerate(self.raw[1:], 2):
+            found = number_and_entry(raw)
+            if found is not None and found[0] == str(place):
+                self.entries.append(found[1])
+            else:
+                self.entries.append(None)
+                if found is not None and found[1][0] != "row":
+                    self.moved.add(place)
         if not self.ended:
             self.entries[-1] = None
         #: Lines marked by a `left-out` line.
@@ -299,7 +308,7 @@ class Scan:
         self.damaged: List[int] = []
         broken = self._first_broken()
         if broken is not None:
-            if any(entry is not None and entry[0] != "row" for entry in self.entries[broken + 1 :]):
+            if self.moved - self.marked or any(entry is not None and entry[0] != "row" for entry in self.entries[broken + 1 :]):
                 self.damaged = self._all_bad()
             else:
                 self.torn = broken
@@ -310,7 +319,7 @@ class Scan:
 
     def _first_lines(self, data: bytes) -> None:
         cut_off = f"{self.path}: the season was cut off while it was made, before anything was in it: remove the file and make it again"
-        if self.raw[0] + b"\n" != checked(FIRST):
+        if not self.raw or self.raw[0] + b"\n" != checked(FIRST):
             if checked(FIRST).startswith(data):
                 raise SeasonError(cut_off)
             if self.raw[0].rstrip(b"\r") + b"\n" == checked(FIRST):
@@ -428,16 +437,19 @@ def read_all(descriptor: int, path: str) -> bytes:
         if not part:
             return b"".join(parts)
         # A large file that was named by mistake is not read to its end.
-        if at == 0 and part[: len(FIRST)] != FIRST[: len(part)]:
+        if at == 0 and part[: len(FIRST) - 1] != FIRST[:-1][: len(part)]:
             _no_season(path, part)
         parts.append(part)
         at += len(part)
 
 
 def _no_season(path: str, begin: bytes) -> NoReturn:
-    if begin.startswith(FIRST[:-1]):
-        version = begin[len(FIRST) - 1 :].split(b" ")[0][:20].decode("utf-8", "replace")
-        raise SeasonError(f"{path}: the season is of version {version}, and this program reads version 1")
+    line = begin.split(b"\n")[0][:100]
+    body = line[:-9]
+    if body.startswith(FIRST[:-1]) and checked(body) == line + b"\n":
+        raise SeasonError(f"{path}: the season is of version {body[len(FIRST) - 1 :].decode('utf-8', 'replace')}, and this program reads version 1")
+    if line.startswith(FIRST):
+        raise SeasonError(f"{path}: line 1 is damaged: it does not match its check")
     raise SeasonError(f"{path}: it is no season: its first line does not begin with 'stake season 1'")
 
 
