@@ -305,7 +305,7 @@ def _import(arguments: argparse.Namespace) -> int:
     names = readings[0].name if len(readings) == 1 else f"{readings[0].name} to {readings[-1].name}"
     weight = f"weight {table.columns[2]!r}" if table.columns[2] else "weight 1"
     comma = ", decimal comma" if table.decimal_comma else ""
-    encoding = f", read as {table.encoding.title()}" if table.encoding == "windows-1252" else ""
+    encoding = "" if table.encoding == "UTF-8" else f", {table.encoding}"
     _say(f"{season.path}: {counted(len(readings), 'reading')} saved from {table.source}, {names}")
     _say(f"  x {table.columns[0]!r}, y {table.columns[1]!r}, {weight} ({table.delimiter}{comma}{encoding})")
     if left:

@@ -15,7 +15,7 @@ from dataclasses import dataclass
 from typing import Dict, Iterable, List, Optional, Sequence, Tuple
 
 from .season import NewRow
-from .seasonfile import Numbers, RefusedText, SeasonError
+from .seasonfile import Numbers, RefusedText, SeasonError, counted
 
 #: Headings by which a column is found without an option. Case, and what stands in brackets, do not count.
 X_NAMES = ("x", "depth", "tiefe", "profondeur", "profondità", "profondita")
@@ -76,23 +76,24 @@ def read_bytes(path: str) -> bytes:
 
 
 def _decoded(data: bytes, source: str) -> Tuple[str, str]:
-    """The text, and by which encoding."""
+    """The text, and by which encoding. A byte order mark says which; without one it is UTF-8, and what is not that is Windows' of western Europe."""
     if data.startswith((codecs.BOM_UTF16_LE, codecs.BOM_UTF16_BE)):
-        encodings = ["utf-16"]
+        encodings, mark = ["UTF-16"], 0
     elif data.startswith(codecs.BOM_UTF8):
-        encodings = ["utf-8-sig"]
+        encodings, mark = ["UTF-8"], len(codecs.BOM_UTF8)
     else:
-        encodings = ["utf-8", "windows-1252"]
+        encodings, mark = ["UTF-8", "Windows-1252"], 0
+    line = 1
     for encoding in encodings:
         try:
-            text = data.decode(encoding)
+            text = data[mark:].decode(encoding)
         except UnicodeDecodeError as error:
-            line = data.count(b"\n", 0, error.start) + 1
+            line = data.count(b"\n", 0, mark + error.start) + 1
             continue
         if "\0" in text:
             raise TableError(f"{source}:{text.count(chr(10), 0, text.index(chr(0))) + 1}: it has a byte 0, and so it is no text")
         return text, encoding
-    raise TableError(f"{source}:{line}: it is not {' or '.join(encodings).upper()}")
+    raise TableError(f"{source}:{line}: it is {'not ' + encodings[0] if len(encodings) == 1 else 'neither ' + ' nor '.join(encodings)}")
 
 
 def _begin(text: str, source: str) -> Tuple[str, int, str]:
@@ -176,7 +177,7 @@ def read_table(
                 while len(fields) > len(headings) and not fields[-1]:
                     fields.pop()
                 if len(fields) != len(headings):
-                    raise TableError(f"{source}:{line}: it has {len(fields)} fields, and the heading has {len(headings)}")
+                    raise TableError(f"{source}:{line}: it has {counted(len(fields), 'field')}, and the heading has {len(headings)}")
                 values = {key: fields[column] for key, column in numbers.items()}
                 if any(value.casefold() in absent for value in values.values()):
                     left.append(line)
