@@ -165,13 +165,17 @@ class Library:
 
 
 def _places() -> Tuple[Path, ...]:
-    """Where a library is looked for: beside the package, then where `make` puts it in a checkout."""
-    return (_HERE / _SONAME, _HERE / "libstakebook.so", _HERE.parents[1] / "target" / "lib" / "libstakebook.so")
+    """Where a library is looked for: beside the package, then PREFIX/lib of an installed one, or where `make` puts it in a checkout."""
+    if _HERE.parent.name == "dist-packages":
+        where = _HERE.parents[2] / _SONAME
+    else:
+        where = _HERE.parents[1] / "target" / "lib" / "libstakebook.so"
+    return _HERE / _SONAME, _HERE / "libstakebook.so", where
 
 
 @functools.lru_cache(maxsize=None)
 def library() -> Library:
-    """The library, loaded once: STAKEBOOK_LIBRARY's, else beside the package, else the checkout's, else the system's."""
+    """The library, loaded once: STAKEBOOK_LIBRARY's, else beside the package, else its tree's, else the system's."""
     named = os.environ.get("STAKEBOOK_LIBRARY")
     if named:
         return Library(named)
@@ -180,9 +184,9 @@ def library() -> Library:
             return Library(str(place))
     try:
         return Library(_SONAME)
-    except LibraryError as error:
+    except LibraryError:
         looked = ", ".join(str(place) for place in _places())
         raise LibraryError(
             f"no library was found: not by STAKEBOOK_LIBRARY, which is not set, not as {looked}, and not as the system's {_SONAME};"
             " install libstakebook, or run `make` in the checkout"
-        ) from error
+        ) from None

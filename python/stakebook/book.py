@@ -207,6 +207,12 @@ class Book:
         with self._lock:
             return self._ws[: self._count].tolist()
 
+    @property
+    def sums(self) -> List[float]:
+        """The 272 sums over the readings, 16 rows of 16 and then 16 more, a copy."""
+        with self._lock:
+            return self._sums.tolist()
+
     def columns(self) -> Tuple[Any, Any, Any]:
         """x's, y's and weights without a copy: numpy arrays where numpy is there, else memoryviews. They can't be written, and are to be
         taken anew after a change: they show the book's memory as it is at the time, and the readings that it had."""
@@ -332,6 +338,15 @@ class Book:
         # Nothing but ASCII passes the library's reader, so that the encoding is of no account.
         lines = text.encode("utf-8", "surrogatepass") if isinstance(text, str) else bytes(text)
         return self._change(False, self._library.add_lines, lines, len(lines))
+
+    def add_frame(self, frame: bytes) -> int:
+        """The samples of a frame as a logger sends it, of version 1 or 2, all or none; answers the new count.
+
+        >>> Book().add_frame(bytes.fromhex("0011013FF4CCCCCCCCCCCD4074B00000000000"))
+        1
+        """
+        frame = bytes(frame)
+        return self._change(False, self._library.add_frame, frame, len(frame))
 
     def add_window(self, x: float, y: float, weight: float = 1.0) -> int:
         """One reading at the end; a full book first loses its oldest, so that it keeps the latest ones. Answers the count.
@@ -512,7 +527,19 @@ class Book:
             return Losses(settings, n, answer, self._lower[:n].tolist(), total, score)
 
     def scores(self, settings: Settings = _DEFAULT) -> Scores:
-        """Of each degree within the bound whether it is solved and its score, and which is chosen: why a report chooses as it does."""
+        """Of each degree within the bound whether it is solved and its score, and which is chosen: why a report chooses as it does.
+
+        >>> book = Book()
+        >>> book.extend([0.1, 0.3, 0.5, 0.7, 0.9, 1.1], [212, 240.5, 251, 287, 290, 322.5])
+        6
+        >>> print(book.scores(Settings(bound=3, criterion="aic")).summary())
+        6 readings, degrees 0 to 3: 4 solved, degree 1 chosen
+        degree      AIC  above least
+        0       35.2561      11.4362
+        1       23.8198            0  chosen
+        2       33.9846      10.1648
+        3       63.2789      39.4591
+        """
         call = self._library.scores
         if call is None:
             raise LibraryError(f"the library {self._library.path} has no function stakebook_scores: it is of an earlier version")

@@ -113,6 +113,10 @@ class Settings:
         values = (ctypes.c_double * 2)(score, value)
         return Codes((words, 6, values, 2), (bound, most, criterion), (confidence, score, tolerance, value))
 
+    def __reduce__(self) -> Tuple[Any, ...]:
+        # The codes are made anew: they are the library's lists, and no part of what was asked.
+        return Settings, (self.bound, self.criterion, self.confidence, self.tolerance, self.pruning)
+
     def summary(self) -> str:
         """In one line."""
         bound = f"degrees up to {self.bound}" if isinstance(self.bound, int) else f"bound {self.bound}"
