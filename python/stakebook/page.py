@@ -65,7 +65,7 @@ def _section(name: str, heading: str, *content: Any) -> Html:
 
 def _summary(season: Any, view: View) -> Html:
     withdrawn = sum(reading.index is None for reading in season.readings)
-    said = ["%s in force%s." % (_are(len(view.names), "reading"), ", %d withdrawn" % withdrawn if withdrawn else "")]
+    said = ["%s in force%s." % (_are(len(view.names), "reading"), ", {:,} withdrawn".format(withdrawn) if withdrawn else "")]
     paragraphs: List[Html] = []
     if view.report is None:
         if view.names:
@@ -106,7 +106,7 @@ def _report_sentences(view: View) -> List[str]:
     if not names:
         words.append("No reading lies outside it.")
     else:
-        listed = names if len(names) <= 30 else names[:30] + ["%d more, marked in the table" % (len(names) - 30)]
+        listed = names if len(names) <= 30 else names[:30] + ["{:,} more, marked in the table".format(len(names) - 30)]
         words.append("Outside it %s %s: %s." % ("lies" if len(names) == 1 else "lie", count_of(len(names), "reading"), _and(listed)))
     return words
 
@@ -185,12 +185,13 @@ def _room(columns: Sequence[str], rows: Sequence[Sequence[Cell]]) -> str:
         for row in rows:
             content, kind = row[j]
             text = re.sub("<[^>]*>", "", content) if isinstance(content, Html) else str(content)
-            if "text" in kind.split():
-                need = max(need, 17 if "source" in kind.split() else 14)  # it is broken anywhere, and has this much by the style
-            elif j == 0 or "number" in kind.split():
+            kinds = kind.split()
+            if "text" in kinds:
+                need = max(need, 14 if "source" in kinds else 13)  # it is broken anywhere, and has this much by the style
+            elif j == 0 or "number" in kinds or "whole" in kinds:
                 need = max(need, len(text))
             else:
-                need = max([need] + [len(word) for word in text.split()])
+                need = max([need, 14 if "said" in kinds else 0] + [len(word) for word in text.split()])
         total += 1 + 0.6 * need  # in units of the letters' size, with the gap
     return "small" if total < 44 else "middle" if total < 62 else "broad"
 
@@ -263,7 +264,7 @@ def _readings(season: Any, view: View) -> Html:
         marks = ["withdrawn"] if i is None else [_side(view, i)] if view.outside[i] else []
         if reading.was:
             marks.append("corrected, was %s" % ", ".join(reading.was))
-        row += [("; ".join(marks), "mark"), (reading.note or "", "text"), (reading.source or "", "text source bare")]
+        row += [("; ".join(marks), "mark said"), (reading.note or "", "text"), (reading.source or "", "text source bare")]
         rows.append(row)
         kinds.append("withdrawn" if i is None else "outside" if view.outside[i] else "")
     return _section("readings", "Readings", _table("readings", columns, rows, kinds))
@@ -280,7 +281,7 @@ def _history(season: Any) -> Html:
     for call in season.history:
         row: List[Cell] = [(call.line, "")]
         if timed:
-            row.append(((call.time or "").replace("T", " ").replace("Z", " UTC"), "time bare"))
+            row.append(((call.time or "").replace("T", " ").replace("Z", " UTC"), "whole bare"))
         text = join([element("s", call.text), " (undone)"]) if call.undone else call.text
         row += [(text, "text bare"), (call.note or "", "text"), (call.source or "", "text source bare")]
         rows.append(row)
@@ -313,11 +314,11 @@ thead { display: table-header-group; }
 thead th { border-bottom: 2px solid #767676; font-weight: 600; }
 tbody th, .mark { font-weight: 600; }
 tbody th { white-space: nowrap; }
-td.mark { min-width: 5rem; }
+td.said { min-width: 8.5em; }
 .number { text-align: right; font-variant-numeric: tabular-nums; }
-td.number { white-space: nowrap; }
-td.text { overflow-wrap: anywhere; min-width: 8rem; }
-td.source { color: #555; min-width: 10rem; font-size: 0.93em; }
+td.number, .whole { white-space: nowrap; }
+td.text { overflow-wrap: anywhere; min-width: 8em; }
+td.source { color: #555; min-width: 9em; font-size: 0.93em; }
 .chosen { background: #eaf4fb; }
 .outside { background: #fdf0e7; }
 .withdrawn, .undone { color: #595959; }
@@ -339,6 +340,7 @@ LINES
   table:not(.long) { break-inside: avoid; }
   figure { max-width: 26rem; }
   table { font-size: 8.5pt; }
+  th, td { padding: 0.2rem 0.4rem; }
   .chosen, .outside, .warnings { print-color-adjust: exact; -webkit-print-color-adjust: exact; }
 }
 """

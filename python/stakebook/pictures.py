@@ -43,7 +43,7 @@ QUIET = "#595959"
 
 GRID = 200  # x's at which the curve is asked for
 NAMES = 60  # names of readings outside the band that are tried at most: more would be a grey cloud
-AREA = 22.0  # of a mark of the commonest weight, in square points
+AREA = 22.0  # of a mark of the middle weight, in square points
 _PLACES = re.compile(r"-?[0-9]+\.[0-9]+")  # of an SVG, in points: a hundredth is below what a screen or a printer shows
 SVG = "http://www.w3.org/2000/svg"
 XLINK = "http://www.w3.org/1999/xlink"
@@ -151,7 +151,7 @@ def refusal_words(refused: Refused) -> str:
 
 def count_of(number: int, one: str, many: Optional[str] = None) -> str:
     """A number and its noun."""
-    return "%d %s" % (number, one if number == 1 else many or one + "s")
+    return "{:,} {}".format(number, one if number == 1 else many or one + "s")
 
 
 def in_short(view: View) -> str:
@@ -160,7 +160,7 @@ def in_short(view: View) -> str:
     if view.report is None:
         return words[0] + ", no report"
     words.append("degree %d by %s" % (view.report.degree, view.settings.criterion.upper()))
-    words.append("%d outside the band" % int(view.outside.sum()))
+    words.append("{:,} outside the band".format(int(view.outside.sum())))
     return ", ".join(words)
 
 
@@ -317,10 +317,11 @@ def _whole(view: View) -> Figure:
 
 def _settle(drawn: Figure, named: Sequence[Tuple[Any, View]]) -> None:
     """Lays the figure out once and for all, and then puts the names where there is room."""
-    drawn.canvas.draw()
-    if hasattr(drawn, "set_layout_engine"):
+    if hasattr(drawn, "get_layout_engine"):
+        drawn.get_layout_engine().execute(drawn)
         drawn.set_layout_engine("none")
-    else:
+    else:  # before matplotlib 3.6
+        drawn.execute_constrained_layout()
         drawn.set_constrained_layout(False)
     renderer = drawn.canvas.get_renderer()
     for axes in drawn.axes:
@@ -339,11 +340,21 @@ def _shorten(text: Any, room: float, renderer: Any) -> None:
         text.set_text(words[: max(1, int(len(words) * room / long) - 2)] + "\u2026")
 
 
+def _crowded(view: View) -> bool:
+    """Whether the marks would hide the curve: then it is drawn over them."""
+    return len(view.xs) > 250
+
+
+def _area(view: View) -> float:
+    """The area of a mark of the middle weight: smaller where there are many."""
+    return max(4.0, AREA * min(1.0, 120 / max(1, len(view.xs))) ** 0.5)
+
+
 def _areas(view: View) -> Any:
-    """A mark's area goes with its weight: the middle weight has AREA, and none is too small to be seen or as large as the picture."""
+    """A mark's area goes with its weight; none is too small to be seen or as large as the picture."""
     if len(view.ws) == 0:
         return view.ws
-    return numpy.clip(AREA * view.ws / float(numpy.median(view.ws)), 4.0, 12 * AREA)
+    return numpy.clip(_area(view) * view.ws / float(numpy.median(view.ws)), 4.0, 12 * AREA)
 
 
 def _points(axes: Any, view: View, ys: Any, kind: str) -> None:
@@ -351,7 +362,14 @@ def _points(axes: Any, view: View, ys: Any, kind: str) -> None:
     for name, chosen, colour, marker in (("inside", ~view.outside, INSIDE, "o"), ("outside", view.outside, OUTSIDE, "D")):
         if chosen.any():
             drawn = axes.scatter(
-                view.xs[chosen], ys[chosen], s=areas[chosen], c=colour, marker=marker, linewidths=0.5, edgecolors="white", zorder=3
+                view.xs[chosen],
+                ys[chosen],
+                s=areas[chosen],
+                c=colour,
+                marker=marker,
+                linewidths=0 if _crowded(view) else 0.5,
+                edgecolors="white",
+                zorder=3,
             )
             drawn.set_gid("%s-%s" % (kind, name))
 
@@ -382,7 +400,9 @@ def _band(axes: Any, view: View, kind: str, below: Any) -> None:
         curve = axes.plot(x, value - below, "_", color=CURVE, markersize=12, zorder=2)[0]
     else:
         band = axes.fill_between(x, lower - below, upper - below, color=BAND, alpha=0.3, linewidth=0, zorder=1)
-        curve = axes.plot(x, value - below, color=CURVE, linewidth=1.3, zorder=2)[0]
+        if _crowded(view):
+            axes.plot(x, value - below, color="white", linewidth=3, zorder=3.5)
+        curve = axes.plot(x, value - below, color=CURVE, linewidth=1.3, zorder=4 if _crowded(view) else 2)[0]
     band.set_gid("%s-band" % kind)
     curve.set_gid("%s-curve" % kind)
 
@@ -469,15 +489,16 @@ def _legend(view: View) -> Tuple[List[Any], List[str]]:
     def dot(area: float, colour: str = INSIDE, marker: str = "o") -> Line2D:
         return Line2D([], [], linestyle="none", marker=marker, color=colour, markersize=math.sqrt(area), markeredgecolor="white", markeredgewidth=0.5)
 
+    area = max(AREA / 2, _area(view))
     weights = sorted(set(view.ws.tolist()))
     if len(weights) > 1:
         areas = dict(zip(view.ws.tolist(), _areas(view).tolist()))
         for weight in weights if len(weights) <= 3 else [weights[0], weights[len(weights) // 2], weights[-1]]:
             entry(dot(areas[weight]), "reading, weight %.6g" % weight)
     elif weights:
-        entry(dot(AREA), "reading")
+        entry(dot(area), "reading")
     if view.outside.any():
-        entry(dot(AREA, OUTSIDE, "D"), "outside the band: %d" % int(view.outside.sum()))
+        entry(dot(area, OUTSIDE, "D"), "outside the band: {:,}".format(int(view.outside.sum())))
     if view.report is not None:
         entry(Line2D([], [], color=CURVE, linewidth=1.3), "curve, degree %d" % view.report.degree)
         entry(Patch(color=BAND, alpha=0.3, linewidth=0), "band, %s" % band_of(view.settings))
@@ -556,7 +577,7 @@ def _name_outside(axes: Any, view: View) -> None:
             left += 1
     left += max(0, len(where) - NAMES)
     if left:
-        axes.annotate("%d more outside have no room for a name" % left, (1, 0), xycoords="axes fraction", xytext=(-3, 3), textcoords="offset points", ha="right", va="bottom", fontsize=7.5, color=OUTSIDE_TEXT)
+        axes.annotate("{:,} more outside have no room for a name".format(left), (1, 0), xycoords="axes fraction", xytext=(-3, 3), textcoords="offset points", ha="right", va="bottom", fontsize=7.5, color=OUTSIDE_TEXT)
 
 
 def _hits(box: Any, others: Any) -> bool:
@@ -615,7 +636,7 @@ def _svg(drawn: Figure, view: View, prefix: str = "") -> str:
     if prefix:
         _prefix(root, prefix, named)
     for element in root.iter():
-        for key in ("d", "x", "y"):
+        for key in ("d", "x", "y", "transform"):
             value = element.get(key)
             if value is not None:
                 element.set(key, _PLACES.sub(lambda found: "%g" % round(float(found.group()), 2), value))

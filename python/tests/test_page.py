@@ -278,7 +278,9 @@ class OnPaper(Shows):
     @classmethod
     def setUpClass(cls):
         super().setUpClass()
-        cls.made.readings[5].note = "melt crust"  # a word that must be broken is found in two halves
+        # a word that must be broken is found in two halves
+        cls.made.readings[5].note = "melt crust"
+        cls.made.readings[4].note = cls.made.history[2].note = "<i> & words"
         page.write(cls.made, cls.path)
         cls.browser.show(cls.path, 1280)
         cls.pdf = os.path.join(cls.folder.name, "page.pdf")
@@ -291,6 +293,17 @@ class OnPaper(Shows):
         info = subprocess.run(["pdfinfo", self.pdf], check=True, stdout=subprocess.PIPE).stdout.decode()
         self.assertRegex(info, r"Page size: +59[45][0-9.]* x 84[12]")
         self.assertIn(len(self.pages), (2, 3, 4))
+
+    def test_nothing_is_printed_on_the_margins(self):
+        boxes = subprocess.run(["pdftotext", "-bbox", self.pdf, "-"], check=True, stdout=subprocess.PIPE).stdout.decode()
+        words = re.findall(r'<word xMin="([0-9.-]+)" yMin="([0-9.-]+)" xMax="([0-9.-]+)" yMax="([0-9.-]+)">(.*)</word>', boxes)
+        self.assertGreater(len(words), 500)
+        margin = 15 / 25.4 * 72
+        for left, top, right, bottom, word in words:
+            self.assertGreater(float(left), margin - 1, word)
+            self.assertLess(float(right), 595 - margin + 1, word)
+            self.assertGreater(float(top), margin - 6, word)
+            self.assertLess(float(bottom), 842 - margin + 6, word)
 
     def test_every_word_is_printed(self):
         shown = set(words_of(self.browser.ask("document.body.innerText + ' ' + [...document.querySelectorAll('svg text')].map((e) => e.textContent).join(' ')")))
@@ -311,7 +324,7 @@ class OnPaper(Shows):
         for first, last in ((r"term +coefficient", r"(?:kept\s[\s\S]*){3}"), (r"degree +BIC", r"6 +unsolved"), (r"line +time", r"withdraw r1 ")):
             pages = [text for text in self.pages if re.search(first, text)]
             self.assertEqual(len(pages), 1, first)
-                self.assertRegex(pages[0], last)
+            self.assertRegex(pages[0], last)
 
 
 class OtherSeasons(Shows):
