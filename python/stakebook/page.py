@@ -22,12 +22,19 @@ class Html(str):
 
 def element(name: str, *content: Any, **attributes: Any) -> Html:
     """An element with its content; an underscore ends the names that Python keeps to itself, as class_."""
-    opened = name + "".join(' %s="%s"' % (key.rstrip("_").replace("_", "-"), html.escape(str(value))) for key, value in attributes.items() if value is not None)
+    opened = name + "".join(' %s="%s"' % (key.rstrip("_").replace("_", "-"), _escaped(str(value))) for key, value in attributes.items() if value is not None)
     return Html("<%s>%s</%s>" % (opened, join(content), name))
 
 
 def join(content: Iterable[Any], between: str = "") -> Html:
-    return Html(between.join(part if isinstance(part, Html) else html.escape(str(part)) for part in content))
+    return Html(between.join(part if isinstance(part, Html) else _escaped(str(part)) for part in content))
+
+
+def _escaped(text: str) -> str:
+    """As HTML; what no page can hold, a control character say, becomes the sign for what can't be shown."""
+    if not text.isprintable():
+        text = "".join(character if character.isprintable() or character in "\n\t" else "\ufffd" for character in text)
+    return html.escape(text)
 
 
 def write(season: Any, path: Any, title: Optional[str] = None) -> None:
@@ -135,6 +142,10 @@ def _formula(view: View) -> Html:
 
 def number(value: float, digits: int = 6) -> str:
     """Rounded for reading, with a true minus."""
+    if math.isnan(value):
+        return "none"
+    if math.isinf(value):
+        return "\u221e" if value > 0 else "\u2212\u221e"
     return ("%.*g" % (digits, value)).replace("-", "\u2212")
 
 
@@ -149,7 +160,7 @@ def _named(svg: str, name: str, told: str) -> Html:
     """An SVG as a picture with words for who can't see it; its size is the page's."""
     start, rest = svg.split(">", 1)
     kept = [part for part in start.split('" ') if not part.split("=")[0].strip() in ("width", "height")]
-    return Html('%s" role="img" id="%s" aria-label="%s">%s' % ('" '.join(kept).rstrip('"'), name, html.escape(told), rest.rstrip("\n")))
+    return Html('%s" role="img" id="%s" aria-label="%s">%s' % ('" '.join(kept).rstrip('"'), name, _escaped(told), rest.rstrip("\n")))
 
 
 # ---- tables
@@ -214,13 +225,12 @@ def _curve(view: View, svg: str) -> Html:
     caption += " Below, how far each reading lies from the curve."
     rows = []
     for i in range(report.degree + 1):
-        t = report.t[i]
         rows.append(
             [
                 (_term(i), ""),
                 (number(report.coefficients[i]), "number"),
                 (number(report.errors[i]), "number"),
-                (number(t, 4) if t is not None else "none", "number"),
+                (number(report.t[i], 4), "number"),
                 ("pruned" if report.pruned[i] else "kept", "mark" if report.pruned[i] else ""),
             ]
         )
@@ -271,7 +281,7 @@ def _readings(season: Any, view: View) -> Html:
 
 
 def _side(view: View, i: int) -> str:
-    y, lower, upper = view.readings_y[i], view.report.lower[i], view.report.upper[i]
+    y, lower, upper = view.book_ys[i], view.report.lower[i], view.report.upper[i]
     return "above the band" if y > upper else "below the band" if y < lower else "outside the band"
 
 

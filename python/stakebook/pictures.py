@@ -12,8 +12,10 @@ import io
 import math
 import os
 import re
-import tempfile
+import secrets
+import stat
 import textwrap
+import threading
 import warnings
 import xml.etree.ElementTree as ElementTree
 from dataclasses import dataclass
@@ -26,8 +28,8 @@ try:
     from matplotlib.figure import Figure
     from matplotlib.lines import Line2D
     from matplotlib.patches import Patch
-except ImportError as missing:
-    raise ImportError("pictures need matplotlib (Debian's package python3-matplotlib): %s" % missing) from missing
+except ModuleNotFoundError as missing:
+    raise ModuleNotFoundError("pictures need matplotlib (Debian's package python3-matplotlib): %s" % missing, name=missing.name) from missing
 
 from . import Refused
 
@@ -59,8 +61,7 @@ class View:
     y_label: str
     names: List[str]
     tips: List[str]
-    readings: List[Any]
-    readings_y: List[float]  # as the book has them
+    book_ys: List[float]  # as the book has them
     x_name: str
     y_name: str
     xs: Any  # for the axes, as all that follows
@@ -73,7 +74,6 @@ class View:
     outside: Any  # for each reading, whether the report marks it
     values: Any  # the curve at each reading
     grid: Any  # rows of x, value, lower and upper
-    scale: Tuple[int, int]  # powers of ten taken out of x and y, 0 but for numbers that no axis can show
 
 
 def look(season: Any, title: Optional[str] = None) -> View:
@@ -100,8 +100,7 @@ def look(season: Any, title: Optional[str] = None) -> View:
         y_label=_label(season.y_name or "y", y_power),
         names=[reading.name for reading in readings],
         tips=[plain(tip(season, reading), 200) for reading in readings],
-        readings=readings,
-        readings_y=ys,
+        book_ys=ys,
         x_name=season.x_name or "x",
         y_name=season.y_name or "y",
         xs=_scaled(xs, x_power),
@@ -114,7 +113,6 @@ def look(season: Any, title: Optional[str] = None) -> View:
         outside=numpy.array(report.outliers if report is not None else [False] * len(xs), dtype=bool),
         values=_scaled(values, y_power),
         grid=numpy.column_stack([_scaled([row[j] for row in grid], (x_power, y_power)[j > 0]) for j in range(4)]),
-        scale=(x_power, y_power),
     )
 
 
@@ -203,39 +201,42 @@ def _label(name: str, power: int) -> str:
 # ---- drawing
 
 
+_one_at_a_time = threading.Lock()  # matplotlib's settings are its own, and not a thread's
+
+
 @contextlib.contextmanager
 def _style() -> Iterator[None]:
     """matplotlib's own defaults, whatever the user's file says, and ours over them; all is put back."""
-    with matplotlib.rc_context(), warnings.catch_warnings():
+    with _one_at_a_time, matplotlib.rc_context(), warnings.catch_warnings():
         warnings.filterwarnings("ignore", "Glyph .* missing")  # a letter that the font lacks is a box in a PNG, and no news for a terminal
         matplotlib.rcdefaults()
-        matplotlib.rcParams.update(
-            {
-                "font.size": 9,
-                "axes.titlesize": 9,
-                "axes.titlelocation": "left",
-                "axes.spines.top": False,
-                "axes.spines.right": False,
-                "axes.edgecolor": QUIET,
-                "axes.labelcolor": CURVE,
-                "xtick.color": CURVE,
-                "ytick.color": CURVE,
-                "text.color": CURVE,
-                "legend.frameon": False,
-                "legend.fontsize": 8,
-                "svg.fonttype": "none",  # texts stay texts: they can be found and read out
-                "svg.hashsalt": "stakebook",
-                "pdf.fonttype": 42,
-                "text.parse_math": False,  # a dollar in a column's name is a dollar
-            }
-        )
+        ours = {
+            "font.size": 9,
+            "axes.titlesize": 9,
+            "axes.titlelocation": "left",
+            "axes.spines.top": False,
+            "axes.spines.right": False,
+            "axes.edgecolor": QUIET,
+            "axes.labelcolor": CURVE,
+            "xtick.color": CURVE,
+            "ytick.color": CURVE,
+            "text.color": CURVE,
+            "legend.frameon": False,
+            "legend.fontsize": 8,
+            "svg.fonttype": "none",  # texts stay texts: they can be found and read out
+            "svg.hashsalt": "stakebook",
+            "pdf.fonttype": 42,
+            "text.parse_math": False,  # a dollar in a column's name is a dollar
+        }
+        matplotlib.rcParams.update({key: value for key, value in ours.items() if key in matplotlib.rcParams})  # older ones lack some
         yield
 
 
 def figure(season: Any, title: Optional[str] = None) -> Figure:
     """The whole picture as matplotlib's Figure."""
+    view = look(season, title)
     with _style():
-        return _whole(look(season, title))
+        return _whole(view)
 
 
 def plot(season: Any, path: Any, title: Optional[str] = None) -> None:
@@ -250,7 +251,7 @@ def plot(season: Any, path: Any, title: Optional[str] = None) -> None:
         out = io.BytesIO()
         if suffix == ".svg":
             out.write(b'<?xml version="1.0" encoding="utf-8" standalone="no"?>\n')
-            out.write(_svg(drawn, view).encode("utf-8"))
+            out.write(_svg(drawn, view, title="%s: %s" % (view.title, in_short(view))).encode("utf-8"))
         elif suffix == ".png":
             drawn.savefig(out, format="png", dpi=150, metadata={"Software": None})
         else:
@@ -259,17 +260,22 @@ def plot(season: Any, path: Any, title: Optional[str] = None) -> None:
 
 
 def replace(path: str, content: bytes) -> None:
-    """Writes a file whole or not at all: beside its place first, then by a rename."""
-    folder = os.path.dirname(os.path.abspath(path))
-    handle, beside = tempfile.mkstemp(dir=folder, prefix=".stake-")
+    """Writes a file whole or not at all: beside its place first, then by a rename. What is no plain file, a pipe say, is written to as it is."""
+    path = os.path.realpath(path)
+    if os.path.exists(path) and not os.path.isfile(path):
+        with open(path, "wb") as out:
+            out.write(content)
+        return
+    mode = stat.S_IMODE(os.stat(path).st_mode) if os.path.exists(path) else None
+    beside = os.path.join(os.path.dirname(path), ".stake-%s" % secrets.token_hex(8))
+    handle = os.open(beside, os.O_WRONLY | os.O_CREAT | os.O_EXCL | os.O_CLOEXEC, 0o666)
     try:
         with os.fdopen(handle, "wb") as out:
+            if mode is not None:
+                os.fchmod(out.fileno(), mode)
             out.write(content)
             out.flush()
             os.fsync(out.fileno())
-        mask = os.umask(0)
-        os.umask(mask)
-        os.chmod(beside, 0o666 & ~mask)
         os.replace(beside, path)
     except BaseException:
         os.unlink(beside)
@@ -600,7 +606,7 @@ def _around(gap: float, wide: float, high: float) -> Iterator[Tuple[float, float
 # ---- SVG
 
 
-def _svg(drawn: Figure, view: View, prefix: str = "") -> str:
+def _svg(drawn: Figure, view: View, prefix: str = "", title: Optional[str] = None) -> str:
     """The figure as one `svg` element whose marks have their readings' names: `mark-r7`, with its numbers as a title.
 
     With a prefix every other id begins with it, so that a page can hold several pictures.
@@ -617,6 +623,10 @@ def _svg(drawn: Figure, view: View, prefix: str = "") -> str:
         for style in definitions.findall("{%s}style" % SVG):
             definitions.remove(style)  # it would speak to the whole page; what it says is inherited as well
     root.set("style", "stroke-linejoin: round; stroke-linecap: butt")
+    if title is not None:
+        named_so = ElementTree.Element("{%s}title" % SVG)
+        named_so.text = title
+        root.insert(0, named_so)
     groups = {element.get("id"): element for element in root.iter("{%s}g" % SVG)}
     named = set()
     for kind in ("mark", "residual"):

@@ -4,6 +4,7 @@ import html.parser
 import io
 import os
 import re
+import stat
 import subprocess
 import sys
 import tempfile
@@ -461,6 +462,47 @@ class Files(unittest.TestCase):
             self.assertEqual(os.listdir(folder), ["page.html"])
             with open(path) as file:
                 self.assertEqual(file.read(), "old")
+
+    def test_the_file_keeps_its_mode_and_a_link_stays_one(self):
+        with tempfile.TemporaryDirectory() as folder:
+            path, link = os.path.join(folder, "page.html"), os.path.join(folder, "link.html")
+            mask = os.umask(0o027)
+            try:
+                page.write(rich(), path)
+                self.assertEqual(os.stat(path).st_mode & 0o777, 0o640)
+            finally:
+                os.umask(mask)
+            os.chmod(path, 0o604)
+            os.symlink(path, link)
+            page.write(rich(), link)
+            self.assertTrue(os.path.islink(link))
+            self.assertEqual(os.stat(path).st_mode & 0o777, 0o604)
+            self.assertEqual(sorted(os.listdir(folder)), ["link.html", "page.html"])
+
+    def test_a_pipe_is_written_to_and_stays_a_pipe(self):
+        with tempfile.TemporaryDirectory() as folder:
+            path = os.path.join(folder, "pipe.html")
+            os.mkfifo(path)
+            reader = subprocess.Popen(["cat", path], stdout=subprocess.PIPE)
+            page.write(rich(), path)
+            self.assertEqual(reader.communicate()[0].decode(), page.render(rich()))
+            self.assertTrue(stat.S_ISFIFO(os.stat(path).st_mode))
+            self.assertEqual(os.listdir(folder), ["pipe.html"])
+
+    def test_what_no_page_can_hold(self):
+        season = rich()
+        season.readings[0].note = "a\x00b\x1bc\ud800d"
+        season.path = "name\udcff.stake"
+        with tempfile.TemporaryDirectory() as folder:
+            path = os.path.join(folder, "page.html")
+            page.write(season, path)
+            with open(path, encoding="utf-8") as file:
+                text = file.read()
+        self.assertIn("a\ufffdb\ufffdc\ufffdd", text)
+        self.assertIn("from name\ufffd.stake.", text)
+
+    def test_numbers_that_are_none(self):
+        self.assertEqual([page.number(value) for value in (float("nan"), float("inf"), -float("inf"), -1.5)], ["none", "\u221e", "\u2212\u221e", "\u22121.5"])
 
 
 if __name__ == "__main__":

@@ -47,9 +47,16 @@ class Drawn:
         with tempfile.TemporaryDirectory() as folder:
             path = os.path.join(folder, "picture.svg")
             pictures.plot(season, path, title)
-            with open(path, "rb") as file:
-                self.bytes = file.read()
-        self.root = ElementTree.fromstring(self.bytes)
+            self._read(open_bytes(path))
+
+    @classmethod
+    def of(cls, svg):
+        drawn = cls.__new__(cls)
+        drawn._read(svg)
+        return drawn
+
+    def _read(self, svg):
+        self.root = ElementTree.fromstring(svg)
         names = [element.get("id") for element in self.root.iter() if element.get("id")]
         assert len(names) == len(set(names)), "an id stands twice"
         self.ids = {element.get("id"): element for element in self.root.iter() if element.get("id")}
@@ -268,6 +275,21 @@ class Names(unittest.TestCase):
         self.assertAlmostEqual(across(drawn.centre("mark-r4")[0]), 0.4, delta=0.005)
 
 
+class Many(unittest.TestCase):
+    def test_the_curve_is_drawn_over_small_marks(self):
+        n = 600
+        xs = [i / 100 for i in range(n)]
+        ys = [3 * x + ((i * 37) % 101) / 10 for i, x in enumerate(xs)]
+        settings = Settings(bound=1)
+        drawn = Drawn(Shown(xs, ys, settings=settings, scores=lambda: scored(settings, 1, [9.0, 1.0])))
+        self.assertEqual(len(drawn.marks("mark")), n)
+        self.assertIn("shown: 600 readings, degree 1 by BIC, %d outside the band" % len(drawn.group("mark-outside")), drawn.texts)
+        order = [element.get("id") for element in drawn.ids["axes_1"]]
+        self.assertGreater(order.index("mark-curve"), order.index("mark-outside"))
+        few = [element.get("id") for element in Drawn(curved(12)).ids["axes_1"]]
+        self.assertLess(few.index("mark-curve"), few.index("mark-outside"))
+
+
 class Refusals(unittest.TestCase):
     def test_a_refusal_is_said_in_words_and_the_readings_are_drawn(self):
         why = Refused(12)
@@ -293,12 +315,12 @@ class Refusals(unittest.TestCase):
 class Odd(unittest.TestCase):
     """Readings that no one would draw by hand: the picture is made, without a warning, and every reading is in it."""
 
-    def shows_all(self, xs, ys, ws=None, **settings):
+    def shows_all(self, xs, ys, ws=None, others=(), **settings):
         chosen = Settings(**settings)
         with warnings.catch_warnings():
             warnings.simplefilter("error")
             season = Shown(xs, ys, ws, chosen, scores=lambda: scored(chosen, 0, [1.0]))
-            for suffix in ("png", "pdf"):
+            for suffix in others:
                 with tempfile.TemporaryDirectory() as folder:
                     pictures.plot(season, os.path.join(folder, "picture." + suffix))
             drawn = Drawn(season)
@@ -316,13 +338,13 @@ class Odd(unittest.TestCase):
         self.shows_all([1.0, 2.0], [5.0, 7.0], bound=1)
 
     def test_one_x_alone(self):
-        self.shows_all([2.0] * 5, [1.0, 2.0, 3.0, 4.0, 9.0], bound=0)
+        self.shows_all([2.0] * 5, [1.0, 2.0, 3.0, 4.0, 9.0], bound=0, others=("png", "pdf"))
 
     def test_one_y_alone(self):
         self.shows_all([1.0, 2.0, 3.0, 4.0], [5.0] * 4, bound=1)
 
     def test_great_numbers(self):
-        drawn = self.shows_all([1.0, 2.0, 3.0, 4.0], [1e308, -1e308, 1.5e308, -1.5e308], bound=1)
+        drawn = self.shows_all([1.0, 2.0, 3.0, 4.0], [1e308, -1e308, 1.5e308, -1.5e308], bound=1, others=("png", "pdf"))
         self.assertIn("y, in units of 1e308", drawn.texts)
 
     def test_great_x(self):
@@ -413,6 +435,53 @@ class Files(unittest.TestCase):
         done = subprocess.run([sys.executable, "-c", program, os.path.dirname(HERE)], stderr=subprocess.PIPE)
         self.assertEqual(done.returncode, 1)
         self.assertIn(b"python3-matplotlib", done.stderr)
+
+
+class Committed(unittest.TestCase):
+    """What README shows is what its own five lines make, of examples/pit.csv."""
+
+    @classmethod
+    def setUpClass(cls):
+        cls.folder = tempfile.TemporaryDirectory()
+        cls.addClassCleanup(cls.folder.cleanup)
+        done = subprocess.run([os.path.join(ROOT, "tools", "make_pictures.sh"), cls.folder.name], stdout=subprocess.PIPE, stderr=subprocess.STDOUT)
+        if done.returncode != 0:
+            raise AssertionError("README's lines failed:\n" + done.stdout.decode())
+        cls.said = done.stdout.decode()
+        cls.made = Drawn.of(open_bytes(os.path.join(cls.folder.name, "pit.svg")))
+
+    def test_the_committed_pictures_are_those_made_now(self):
+        for name in ("pit.svg", "pit.html"):
+            made, kept = open_bytes(os.path.join(self.folder.name, name)), open_bytes(os.path.join(ROOT, "docs", "pictures", name))
+            if matplotlib.__version__.startswith("3.6."):  # Debian 12's: others may put a text a hair's breadth elsewhere
+                self.assertTrue(made == kept, "%s is not what is made now: tools/make_pictures.sh makes it anew" % name)
+            else:
+                self.assertEqual(re.findall(rb'id="[a-z]+-r[0-9]+"|<title>[^<]*', made), re.findall(rb'id="[a-z]+-r[0-9]+"|<title>[^<]*', kept))
+
+    def test_the_picture_has_the_rows_of_the_file(self):
+        with open(os.path.join(ROOT, "examples", "pit.csv"), newline="") as file:
+            rows = list(csv.DictReader(file))
+        self.assertTrue(24 <= len(rows) <= 40)
+        self.assertEqual(sorted(self.made.marks("mark")), sorted("r%d" % (i + 1) for i in range(len(rows))))
+        across, up = self.made.scale("axes_2", "x"), self.made.scale("axes_1", "y")
+        for i, row in enumerate(rows):
+            x, y = self.made.centre("mark-r%d" % (i + 1))
+            self.assertAlmostEqual(across(x), float(row["depth (m)"]), delta=0.005)
+            self.assertAlmostEqual(up(y), float(row["density (kg m-3)"]), delta=0.5)
+        self.assertEqual(rows[0]["note"].split(";")[0], "made-up pit")
+        outside = [rows[int(name[1:]) - 1]["note"] for name in self.made.group("mark-outside")]
+        self.assertEqual(outside, ["melt crust", "ice lens", "depth hoar"])
+        for words in ("depth (m)", "density (kg m-3)", "r8", "r17", "r33"):
+            self.assertIn(words, self.made.texts)
+
+    def test_readme_shows_the_picture_first(self):
+        with open(os.path.join(ROOT, "README.md"), encoding="utf-8") as file:
+            lines = [line for line in file.read().split("\n") if line]
+        self.assertRegex(lines[1], r"^!\[.+\]\(docs/pictures/pit\.svg\)$")
+
+    def test_the_lines_say_what_they_did(self):
+        self.assertIn("34 readings", self.said)
+        self.assertIn("r17", self.said)
 
 
 def open_bytes(path):
