@@ -93,6 +93,13 @@ def look(season: Any, title: Optional[str] = None) -> View:
         curve = {x: band.value for x, band in zip(once, book.band(once, report.degree, season.settings))}
         values = [curve[x] for x in xs]
     x_power, y_power = _power(xs), _power(ys)
+    rows = numpy.column_stack([_scaled([row[j] for row in grid], (x_power, y_power)[j > 0]) for j in range(4)])
+    seen = numpy.concatenate([_scaled(ys, y_power), rows[:, 1]])
+    if len(rows):
+        # a band that goes on and on is cut far outside the picture, where no axis can overflow
+        least, most = float(numpy.nanmin(seen)), float(numpy.nanmax(seen))
+        room = most - least or abs(most) or 1.0
+        rows[:, 2:] = numpy.clip(rows[:, 2:], least - 100 * room, most + 100 * room)
     return View(
         title=plain(title if title is not None else title_of(season), 60),
         settings=season.settings,
@@ -112,7 +119,7 @@ def look(season: Any, title: Optional[str] = None) -> View:
         unscored=unscored,
         outside=numpy.array(report.outliers if report is not None else [False] * len(xs), dtype=bool),
         values=_scaled(values, y_power),
-        grid=numpy.column_stack([_scaled([row[j] for row in grid], (x_power, y_power)[j > 0]) for j in range(4)]),
+        grid=rows,
     )
 
 
@@ -312,7 +319,7 @@ def _whole(view: View) -> Figure:
     _draw_curve(above, view)
     above.tick_params(labelbottom=False)
     _draw_residuals(below, view)
-    _draw_scores(beside, view)
+    _draw_scores(beside, view, narrow=True)
     words.axis("off")
     handles, texts = _legend(view)
     words.legend(handles, texts, loc="upper left", borderaxespad=0, bbox_to_anchor=(-0.15, 1))
@@ -334,7 +341,51 @@ def _settle(drawn: Figure, named: Sequence[Tuple[Any, View]]) -> None:
         _shorten(axes.xaxis.label, axes.get_window_extent(renderer).width * (0.55 if _offset(axes.xaxis) else 1), renderer)
         _shorten(axes.yaxis.label, axes.get_window_extent(renderer).height * 1.1, renderer)
     for axes, view in named:
-        _name_outside(axes, view)
+        _put_words(axes, view, renderer)
+
+
+def _put_words(axes: Any, view: View, renderer: Any) -> None:
+    """The names of the readings outside the band, and in a corner what the picture can't show."""
+    unnamed = "{:,} more outside have no room for a name"
+    notes = _of_the_band(axes, view)
+    outside = int(view.outside.sum())
+    corner = axes.annotate(
+        "\n".join(notes + [unnamed.format(outside)]),
+        (1, 0),
+        xycoords="axes fraction",
+        xytext=(-3, 3),
+        textcoords="offset points",
+        ha="right",
+        va="bottom",
+        fontsize=8,
+        color=OUTSIDE_TEXT,
+        zorder=6,
+        bbox={"facecolor": "white", "alpha": 0.8, "edgecolor": "none", "pad": 1},
+    )
+    box = corner.get_window_extent(renderer)
+    # where a few are outside each will have its name, and the corner is free
+    kept = [[box.x0, box.y0, box.x1, box.y1]] if notes or outside > 8 else []
+    left = _name_outside(axes, view, kept)
+    if left:
+        notes.append(unnamed.format(left))
+    if notes:
+        corner.set_text("\n".join(notes))
+    else:
+        corner.remove()
+
+
+def _of_the_band(axes: Any, view: View) -> List[str]:
+    """What the picture does not show of the band, in words."""
+    if view.report is None:
+        return []
+    band = view.grid[:, 2:]
+    least, most = axes.get_ylim()
+    words = []
+    if numpy.isnan(band).any():
+        words.append("the band is not finite" if numpy.isnan(band).all() else "the band is not finite everywhere")
+    if numpy.nanmax(band, initial=most) > most or numpy.nanmin(band, initial=least) < least:
+        words.append("the band reaches beyond the picture")
+    return words
 
 
 def _shorten(text: Any, room: float, renderer: Any) -> None:
@@ -392,10 +443,13 @@ def _draw_curve(axes: Any, view: View, legend_above: bool = False) -> None:
     seen = numpy.concatenate([view.ys, view.grid[:, 1]])
     _limits(axes, view, seen, view.grid[:, 2:])
     if view.refused is not None:
-        axes.set_title(_wrap("No report. %s" % capital(refusal_words(view.refused)), 60 if legend_above else 80), color=OUTSIDE_TEXT)
+        axes.set_title(_wrap("No report. %s" % capital(refusal_words(view.refused)), 50 if legend_above else 80), color=OUTSIDE_TEXT)
     if legend_above:
         handles, texts = _legend(view)
-        axes.legend(handles, texts, loc="lower left", bbox_to_anchor=(-0.02, _above(axes) if view.refused is None else 1.15), ncol=2, borderaxespad=0.2)
+        if view.refused is None:
+            axes.legend(handles, texts, loc="lower left", bbox_to_anchor=(-0.02, _above(axes)), ncol=2, borderaxespad=0.2)
+        else:
+            axes.legend(handles, texts, loc="best")
 
 
 def _band(axes: Any, view: View, kind: str, below: Any) -> None:
@@ -440,7 +494,7 @@ def _draw_residuals(axes: Any, view: View) -> None:
     _limits(axes, view, numpy.append(residuals, 0.0), view.grid[:, 2:] - view.grid[:, 1:2])
 
 
-def _draw_scores(axes: Any, view: View) -> None:
+def _draw_scores(axes: Any, view: View, narrow: bool = False) -> None:
     axes.set_xlabel("degree")
     axes.set_ylabel("score (%s)" % view.settings.criterion.upper())
     if view.scores is None:
@@ -465,7 +519,7 @@ def _draw_scores(axes: Any, view: View) -> None:
     last = max(view.scores.bound, 1)
     axes.set_xlim(-0.6, last + 0.6)
     axes.set_xticks(range(view.scores.bound + 1))
-    axes.tick_params(axis="x", labelsize=8 if last < 10 else 7)
+    axes.tick_params(axis="x", labelsize=7 if narrow and last >= 10 else 8)
     for degrees, marker, name in ((blank, "x", "unsolved"), (odd, "+", "not-finite")):
         if degrees:  # at the foot, whatever the scores are: these have none
             foot = axes.get_xaxis_transform()
@@ -545,12 +599,12 @@ def _wrap(words: str, width: int) -> str:
     return "\n".join(textwrap.wrap(words, width))
 
 
-def _name_outside(axes: Any, view: View) -> None:
-    """Names beside the marks outside the band, the farthest from it first, each where it covers no mark and no other name,
-    and not the curve if that can be; what has no room is counted."""
+def _name_outside(axes: Any, view: View, kept: Sequence[Sequence[float]]) -> int:
+    """Names beside the marks outside the band, the farthest from the curve first, each where it covers no mark, no other name and no place
+    that is kept free, and not the curve if that can be. Answers how many have no room."""
     where = numpy.flatnonzero(view.outside)
     if len(where) == 0:
-        return
+        return 0
     drawn = axes.figure
     renderer = drawn.canvas.get_renderer()
     places = axes.transData.transform(numpy.column_stack([view.xs, view.ys]))
@@ -560,7 +614,7 @@ def _name_outside(axes: Any, view: View) -> None:
     distance = numpy.abs(view.ys - view.values)
     curve = axes.transData.transform(view.grid[:, :2])
     curve = numpy.hstack([curve, curve])
-    taken = marks
+    taken = numpy.vstack([marks] + list(kept))
     left = 0
     for i in sorted(where.tolist(), key=lambda i: (-distance[i] if math.isfinite(distance[i]) else 0.0, i))[:NAMES]:
         text = axes.annotate(view.names[i], (view.xs[i], view.ys[i]), xytext=(0, 0), textcoords="offset pixels", fontsize=8, color=OUTSIDE_TEXT, ha="center", va="center", zorder=5)
@@ -581,9 +635,7 @@ def _name_outside(axes: Any, view: View) -> None:
         else:
             text.remove()
             left += 1
-    left += max(0, len(where) - NAMES)
-    if left:
-        axes.annotate("{:,} more outside have no room for a name".format(left), (1, 0), xycoords="axes fraction", xytext=(-3, 3), textcoords="offset points", ha="right", va="bottom", fontsize=7.5, color=OUTSIDE_TEXT)
+    return left + max(0, len(where) - NAMES)
 
 
 def _hits(box: Any, others: Any) -> bool:

@@ -347,6 +347,27 @@ class OtherSeasons(Shows):
         self.assertEqual(self.browser.ask("document.querySelectorAll('#picture-curve [id^=mark-r]').length"), 3)
         self.assertEqual(self.browser.ask("document.querySelectorAll('#readings tbody tr').length"), 3)
 
+    def test_refusals_with_many_words(self):
+        for number in (4, 8):
+            why = Refused(number)
+            shown = self.look(Shown([1.0, 2.0, 4.0], [3.0, 5.0, 4.0], [1.0, 2.0, 3.0], report=raising(why), scores=raising(why)))
+            self.assertIn(why.words, shown)
+
+    def test_sixteen_degrees_of_which_most_are_unsolved(self):
+        settings = Settings(bound=15, criterion="aic")
+        season = Shown([float(i) for i in range(40)], [float((i * 7) % 11) for i in range(40)], settings=settings)
+        season.scores = lambda: scored(settings, 1, [20011.5, 20010.0, 20010.25] + [None] * 13)
+        self.look(season)
+        self.assertEqual(self.browser.ask("[...document.querySelectorAll('#scores td')].filter((e) => e.textContent === 'unsolved').length"), 13)
+        self.assertIn("unsolved", self.browser.ask("document.getElementById('picture-scores').textContent"))
+
+    def test_nearly_all_outside(self):
+        xs = [i / 10 for i in range(120)]
+        ys = [5 * x + ((i * 61) % 37) / 4 for i, x in enumerate(xs)]
+        settings = Settings(bound=1)
+        shown = self.look(Shown(xs, ys, None, settings, scores=lambda: scored(settings, 1, [9.0, 1.0])))
+        self.assertRegex(shown, r"Outside it lie [0-9]+ readings: r1, .* and [0-9]+ more, marked in the table\.")
+
     def test_no_readings(self):
         shown = self.look(Shown([], [], scores=raising(Refused(7))))
         self.assertIn("0 readings are in force.", shown)

@@ -337,6 +337,16 @@ class Odd(unittest.TestCase):
     def test_two_readings_and_as_many_coefficients(self):
         self.shows_all([1.0, 2.0], [5.0, 7.0], bound=1)
 
+    def test_a_band_far_wider_than_the_readings(self):
+        for tolerance in (1000, 1e308):
+            drawn = self.shows_all([0.0, 1.0, 2.0, 3.0], [1.0, 2.0, 4.0, 3.0], bound=1, tolerance=("absolute", tolerance))
+            self.assertIn("the band reaches beyond the picture", drawn.texts)
+        self.assertNotIn("the band reaches beyond the picture", self.shows_all([0.0, 1.0, 2.0, 3.0], [1.0, 2.0, 4.0, 3.0], bound=1).texts)
+
+    def test_a_band_that_is_not_finite(self):
+        drawn = self.shows_all([1.0, 2.0, 3.0, 4.0], [1e150, 2e150, 3e150, 5e150], bound=0, tolerance=("measurement", 1e300))
+        self.assertIn("the band is not finite", drawn.texts)
+
     def test_one_x_alone(self):
         self.shows_all([2.0] * 5, [1.0, 2.0, 3.0, 4.0, 9.0], bound=0, others=("png", "pdf"))
 
