@@ -136,7 +136,8 @@ def _formula(view: View) -> Html:
         sign = "\u2212" if coefficient < 0 else "+" if i else ""
         parts.append(" " if i else "")
         parts.append(element("span", sign, " " if i else "", number(abs(coefficient), 5), " " if i else "", _term(i) if i else "", class_="term"))
-    parts.append(join([", where ", Html("<var>x</var> is "), view.x_label, " and ", Html("<var>y</var> is "), view.y_label, "."]))
+    named = [join([element("var", letter), " is ", name]) for letter, name in (("x", view.x_name), ("y", view.y_name)) if name != letter]
+    parts.append(join([", where " if named else "", join(named, " and "), "."]))
     return join(parts)
 
 
@@ -259,7 +260,10 @@ def _readings(season: Any, view: View) -> Html:
         return _section("readings", "Readings", element("p", "There are none."))
     weighted = any(reading.weight != 1 for reading in season.readings)
     called = any(reading.called for reading in season.readings)
-    columns = ["name"] + ["called"] * called + [view.x_name, view.y_name] + ["weight"] * weighted + ["band"] * (view.report is not None) + ["mark", "note", "source"]
+    columns = ["name"] + ["called"] * called + [view.x_name, view.y_name] + ["weight"] * weighted + ["band"] * (view.report is not None)
+    noted = any(reading.note for reading in season.readings)
+    sourced = any(reading.source for reading in season.readings)
+    columns += ["mark"] + ["note"] * noted + ["source"] * sourced
     rows, kinds = [], []
     for reading in season.readings:
         i = reading.index
@@ -274,7 +278,11 @@ def _readings(season: Any, view: View) -> Html:
         marks = ["withdrawn"] if i is None else [_side(view, i)] if view.outside[i] else []
         if reading.was:
             marks.append("corrected, was %s" % ", ".join(reading.was))
-        row += [("; ".join(marks), "mark said"), (reading.note or "", "text"), (reading.source or "", "text source bare")]
+        row.append(("; ".join(marks), "mark said"))
+        if noted:
+            row.append((reading.note or "", "text"))
+        if sourced:
+            row.append((reading.source or "", "text source bare"))
         rows.append(row)
         kinds.append("withdrawn" if i is None else "outside" if view.outside[i] else "")
     return _section("readings", "Readings", _table("readings", columns, rows, kinds))

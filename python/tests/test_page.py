@@ -196,6 +196,7 @@ class OnScreen(Shows):
             "The curve has 3 coefficients, which leaves 27 degrees of freedom.",
             "The band (P95, \u00b1 12) says where the curve itself lies, not where single readings do.",
             "Outside it lie 3 readings: r8, r15 and r23.",
+            "x2, where x is depth (m) and y is density (kg m-3).",
             "Settings: degrees up to 6, BIC, P95, tolerance absolute 12, terms pruned by size.",
             "line 38 left out: it is cut off",
         ):
@@ -366,6 +367,8 @@ class OtherSeasons(Shows):
         ys = [5 * x + ((i * 61) % 37) / 4 for i, x in enumerate(xs)]
         settings = Settings(bound=1)
         shown = self.look(Shown(xs, ys, None, settings, scores=lambda: scored(settings, 1, [9.0, 1.0])))
+        self.assertRegex(shown, r"rounded numbers: y = [0-9.]+ \+ [0-9.]+ x\.\n")
+        self.assertEqual(self.browser.ask("[...document.querySelectorAll('#readings thead th')].map((e) => e.textContent)"), ["name", "x", "y", "band", "mark"])
         self.assertRegex(shown, r"Outside it lie [0-9]+ readings: r1, .* and [0-9]+ more, marked in the table\.")
 
     def test_no_readings(self):
