@@ -55,8 +55,14 @@ def _six(value: float) -> str:
     return f"{value:.6g}"
 
 
+def _shown(text: str) -> str:
+    """A text in one line. A note comes from anywhere, and what moves a terminal's cursor is no part of what it says."""
+    return "".join(sign if sign.isprintable() else sign.encode("unicode_escape").decode("ascii") for sign in text)
+
+
 def _table(rows: List[List[str]], left: Sequence[int] = (0,)) -> str:
     """Rows of cells in columns; those of `left` begin at the left."""
+    rows = [[_shown(cell) for cell in row] for row in rows]
     widths = [max(len(row[i]) for row in rows) for i in range(len(rows[0]))]
     lines = []
     for row in rows:
@@ -425,7 +431,10 @@ def _why(scores: Scores) -> str:
             continue
         marks = ["least"] * (each.score == scores.least) + ["within 2"] * (each.degree in scores.within) + ["chosen"] * (each.degree == scores.degree)
         rows.append([str(each.degree), _six(each.score), _six(each.score - scores.least), ", ".join(marks)])
-    first = f"Degree {scores.degree}: the lowest whose {criterion} is at most 2 above the least of the degrees 0 to {scores.bound}."
+    if scores.bound:
+        first = f"Degree {scores.degree}: the lowest whose {criterion} is at most 2 above the least of the degrees 0 to {scores.bound}."
+    else:
+        first = "Degree 0: the bound allows no other."
     return first + "\n" + textwrap.indent(_table(rows, (0, 3)), "  ")
 
 
@@ -434,7 +443,7 @@ def _term(power: int) -> str:
 
 
 def _named(reading: Reading) -> str:
-    return f"{reading.name} ({reading.called})" if reading.called else reading.name
+    return f"{reading.name} ({_shown(reading.called)})" if reading.called else reading.name
 
 
 def _confidence_words(settings: Settings) -> str:

@@ -89,28 +89,30 @@ class Reading:
 class Call:
     """A call of the season, an import being one."""
 
-    __slots__ = ("line", "lines", "call", "time", "note", "source", "undone", "name", "rows", "y_text", "was", "settings", "columns", "of")
+    #: How many lines it takes.
+    lines = 1
+    #: Whether it was taken back.
+    undone = False
+    #: The reading's name, of add, correct and withdraw.
+    name: Optional[str] = None
+    #: The readings of an add or import.
+    rows: Sequence[Row] = ()
+    #: A correction's y, and the one that it replaced.
+    y_text = was = ""
+    settings: Tuple[str, ...] = ()
+    #: An import's headings of x, y and the weight.
+    columns: Tuple[Optional[str], ...] = (None, None, None)
+    #: Of an undo, the call that it takes back; of left-out, the lines.
+    of: Any = None
 
     def __init__(self, line: int, call: str, source: Optional[str], note: Optional[str], at: Optional[str]) -> None:
-        #: Its line, and how many it takes.
+        #: Its first line.
         self.line = line
-        self.lines = 1
         #: new, settings, import, add, correct, withdraw, undo or left-out.
         self.call = call
-        self.time = at
-        self.note = note
         self.source = source
-        #: Whether it was taken back.
-        self.undone = False
-        #: The reading's name, of add, correct and withdraw.
-        self.name: Optional[str] = None
-        self.rows: Sequence[Row] = ()
-        self.y_text = self.was = ""
-        self.settings: Tuple[str, ...] = ()
-        #: An import's headings of x, y and the weight.
-        self.columns: Tuple[Optional[str], ...] = (None, None, None)
-        #: Of an undo, the call that it takes back; of left-out, the lines.
-        self.of: Any = None
+        self.note = note
+        self.time = at
 
     @property
     def text(self) -> str:
@@ -220,8 +222,6 @@ class Season:
     path: str
     #: The book as replayed.
     book: Book
-    #: The adds, corrections and withdrawals in force, as the list that the book is made of.
-    calls: Calls
     settings: Settings
     settings_text: SettingsText
     #: All readings not undone, in the order in which they were given.
@@ -411,7 +411,9 @@ class Season:
         self._by_name: Dict[str, Reading] = {}
         self._order: List[Reading] = []
         self.settings_text = SettingsText(*self.history[0].settings)
-        self.calls = Calls()
+        # the list that is run: kind and index, x, y and weight of each step
+        self._whole: Tuple[List[int], List[int]] = ([], [])
+        self._floats: Tuple[List[float], List[float], List[float]] = ([], [], [])
         for call in self._stack:
             self._do(call)
         self.book, answers = Book.replay(self.calls)
@@ -424,18 +426,18 @@ class Season:
 
     def _do(self, call: Call) -> None:
         """What a call in force does to the readings, and its part of the list that is run."""
-        numbers, calls = self._numbers, self.calls
+        numbers = self._numbers
         if call.call == "correct" or call.call == "withdraw":
             reading = self._by_name[call.name or ""]
             place = self._order.index(reading)
             if call.call == "withdraw":
                 del self._order[place]
                 reading.index = None
-                calls.withdraw(place)
+                self._step(2, place, 0.0, 0.0, 1.0)
             else:
                 reading.was += (reading.y_text,)
                 reading.y_text, reading.y = call.y_text, numbers[call.y_text]
-                calls.correct(place, reading.y)
+                self._step(1, place, 0.0, reading.y, 1.0)
         elif call.call == "settings":
             self.settings_text = SettingsText(*call.settings)
         else:
@@ -445,11 +447,31 @@ class Season:
                 self.readings.append(reading)
                 self._order.append(reading)
                 self._by_name[name] = reading
-                calls.add(x, y, weight)
+                self._step(0, 0, x, y, weight)
+
+    def _step(self, kind: int, index: int, x: float, y: float, weight: float) -> None:
+        kinds, indices = self._whole
+        xs, ys, weights = self._floats
+        kinds.append(kind)
+        indices.append(index)
+        xs.append(x)
+        ys.append(y)
+        weights.append(weight)
 
     def _number_order(self) -> None:
         for index, reading in enumerate(self._order):
             reading.index = index
+
+    @property
+    def calls(self) -> Calls:
+        """The adds, corrections and withdrawals in force, as the list that the book is made of."""
+        calls = Calls()
+        calls.kinds.extend(self._whole[0])
+        calls.indices.extend(self._whole[1])
+        calls.xs.extend(self._floats[0])
+        calls.ys.extend(self._floats[1])
+        calls.ws.extend(self._floats[2])
+        return calls
 
     # ---- questions
 

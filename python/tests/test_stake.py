@@ -10,14 +10,12 @@ script; the many short calls of other tests are forked, which spares each of the
 """
 
 import contextlib
-import importlib.util
 import io
 import json
 import os
 import pty
 import re
 import resource
-import select
 import shlex
 import shutil
 import signal
@@ -308,6 +306,13 @@ class Seasons(Command):
         self.stake("correct", "s.stake", "r1", "-1,25")
         listed = self.json("list", "s.stake")["readings"]
         self.assertEqual([(r["x_text"], r["y_text"], r["weight_text"], r["x"], r["y"]) for r in listed], [("-0.5", "-1.25", "1", -0.5, -1.25), ("-0x1.8p+1", "-0", "0x1p-1", -3.0, 0.0)])
+
+    def test_a_note_does_not_move_the_cursor(self):
+        self.made()
+        self.stake("add", "s.stake", "1", "2", "--note", "a\x1b[2J\nb\u202e", "--source", "Föhn")
+        listed = self.stake("list", "s.stake")
+        self.assertIn("Föhn    a\\x1b[2J\\nb\\u202e\n", listed)
+        self.assertEqual(self.json("list", "s.stake")["readings"][0]["note"], "a\x1b[2J\nb\u202e")
 
     def test_what_a_list_has_for_programs(self):
         self.made(("1", "2"), ("3", "4", "2"))
@@ -624,7 +629,18 @@ class Files(Command):
                     self.assertEqual(told[name], list(map(double, shown[name][:count])), (flag, name))
                 self.assertEqual(told["outliers"], [mark == "1" for mark in shown["outliers"]])
 
-    @unittest.skipUnless(importlib.util.find_spec("stakebook.pictures"), "the pictures are not there")
+    def test_pictures_and_pages(self):
+        import matplotlib.pyplot  # once here, and not in each process that is forked
+
+        self.made(*[(str(x), str(y)) for x, y in enumerate((5, 1, 4, 4, 9, 3))], bound="1")
+        self.assertEqual(self.stake("plot", "s.stake", "s.svg"), "s.svg written\n")
+        self.assertEqual(self.stake("page", "s.stake", "s.html"), "s.html written\n")
+        self.assertIn(b"<svg", Path(self.folder, "s.svg").read_bytes())
+        self.assertIn(b"<html", Path(self.folder, "s.html").read_bytes())
+        self.assertIn(".gif", self.fails("plot", "s.stake", "s.gif", status=2))
+        for words in (("plot", "s.stake", "none/s.svg"), ("page", "s.stake", "none/s.html")):
+            self.assertIn(f"stake: {words[2]}: No such file or directory", self.fails(*words))
+
     def test_pictures_without_matplotlib(self):
         self.made(("1", "2"), ("2", "4"), ("3", "7"), bound="1")
         os.mkdir(os.path.join(self.folder, "without"))
