@@ -1,7 +1,7 @@
 """Pictures of a season: readings, curve and band, residuals below, scores by degree beside.
 
-Everything that is drawn was answered by the library: the curve goes through `Book.band` at some 200 x's, and a reading is marked where the report marks
-it. Where the library refuses a report the readings are drawn all the same, and the picture says the refusal in words.
+Everything that is drawn was answered by the library: the curve goes through `Book.band` at some 200 x's, and a reading is marked where the report
+marks it. Where the library refuses a report the readings are drawn all the same, and the picture says the refusal in words.
 
 `plot(season, "pit.svg")` writes SVG, PNG or PDF by the file's suffix; the same season gives the same bytes. `figure(season)` is matplotlib's own
 Figure, for a notebook. No state of pyplot is touched.
@@ -509,7 +509,8 @@ def _draw_scores(axes: Any, view: View, narrow: bool = False) -> None:
     if known:
         axes.plot([row[0] for row in known], [row[1] for row in known], "o", color=INSIDE, markersize=4.5, zorder=3, gid="scores")
         chosen = [row for row in known if row[0] == view.scores.degree]
-        axes.plot([row[0] for row in chosen], [row[1] for row in chosen], "o", color="none", markeredgecolor=OUTSIDE, markersize=11, markeredgewidth=1.6, zorder=4, gid="chosen")
+        ring = dict(color="none", markeredgecolor=OUTSIDE, markersize=11, markeredgewidth=1.6)
+        axes.plot([row[0] for row in chosen], [row[1] for row in chosen], "o", zorder=4, gid="chosen", **ring)
     if math.isfinite(line):
         axes.axhline(line, color=QUIET, linewidth=0.9, linestyle="--", zorder=1, gid="within")
     shown = [row[1] for row in known] + ([line] if math.isfinite(line) else [])
@@ -617,7 +618,8 @@ def _name_outside(axes: Any, view: View, kept: Sequence[Sequence[float]]) -> int
     taken = numpy.vstack([marks] + list(kept))
     left = 0
     for i in sorted(where.tolist(), key=lambda i: (-distance[i] if math.isfinite(distance[i]) else 0.0, i))[:NAMES]:
-        text = axes.annotate(view.names[i], (view.xs[i], view.ys[i]), xytext=(0, 0), textcoords="offset pixels", fontsize=8, color=OUTSIDE_TEXT, ha="center", va="center", zorder=5)
+        place = dict(xytext=(0, 0), textcoords="offset pixels", ha="center", va="center")
+        text = axes.annotate(view.names[i], (view.xs[i], view.ys[i]), fontsize=8, color=OUTSIDE_TEXT, zorder=5, **place)
         text.set_gid("name-%s" % view.names[i])
         box = text.get_window_extent(renderer)
         wide, high = box.width / 2 + 1, box.height / 2
