@@ -129,23 +129,27 @@ def words_of(text):
     return re.findall(r"[\w.<>&%-]+", text.replace("\u2212", "-"))
 
 
-class Shows(unittest.TestCase):
-    """One page in one browser, looked at by all tests of the class."""
+def setUpModule():
+    """One browser for all: it takes a second to start."""
+    Shows.browser = Browser()
+    Shows.browser.__enter__()
+    unittest.addModuleCleanup(Shows.browser.__exit__)
 
-    season = staticmethod(rich)
+
+class Shows(unittest.TestCase):
+    """One page, looked at by all tests of the class."""
+
+    browser = None
 
     @classmethod
     def setUpClass(cls):
         cls.folder = tempfile.TemporaryDirectory()
         cls.addClassCleanup(cls.folder.cleanup)
-        cls.made = cls.season()
+        cls.made = rich()
         cls.path = os.path.join(cls.folder.name, "page.html")
         page.write(cls.made, cls.path)
         with open(cls.path, encoding="utf-8") as file:
             cls.text = file.read()
-        cls.browser = Browser()
-        cls.browser.__enter__()
-        cls.addClassCleanup(cls.browser.__exit__)
 
 
 class OnScreen(Shows):
@@ -177,7 +181,8 @@ class OnScreen(Shows):
         self.assertEqual(self.browser.requested, ["file://" + self.path])
         self.assertEqual(self.browser.ask("document.scripts.length"), 0)
         self.assertEqual(self.browser.ask("document.querySelectorAll('link, img, iframe, object, embed, audio, video, b, i').length"), 0)
-        self.assertEqual(self.browser.ask("[...document.querySelectorAll('*')].flatMap((e) => [...e.attributes]).filter((a) => a.name.startsWith('on')).length"), 0)
+        handlers = "[...document.querySelectorAll('*')].flatMap((e) => [...e.attributes]).filter((a) => a.name.startsWith('on')).length"
+        self.assertEqual(self.browser.ask(handlers), 0)
         self.assertEqual(self.browser.ask("document.title"), "shown: 30 readings, degree 2 by BIC, 3 outside the band")
 
     def test_notes_stand_as_they_were_written(self):
