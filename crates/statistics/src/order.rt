@@ -248,12 +248,15 @@ fn middles_of_many(a: &[f64], n: usize, d: f64, m: usize) -> Pair
     middles(&few, c, 0.0, m - r.below)
 }
 
-// The same. A few numbers are not copied.
+// The copying pays above so many numbers.
+const MANY: usize = 2048;
+
+// The same.
 fn middles_from(a: &[f64], n: usize, d: f64, m: usize) -> Pair
     requires { ⌜ (n ≤ length (now a)) × All Plain (distances d (take n (now a))) × (m < n) ⌝ }
     ensures { λ r. ⌜ Middles (distances d (take n (now (a .entry)))) m (r .low) (r .high) ⌝ }
 {
-    if n <= FEW {
+    if n <= MANY {
         return middles(a, n, d, m);
     }
     middles_of_many(a, n, d, m)
