@@ -195,7 +195,7 @@ module _ {S U : Type 0} (R : S → U → Type 0) (ok : ℕ → S → Bool) (ok�
 pub from-keeps : {S : Type 0} (P : S → Type 0) (step : ℕ → S → S) (i b : ℕ) (s : S) → ((j : ℕ) (t : S) → i ≤ j → j < b → P t → P (step j t)) → P s → P (from step i b s)
 from-keeps P step i b s h p = from-related (λ t u. P t) step step i b s s (λ j t u a l q. h j t a l q) p
 
-tries-keeps : {S : Type 0} (P : S → Type 0) (ok : ℕ → S → Bool) (step : ℕ → S → S) (n i : ℕ) (t : Bool) (s : S)
+pub tries-keeps : {S : Type 0} (P : S → Type 0) (ok : ℕ → S → Bool) (step : ℕ → S → S) (n i : ℕ) (t : Bool) (s : S)
     → ((j : ℕ) (u : S) → i ≤ j → j < i + n → P u → P (step j u)) → P s → P (tries ok step n i t s .state)
 unfolding tries
 tries-keeps P ok step zero i t s h p = p
