@@ -11,8 +11,8 @@ use Rattle.loops.specs.Loop.{Stopped}
 use Rattle.loops.specs.Places.{each}
 use Rattle.value.specs.Numbers.{zeroF}
 use Rattle.solve.specs.declared.Solved.{Solved}
-use Rattle.solve.specs.Solve.{System, back}
-use Rattle.solve.specs.Corner.{SameCells}
+use Rattle.solve.specs.Solve.{System, eliminate, back, rightOf}
+use Rattle.solve.specs.Corner.{SameCells, firstRows}
 
 -- s, of more coefficients, holds what t holds of k
 pub record Nested (k : ℕ) (s t : System) : Type 0 where
@@ -20,6 +20,14 @@ pub record Nested (k : ℕ) (s t : System) : Type 0 where
   pub right : (r : ℕ) → r < k → getD (s .b) r nan ≡ getD (t .b) r nan
   pub long : length (s .b) ≡ maxTerms
   pub long′ : length (t .b) ≡ maxTerms
+
+-- an elimination that stopped at a pivot, with M and b
+abbrev pub stopped : ℕ → List Float → List Float → Stopped System
+stopped held m b = record { at = held; state = record { m = m; b = b } }
+
+-- that of k coefficients, from the first k rows of A and the first k places of g; the starting values are A's
+abbrev pub elimination : List Float → ℕ → Stopped System
+elimination sums k = eliminate sums k (record { m = firstRows sums k; b = rightOf sums k })
 
 -- the first k places of b, then +0
 unfoldable pub front : ℕ → List Float → List Float
