@@ -24,7 +24,6 @@ import subprocess
 import sys
 import tempfile
 import textwrap
-import threading
 import time
 import traceback
 import unittest
@@ -256,6 +255,13 @@ class Seasons(Command):
         self.assertRegex(text.replace("\n", " "), rf"Outside it lies? {len(told['outside'])} of 10 readings: {', '.join(told['outside'])}\.")
         self.assertEqual(len(told["warnings"]), 1)
         self.assertIn("Take care:\n- ", text)
+        # a reading is named by its name, whatever its place has become
+        self.stake("withdraw", "s.stake", "r1")
+        told = self.json("report", "s.stake")
+        self.assertEqual(told["readings"][:2], ["r2", "r3"])
+        self.assertEqual(told["outside"], [name for name, outside in zip(told["readings"], told["report"]["outliers"]) if outside])
+        self.assertIn("r6", told["outside"])
+        self.assertIn(f"readings: {', '.join(told['outside'])}.", " ".join(self.stake("report", "s.stake").split()))
         self.assertIn("mean curve", " ".join(text.split()))
 
     def test_where_numbers_can_mislead(self):
@@ -843,15 +849,11 @@ class Terminal(Command):
         self.assertIn(b"give --output FILE", done.stderr)
 
     def test_waiting_for_another_writer_is_said(self):
-        import fcntl
-
         self.made(("1", "2"))
-        with open(self.season, "rb") as file:
-            fcntl.flock(file, fcntl.LOCK_EX)
-            release = threading.Timer(0.7, fcntl.flock, (file, fcntl.LOCK_UN))
-            release.start()
+        other = "import fcntl, sys, time\nfile = open(sys.argv[1])\nfcntl.flock(file, fcntl.LOCK_EX)\nprint('has it', flush=True)\ntime.sleep(0.7)"
+        with subprocess.Popen([sys.executable, "-c", other, self.season], stdout=subprocess.PIPE) as holder:
+            self.assertEqual(holder.stdout.readline(), b"has it\n")
             seen, out = self.on_terminal("list", "s.stake")
-            release.join()
         self.assertIn("waiting for another program that has the season", seen)
         self.assertIn("1 reading", out)
 
