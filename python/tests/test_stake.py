@@ -313,6 +313,29 @@ class Seasons(Command):
         listed = self.json("list", "s.stake")["readings"]
         self.assertEqual([(r["x_text"], r["y_text"], r["weight_text"], r["x"], r["y"]) for r in listed], [("-0.5", "-1.25", "1", -0.5, -1.25), ("-0x1.8p+1", "-0", "0x1p-1", -3.0, 0.0)])
 
+    def test_every_change_keeps_its_source_and_note(self):
+        self.file("a.csv", "x,y\n1,2\n")
+        kept = ("--source", "book 3", "--note", "by Ann")
+        self.stake("new", "s.stake", *kept)
+        for words in (("import", "s.stake", "a.csv"), ("add", "s.stake", "1", "2"), ("correct", "s.stake", "r1", "3"), ("withdraw", "s.stake", "r1"), ("settings", "s.stake", "--bound", "1"), ("undo", "s.stake")):
+            self.stake(*words, *kept)
+        told = self.json("list", "s.stake")
+        self.assertEqual({(call["source"], call["note"]) for call in told["history"]}, {("book 3", "by Ann")})
+        self.assertEqual(len(told["history"]), 7)
+        self.assertEqual([reading["source"] for reading in told["readings"]], ["book 3:2", "book 3"])
+
+    def test_the_example_of_the_guide_for_python(self):
+        text = GUIDE.read_text(encoding="utf-8")
+        code = text.split("```python\n")[1].split("```")[0]
+        done = subprocess.run([sys.executable, "-c", code], stdout=subprocess.PIPE, env=environment(PYTHONPATH=str(ROOT / "python")), cwd=self.folder)
+        self.assertEqual((done.returncode, done.stdout.splitlines()[0][:10]), (0, b"2 readings"))
+
+    def test_a_table_on_standard_input(self):
+        self.stake("new", "s.stake")
+        done = subprocess.run([sys.executable, STAKE, "import", "s.stake", "-"], input=b"x\ty\n1\t2\n", stdout=subprocess.PIPE, env=environment(), cwd=self.folder)
+        self.assertIn(b"1 reading saved from standard input, r1", done.stdout)
+        self.assertEqual(self.json("list", "s.stake")["readings"][0]["source"], "standard input:2")
+
     def test_a_note_does_not_move_the_cursor(self):
         self.made()
         self.stake("add", "s.stake", "1", "2", "--note", "a\x1b[2J\nb\u202e", "--source", "Föhn")
