@@ -213,6 +213,7 @@ def _parser() -> argparse.ArgumentParser:
         made.set_defaults(run=run, changes=changes, json=False)
         made.add_argument("season", metavar="SEASON", help="the season's file")
         if changes:
+            made.add_argument("--source", metavar="TEXT", help="where it comes from" + ("; without, the file's name" if name == "import" else ""))
             made.add_argument("--note", metavar="TEXT", help="a note to keep with the call")
         if as_json:
             made.add_argument("--json", action="store_true", help="for programs")
@@ -234,16 +235,13 @@ def _parser() -> argparse.ArgumentParser:
     made.add_argument("x", metavar="X", type=_number)
     made.add_argument("y", metavar="Y", type=_number)
     made.add_argument("--weight", metavar="W", type=_number, default="1", help="what the reading counts; without, 1")
-    made.add_argument("--source", metavar="TEXT", help="where it comes from")
 
     made = command("correct", _correct, "give a reading a new y", changes=True)
     made.add_argument("name", metavar="NAME", type=_name, help="r1, r2, ..")
     made.add_argument("y", metavar="Y", type=_number)
-    made.add_argument("--source", metavar="TEXT", help="where it comes from")
 
     made = command("withdraw", _withdraw, "take a reading out; its name stays its own", changes=True)
     made.add_argument("name", metavar="NAME", type=_name, help="r1, r2, ..")
-    made.add_argument("--source", metavar="TEXT", help="where that comes from")
 
     command("undo", _undo, "take back the last call that stands, an import whole", changes=True)
 
@@ -278,7 +276,7 @@ def _parser() -> argparse.ArgumentParser:
 
 
 def _new(arguments: argparse.Namespace) -> int:
-    season = Season.create(arguments.season, _settings_of(arguments, SettingsText()), note=arguments.note)
+    season = Season.create(arguments.season, _settings_of(arguments, SettingsText()), arguments.source, arguments.note)
     _say(f"{season.path}: a new season, {season.settings.summary()}")
     return 0
 
@@ -287,7 +285,7 @@ def _set(arguments: argparse.Namespace) -> int:
     season = _open(arguments.season)
     text = _settings_of(arguments, season.settings_text)
     if text != season.settings_text or arguments.note:
-        season.set(text, note=arguments.note)
+        season.set(text, arguments.source, arguments.note)
     if arguments.json:
         _say_json(season.settings.as_dict())
     else:
@@ -305,7 +303,7 @@ def _import(arguments: argparse.Namespace) -> int:
     season = _open(arguments.season)
     with _Progress(f"importing {table.source}") as progress:
         try:
-            readings = season.add_rows(table.rows, table.columns, table.source, arguments.note, progress.of(len(table.rows)))
+            readings = season.add_rows(table.rows, table.columns, arguments.source or table.source, arguments.note, progress.of(len(table.rows)))
         except RefusedRow as refused:
             raise RefusedField(refused.number, "", f"{table.source}:{table.rows[refused.row].line}") from None
     names = readings[0].name if len(readings) == 1 else f"{readings[0].name} to {readings[-1].name}"
@@ -354,7 +352,7 @@ def _withdraw(arguments: argparse.Namespace) -> int:
 
 def _undo(arguments: argparse.Namespace) -> int:
     season = _open(arguments.season)
-    call = season.undo(note=arguments.note)
+    call = season.undo(arguments.source, arguments.note)
     _say(f"{season.path}: line {call.line} taken back and saved: {call.text}; {counted(season.book.count, 'reading')}")
     return 0
 

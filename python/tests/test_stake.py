@@ -24,7 +24,6 @@ import subprocess
 import sys
 import tempfile
 import textwrap
-import threading
 import time
 import traceback
 import unittest
@@ -256,6 +255,13 @@ class Seasons(Command):
         self.assertRegex(text.replace("\n", " "), rf"Outside it lies? {len(told['outside'])} of 10 readings: {', '.join(told['outside'])}\.")
         self.assertEqual(len(told["warnings"]), 1)
         self.assertIn("Take care:\n- ", text)
+        # a reading is named by its name, whatever its place has become
+        self.stake("withdraw", "s.stake", "r1")
+        told = self.json("report", "s.stake")
+        self.assertEqual(told["readings"][:2], ["r2", "r3"])
+        self.assertEqual(told["outside"], [name for name, outside in zip(told["readings"], told["report"]["outliers"]) if outside])
+        self.assertIn("r6", told["outside"])
+        self.assertIn(f"readings: {', '.join(told['outside'])}.", " ".join(self.stake("report", "s.stake").split()))
         self.assertIn("mean curve", " ".join(text.split()))
 
     def test_where_numbers_can_mislead(self):
@@ -306,6 +312,29 @@ class Seasons(Command):
         self.stake("correct", "s.stake", "r1", "-1,25")
         listed = self.json("list", "s.stake")["readings"]
         self.assertEqual([(r["x_text"], r["y_text"], r["weight_text"], r["x"], r["y"]) for r in listed], [("-0.5", "-1.25", "1", -0.5, -1.25), ("-0x1.8p+1", "-0", "0x1p-1", -3.0, 0.0)])
+
+    def test_every_change_keeps_its_source_and_note(self):
+        self.file("a.csv", "x,y\n1,2\n")
+        kept = ("--source", "book 3", "--note", "by Ann")
+        self.stake("new", "s.stake", *kept)
+        for words in (("import", "s.stake", "a.csv"), ("add", "s.stake", "1", "2"), ("correct", "s.stake", "r1", "3"), ("withdraw", "s.stake", "r1"), ("settings", "s.stake", "--bound", "1"), ("undo", "s.stake")):
+            self.stake(*words, *kept)
+        told = self.json("list", "s.stake")
+        self.assertEqual({(call["source"], call["note"]) for call in told["history"]}, {("book 3", "by Ann")})
+        self.assertEqual(len(told["history"]), 7)
+        self.assertEqual([reading["source"] for reading in told["readings"]], ["book 3:2", "book 3"])
+
+    def test_the_example_of_the_guide_for_python(self):
+        text = GUIDE.read_text(encoding="utf-8")
+        code = text.split("```python\n")[1].split("```")[0]
+        done = subprocess.run([sys.executable, "-c", code], stdout=subprocess.PIPE, env=environment(PYTHONPATH=str(ROOT / "python")), cwd=self.folder)
+        self.assertEqual((done.returncode, done.stdout.splitlines()[0][:10]), (0, b"2 readings"))
+
+    def test_a_table_on_standard_input(self):
+        self.stake("new", "s.stake")
+        done = subprocess.run([sys.executable, STAKE, "import", "s.stake", "-"], input=b"x\ty\n1\t2\n", stdout=subprocess.PIPE, env=environment(), cwd=self.folder)
+        self.assertIn(b"1 reading saved from standard input, r1", done.stdout)
+        self.assertEqual(self.json("list", "s.stake")["readings"][0]["source"], "standard input:2")
 
     def test_a_note_does_not_move_the_cursor(self):
         self.made()
@@ -843,15 +872,11 @@ class Terminal(Command):
         self.assertIn(b"give --output FILE", done.stderr)
 
     def test_waiting_for_another_writer_is_said(self):
-        import fcntl
-
         self.made(("1", "2"))
-        with open(self.season, "rb") as file:
-            fcntl.flock(file, fcntl.LOCK_EX)
-            release = threading.Timer(0.7, fcntl.flock, (file, fcntl.LOCK_UN))
-            release.start()
+        other = "import fcntl, sys, time\nfile = open(sys.argv[1])\nfcntl.flock(file, fcntl.LOCK_EX)\nprint('has it', flush=True)\ntime.sleep(0.7)"
+        with subprocess.Popen([sys.executable, "-c", other, self.season], stdout=subprocess.PIPE) as holder:
+            self.assertEqual(holder.stdout.readline(), b"has it\n")
             seen, out = self.on_terminal("list", "s.stake")
-            release.join()
         self.assertIn("waiting for another program that has the season", seen)
         self.assertIn("1 reading", out)
 
