@@ -22,8 +22,8 @@ class Html(str):
 
 def element(name: str, *content: Any, **attributes: Any) -> Html:
     """An element with its content; an underscore ends the names that Python keeps to itself, as class_."""
-    opened = name + "".join(' %s="%s"' % (key.rstrip("_").replace("_", "-"), _escaped(str(value))) for key, value in attributes.items() if value is not None)
-    return Html("<%s>%s</%s>" % (opened, join(content), name))
+    given = [(key.rstrip("_").replace("_", "-"), value) for key, value in attributes.items() if value is not None]
+    return Html("<%s%s>%s</%s>" % (name, "".join(' %s="%s"' % (key, _escaped(str(value))) for key, value in given), join(content), name))
 
 
 def join(content: Iterable[Any], between: str = "") -> Html:
@@ -46,10 +46,12 @@ def render(season: Any, title: Optional[str] = None) -> str:
     """The page as text."""
     view = look(season, title)
     curve, scores = pictures.inline(view)
+    two = element("div", _curve(view, curve), _scores(view, scores), class_="two")
+    made = "Made by stake page from %s. Every number is the proved library's answer or the observer's own." % os.path.basename(season.path)
     parts = [
         element("header", element("h1", view.title), element("p", in_short(view) + ".", class_="short")),
-        element("main", _summary(season, view), element("div", _curve(view, curve), _scores(view, scores), class_="two"), _readings(season, view), _history(season)),
-        element("footer", element("p", "Made by stake page from %s. Every number is the proved library's answer or the observer's own." % os.path.basename(season.path))),
+        element("main", _summary(season, view), two, _readings(season, view), _history(season)),
+        element("footer", element("p", made)),
     ]
     head = [
         Html('<meta charset="utf-8">'),
@@ -75,8 +77,9 @@ def _summary(season: Any, view: View) -> Html:
     said = ["%s in force%s." % (_are(len(view.names), "reading"), ", {:,} withdrawn".format(withdrawn) if withdrawn else "")]
     paragraphs: List[Html] = []
     if view.report is None:
-        if view.names:
-            paragraphs.append(element("p", "There is no report. ", element("strong", pictures.capital(refusal_words(view.refused)) + "."), class_="refused"))
+        if view.names and view.refused is not None:
+            why = element("strong", pictures.capital(refusal_words(view.refused)) + ".")
+            paragraphs.append(element("p", "There is no report. ", why, class_="refused"))
     else:
         said.extend(_report_sentences(view))
     paragraphs.insert(0, element("p", " ".join(said)))
@@ -104,7 +107,8 @@ def _report_sentences(view: View) -> List[str]:
         )
     else:
         words.append("%s chose degree %d." % (settings.criterion.upper(), report.degree))
-    words.append("The curve has %s, which leaves %s." % (count_of(report.degree + 1, "coefficient"), count_of(report.df, "degree of freedom", "degrees of freedom")))
+    left = count_of(report.df, "degree of freedom", "degrees of freedom")
+    words.append("The curve has %s, which leaves %s." % (count_of(report.degree + 1, "coefficient"), left))
     pruned = [_power_words(i) for i, mark in enumerate(report.pruned) if mark]
     if pruned:
         words.append("Student's t says that the curve could do without %s." % _and(pruned))
@@ -190,7 +194,7 @@ def _table(heading: str, columns: Sequence[str], rows: Sequence[Sequence[Cell]],
 
 
 def _room(columns: Sequence[str], rows: Sequence[Sequence[Cell]]) -> str:
-    """How much room a table needs, roughly: a small one fits a window of 44 letters' sizes, a middle one A4 and a desk's window; a broad one is always lines."""
+    """How much room a table needs, roughly: a small one fits any window but a phone's, a middle one A4 and a desk's; a broad one is always lines."""
     total = 0.0
     for j, column in enumerate(columns):
         need = max([len(word) for word in re.split(r" (?![^()]*\)$)", column)])
@@ -222,7 +226,8 @@ def _curve(view: View, svg: str) -> Html:
     if view.report is None:
         return _section("curve", "Readings, no curve", _figure(svg, "picture-curve", told + "No curve.", caption))
     report = view.report
-    told += "A curve of degree %d and its band; below it the residuals; %d of %s outside the band." % (report.degree, int(view.outside.sum()), count_of(len(view.names), "reading"))
+    told += "A curve of degree %d and its band; below it the residuals; " % report.degree
+    told += "%d of %s outside the band." % (int(view.outside.sum()), count_of(len(view.names), "reading"))
     caption += " Below, how far each reading lies from the curve."
     rows = []
     for i in range(report.degree + 1):
@@ -242,7 +247,7 @@ def _curve(view: View, svg: str) -> Html:
 
 def _scores(view: View, svg: str) -> Html:
     told = "Picture of the score of each degree. "
-    if view.scores is None:
+    if view.unscored is not None:
         return _section("scores", "Scores", element("p", "There are no scores. %s." % pictures.capital(refusal_words(view.unscored))))
     told += "Scores of degrees 0 to %d; degree %d is chosen." % (view.scores.bound, view.scores.degree)
     caption = "The lower, the better; the lowest degree up to the dashed line is chosen."
@@ -260,7 +265,8 @@ def _readings(season: Any, view: View) -> Html:
         return _section("readings", "Readings", element("p", "There are none."))
     weighted = any(reading.weight != 1 for reading in season.readings)
     called = any(reading.called for reading in season.readings)
-    columns = ["name"] + ["called"] * called + [view.x_name, view.y_name] + ["weight"] * weighted + ["band"] * (view.report is not None)
+    columns = ["name"] + ["called"] * called + [view.x_name, view.y_name] + ["weight"] * weighted
+    columns += ["band"] * (view.report is not None)
     noted = any(reading.note for reading in season.readings)
     sourced = any(reading.source for reading in season.readings)
     columns += ["mark"] + ["note"] * noted + ["source"] * sourced
@@ -376,5 +382,8 @@ LINES = """
 """
 CSS = CSS.replace(
     "LINES",
-    "\n".join("@media %s {%s}" % (width, LINES.replace("NAME", name)) for name, width in (("small", "(max-width: 44rem)"), ("middle", "screen and (max-width: 68rem)"), ("broad", "all"))),
+    "\n".join(
+        "@media %s {%s}" % (width, LINES.replace("NAME", name))
+        for name, width in (("small", "(max-width: 44rem)"), ("middle", "screen and (max-width: 68rem)"), ("broad", "all"))
+    ),
 )

@@ -1,7 +1,7 @@
 """Pictures of a season: readings, curve and band, residuals below, scores by degree beside.
 
-Everything that is drawn was answered by the library: the curve goes through `Book.band` at some 200 x's, and a reading is marked where the report marks
-it. Where the library refuses a report the readings are drawn all the same, and the picture says the refusal in words.
+Everything that is drawn was answered by the library: the curve goes through `Book.band` at some 200 x's, and a reading is marked where the report
+marks it. Where the library refuses a report the readings are drawn all the same, and the picture says the refusal in words.
 
 `plot(season, "pit.svg")` writes SVG, PNG or PDF by the file's suffix; the same season gives the same bytes. `figure(season)` is matplotlib's own
 Figure, for a notebook. No state of pyplot is touched.
@@ -125,7 +125,7 @@ def look(season: Any, title: Optional[str] = None) -> View:
 
 def title_of(season: Any) -> str:
     """The season file's name without its folder and suffix."""
-    return os.path.splitext(os.path.basename(season.path))[0]
+    return str(os.path.splitext(os.path.basename(season.path))[0])
 
 
 def written(text: str, value: float) -> str:
@@ -404,7 +404,7 @@ def _crowded(view: View) -> bool:
 
 def _area(view: View) -> float:
     """The area of a mark of the middle weight: smaller where there are many."""
-    return max(4.0, AREA * min(1.0, 120 / max(1, len(view.xs))) ** 0.5)
+    return max(4.0, AREA * math.sqrt(min(1.0, 120 / max(1, len(view.xs)))))
 
 
 def _areas(view: View) -> Any:
@@ -497,9 +497,8 @@ def _draw_residuals(axes: Any, view: View) -> None:
 def _draw_scores(axes: Any, view: View, narrow: bool = False) -> None:
     axes.set_xlabel("degree")
     axes.set_ylabel("score (%s)" % view.settings.criterion.upper())
-    if view.scores is None:
-        words = capital(refusal_words(view.unscored)) if view.unscored is not None else "No scores."
-        _say(axes, _wrap(words, 30))
+    if view.unscored is not None:
+        _say(axes, _wrap(capital(refusal_words(view.unscored)), 30))
         axes.set_xticks([])
         return
     known = [(row.degree, row.score) for row in view.scores.degrees if row.solved and math.isfinite(row.score)]
@@ -509,7 +508,8 @@ def _draw_scores(axes: Any, view: View, narrow: bool = False) -> None:
     if known:
         axes.plot([row[0] for row in known], [row[1] for row in known], "o", color=INSIDE, markersize=4.5, zorder=3, gid="scores")
         chosen = [row for row in known if row[0] == view.scores.degree]
-        axes.plot([row[0] for row in chosen], [row[1] for row in chosen], "o", color="none", markeredgecolor=OUTSIDE, markersize=11, markeredgewidth=1.6, zorder=4, gid="chosen")
+        ring = dict(color="none", markeredgecolor=OUTSIDE, markersize=11, markeredgewidth=1.6)
+        axes.plot([row[0] for row in chosen], [row[1] for row in chosen], "o", zorder=4, gid="chosen", **ring)
     if math.isfinite(line):
         axes.axhline(line, color=QUIET, linewidth=0.9, linestyle="--", zorder=1, gid="within")
     shown = [row[1] for row in known] + ([line] if math.isfinite(line) else [])
@@ -617,7 +617,8 @@ def _name_outside(axes: Any, view: View, kept: Sequence[Sequence[float]]) -> int
     taken = numpy.vstack([marks] + list(kept))
     left = 0
     for i in sorted(where.tolist(), key=lambda i: (-distance[i] if math.isfinite(distance[i]) else 0.0, i))[:NAMES]:
-        text = axes.annotate(view.names[i], (view.xs[i], view.ys[i]), xytext=(0, 0), textcoords="offset pixels", fontsize=8, color=OUTSIDE_TEXT, ha="center", va="center", zorder=5)
+        place = dict(xytext=(0, 0), textcoords="offset pixels", ha="center", va="center")
+        text = axes.annotate(view.names[i], (view.xs[i], view.ys[i]), fontsize=8, color=OUTSIDE_TEXT, zorder=5, **place)
         text.set_gid("name-%s" % view.names[i])
         box = text.get_window_extent(renderer)
         wide, high = box.width / 2 + 1, box.height / 2

@@ -129,23 +129,27 @@ def words_of(text):
     return re.findall(r"[\w.<>&%-]+", text.replace("\u2212", "-"))
 
 
-class Shows(unittest.TestCase):
-    """One page in one browser, looked at by all tests of the class."""
+def setUpModule():
+    """One browser for all: it takes a second to start."""
+    Shows.browser = Browser()
+    Shows.browser.__enter__()
+    unittest.addModuleCleanup(Shows.browser.__exit__)
 
-    season = staticmethod(rich)
+
+class Shows(unittest.TestCase):
+    """One page, looked at by all tests of the class."""
+
+    browser = None
 
     @classmethod
     def setUpClass(cls):
         cls.folder = tempfile.TemporaryDirectory()
         cls.addClassCleanup(cls.folder.cleanup)
-        cls.made = cls.season()
+        cls.made = rich()
         cls.path = os.path.join(cls.folder.name, "page.html")
         page.write(cls.made, cls.path)
         with open(cls.path, encoding="utf-8") as file:
             cls.text = file.read()
-        cls.browser = Browser()
-        cls.browser.__enter__()
-        cls.addClassCleanup(cls.browser.__exit__)
 
 
 class OnScreen(Shows):
@@ -177,7 +181,8 @@ class OnScreen(Shows):
         self.assertEqual(self.browser.requested, ["file://" + self.path])
         self.assertEqual(self.browser.ask("document.scripts.length"), 0)
         self.assertEqual(self.browser.ask("document.querySelectorAll('link, img, iframe, object, embed, audio, video, b, i').length"), 0)
-        self.assertEqual(self.browser.ask("[...document.querySelectorAll('*')].flatMap((e) => [...e.attributes]).filter((a) => a.name.startsWith('on')).length"), 0)
+        handlers = "[...document.querySelectorAll('*')].flatMap((e) => [...e.attributes]).filter((a) => a.name.startsWith('on')).length"
+        self.assertEqual(self.browser.ask(handlers), 0)
         self.assertEqual(self.browser.ask("document.title"), "shown: 30 readings, degree 2 by BIC, 3 outside the band")
 
     def test_notes_stand_as_they_were_written(self):
@@ -284,12 +289,17 @@ class OnPaper(Shows):
         cls.made.readings[5].note = "melt crust"
         cls.made.readings[4].note = cls.made.history[2].note = "<i> & words"
         page.write(cls.made, cls.path)
-        cls.browser.show(cls.path, 1280)
         cls.pdf = os.path.join(cls.folder.name, "page.pdf")
-        with open(cls.pdf, "wb") as file:
+        cls.pages = cls.printed(cls.path, cls.pdf)
+
+    @classmethod
+    def printed(cls, path, pdf):
+        """A page as it is printed, paper by paper."""
+        cls.browser.show(path, 1280)
+        with open(pdf, "wb") as file:
             file.write(cls.browser.pdf())
-        text = subprocess.run(["pdftotext", "-layout", cls.pdf, "-"], check=True, stdout=subprocess.PIPE).stdout.decode()
-        cls.pages = text.split("\f")[:-1]
+        text = subprocess.run(["pdftotext", "-layout", pdf, "-"], check=True, stdout=subprocess.PIPE).stdout.decode()
+        return text.split("\f")[:-1]
 
     def test_paper(self):
         info = subprocess.run(["pdfinfo", self.pdf], check=True, stdout=subprocess.PIPE).stdout.decode()
@@ -308,6 +318,7 @@ class OnPaper(Shows):
             self.assertLess(float(bottom), 842 - margin + 6, word)
 
     def test_every_word_is_printed(self):
+        self.browser.show(self.path, 1280)
         shown = set(words_of(self.browser.ask("document.body.innerText + ' ' + [...document.querySelectorAll('svg text')].map((e) => e.textContent).join(' ')")))
         printed = set(words_of(" ".join(self.pages)))
         self.assertGreater(len(shown), 150)
@@ -322,11 +333,19 @@ class OnPaper(Shows):
                 self.assertRegex(text, r"name +called +depth", "page %d" % (number + 1))
         self.assertEqual(seen, ["r%d" % i for i in range(1, 32)])
 
-    def test_short_tables_stand_on_one_page(self):
-        for first, last in ((r"term +coefficient", r"(?:kept\s[\s\S]*){3}"), (r"degree +BIC", r"6 +unsolved"), (r"line +time", r"withdraw r1 ")):
-            pages = [text for text in self.pages if re.search(first, text)]
-            self.assertEqual(len(pages), 1, first)
-            self.assertRegex(pages[0], last)
+    def test_short_tables_stand_on_one_page_wherever_they_come(self):
+        season, parted = rich(), set()
+        for more in range(0, 48, 6):
+            season.left_out = ["a line was left out"] * more  # what stands above pushes the tables down
+            path = os.path.join(self.folder.name, "lower.html")
+            page.write(season, path)
+            pages = self.printed(path, os.path.join(self.folder.name, "lower.pdf"))
+            for first, last in ((r"term +coefficient", r"(?:kept\s[\s\S]*){3}"), (r"degree +BIC", r"6 +unsolved"), (r"line +time", r"withdraw r1 ")):
+                found = [number for number, text in enumerate(pages) if re.search(first, text)]
+                self.assertEqual(len(found), 1, first)
+                self.assertRegex(pages[found[0]], last)
+                parted.add((first, found[0]))
+        self.assertGreater(len(parted), 5)  # they did come on different pages
 
 
 class OtherSeasons(Shows):
