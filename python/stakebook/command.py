@@ -10,7 +10,6 @@ import json
 import os
 import re
 import sys
-import tempfile
 import textwrap
 import threading
 import time
@@ -216,7 +215,7 @@ def _parser() -> argparse.ArgumentParser:
         name: str, run: Callable[[argparse.Namespace], int], words: str, changes: bool = False, as_json: bool = False
     ) -> argparse.ArgumentParser:
         made = commands.add_parser(name, help=words, description=words[0].upper() + words[1:] + ".", allow_abbrev=False)
-        made.set_defaults(run=run, changes=changes, json=False)
+        made.set_defaults(run=run, parser=made, changes=changes, json=False)
         made.add_argument("season", metavar="SEASON", help="the season's file")
         if changes:
             made.add_argument("--source", metavar="TEXT", help="where it comes from" + ("; without, the file's name" if name == "import" else ""))
@@ -623,6 +622,8 @@ def _export(arguments: argparse.Namespace) -> int:
 
 def _write_beside(path: str, data: bytes) -> None:
     """Writes a file whole or not at all."""
+    import tempfile
+
     try:
         descriptor, made = tempfile.mkstemp(dir=os.path.dirname(os.path.abspath(path)), prefix=".stake-")
         try:
@@ -695,7 +696,7 @@ def _refused(refused: Refused, arguments: argparse.Namespace) -> int:
     return 1
 
 
-def _run(arguments: argparse.Namespace, parser: argparse.ArgumentParser) -> int:
+def _run(arguments: argparse.Namespace) -> int:
     try:
         status = arguments.run(arguments)
         sys.stdout.flush()
@@ -703,7 +704,8 @@ def _run(arguments: argparse.Namespace, parser: argparse.ArgumentParser) -> int:
     except Refused as refused:
         return _refused(refused, arguments)
     except Usage as error:
-        parser.error(str(error))
+        arguments.parser.error(str(error))
+        return 2
     except (SeasonError, LibraryError) as error:
         _tell(str(error))
         if arguments.changes and arguments.command != "new" and not isinstance(error, NotSaved):
@@ -719,10 +721,9 @@ def main(argv: Optional[Sequence[str]] = None) -> int:
             stream.reconfigure(errors="backslashreplace")
     # A minus with a digit behind it is a number, and a space keeps argparse from taking it as an option. `_number` takes the space away.
     words = [f" {word}" if re.match(r"-[0-9]", word) else word for word in (sys.argv[1:] if argv is None else argv)]
-    parser = _parser()
-    arguments = parser.parse_args(words)
+    arguments = _parser().parse_args(words)
     try:
-        return _run(arguments, parser)
+        return _run(arguments)
     except KeyboardInterrupt:
         _tell("interrupted" + ("; `stake list` says whether the call was saved" if arguments.changes else ""))
         return 130

@@ -5,8 +5,8 @@
 
 A report's numbers are compared with the judge's (tests/season.answers), words of refusals with include/refusals.txt.
 
-The command always runs in a process of its own, with its own output and exit status. Whole seasons and the guide's session are run from the script; the many
-short calls of other tests are forked, which spares each of them the start of Python.
+The command always runs in a process of its own, with its own output and exit status. A whole season is run from the script; the many short calls of
+other tests are forked, which spares each of them the start of Python.
 """
 
 import contextlib
@@ -26,6 +26,7 @@ import tempfile
 import textwrap
 import time
 import traceback
+import types
 import unittest
 from pathlib import Path
 from unittest import mock
@@ -33,7 +34,8 @@ from unittest import mock
 ROOT = Path(__file__).resolve().parents[2]
 sys.path.insert(0, str(ROOT / "python"))
 
-from stakebook import Book, _library, command
+import stakebook
+from stakebook import Book, Refused, _library, command
 from stakebook.season import Season
 
 STAKE = str(ROOT / "bin" / "stake")
@@ -377,8 +379,9 @@ def guide_session(folder):
             Path(folder, split[1]).write_text(expected, encoding="utf-8")
             printed = expected
         else:
-            done = subprocess.run([sys.executable, STAKE, *split[1:]], stdout=subprocess.PIPE, stderr=subprocess.STDOUT, env=environment(), cwd=folder, timeout=60)
-            printed = done.stdout.decode()
+            done = forked(split[1:], folder)
+            # no command of the session says something on both
+            printed = (done.stdout + done.stderr).decode()
         yield words, expected, printed
 
 
@@ -664,17 +667,31 @@ class Files(Command):
                     self.assertEqual(told[name], list(map(double, shown[name][:count])), (flag, name))
                 self.assertEqual(told["outliers"], [mark == "1" for mark in shown["outliers"]])
 
-    def test_pictures_and_pages(self):
-        import matplotlib.pyplot  # once here, and not in each process that is forked
+    def test_what_becomes_of_pictures_and_pages(self):
+        # test_pictures.py and test_page.py draw real ones by this command; here their part is played by another
+        self.made(("1", "2"))
 
-        self.made(*[(str(x), str(y)) for x, y in enumerate((5, 1, 4, 4, 9, 3))], bound="1")
-        self.assertEqual(self.stake("plot", "s.stake", "s.svg"), "s.svg written\n")
-        self.assertEqual(self.stake("page", "s.stake", "s.html"), "s.html written\n")
-        self.assertIn(b"<svg", Path(self.folder, "s.svg").read_bytes())
-        self.assertIn(b"<html", Path(self.folder, "s.html").read_bytes())
-        self.assertIn(".gif", self.fails("plot", "s.stake", "s.gif", status=2))
-        for words in (("plot", "s.stake", "none/s.svg"), ("page", "s.stake", "none/s.html")):
-            self.assertIn(f"stake: {words[2]}: No such file or directory", self.fails(*words))
+        def played():
+            for name, call in (("pictures", "plot"), ("page", "write")):
+                module = types.ModuleType(f"stakebook.{name}")
+                setattr(module, call, lambda season, path, name=name: draw(season, path, name))
+                sys.modules[module.__name__] = module
+                setattr(stakebook, name, module)
+
+        def draw(season, path, name):
+            if path.endswith(".gif"):
+                raise ValueError(f"{path} is no picture")
+            if path.endswith("refused"):
+                raise Refused(7)
+            with open(path, "w") as file:
+                file.write(f"{name} of {season.book.count} in {os.path.basename(season.path)}")
+
+        for word, name in (("plot", "pictures"), ("page", "page")):
+            self.assertEqual(self.stake(word, "s.stake", "made.svg", prepare=played), "made.svg written\n")
+            self.assertEqual(Path(self.folder, "made.svg").read_text(), f"{name} of 1 in s.stake")
+            self.assertIn(f"stake {word}: error: a.gif is no picture\n", self.fails(word, "s.stake", "a.gif", status=2, prepare=played))
+            self.assertEqual(self.fails(word, "s.stake", "none/a.svg", prepare=played), "stake: none/a.svg: No such file or directory\n")
+            self.assertIn(f"refused by 7: {WORDS['7']}\nstake: the season is unchanged\n", self.fails(word, "s.stake", "refused", prepare=played))
 
     def test_pictures_without_matplotlib(self):
         self.made(("1", "2"), ("2", "4"), ("3", "7"), bound="1")
