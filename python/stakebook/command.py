@@ -10,11 +10,10 @@ import json
 import os
 import re
 import sys
-import tempfile
 import textwrap
 import threading
 import time
-from typing import Any, Callable, Dict, Iterator, List, NoReturn, Optional, Sequence, Tuple
+from typing import Any, Callable, Dict, List, Optional, Sequence
 
 from . import season as seasons
 from ._library import LibraryError, Refused
@@ -192,10 +191,14 @@ def _asked(arguments: argparse.Namespace, season: Season) -> Settings:
 
 def _add_settings(parser: argparse.ArgumentParser, words: str) -> None:
     group = parser.add_argument_group("settings", words)
-    group.add_argument("--bound", type=_bound, metavar="B", help="the highest degree to try, or conservative, relaxed or aggressive, which need many readings")
+    group.add_argument(
+        "--bound", type=_bound, metavar="B", help="the highest degree to try, or conservative, relaxed or aggressive, which need many readings"
+    )
     group.add_argument("--criterion", choices=("aic", "bic"), help="how degrees are scored")
     group.add_argument("--confidence", type=_confidence, metavar="P", help="P80, P90, P95, P98, P99, P999 or a z score")
-    group.add_argument("--tolerance", type=_tolerance, metavar="T", help="none, or absolute=, variance= or measurement= with a number: what the band allows besides")
+    group.add_argument(
+        "--tolerance", type=_tolerance, metavar="T", help="what the band allows besides: none, or absolute=, variance= or measurement= with a number"
+    )
     group.add_argument("--pruning", choices=("size", "positive"), help="which terms are marked: by size, or polyfit's rule")
 
 
@@ -208,18 +211,22 @@ def _parser() -> argparse.ArgumentParser:
     )
     commands = parser.add_subparsers(title="commands", dest="command", metavar="COMMAND", required=True)
 
-    def command(name: str, run: Callable[[argparse.Namespace], int], words: str, changes: bool = False, as_json: bool = False) -> argparse.ArgumentParser:
+    def command(
+        name: str, run: Callable[[argparse.Namespace], int], words: str, changes: bool = False, as_json: bool = False
+    ) -> argparse.ArgumentParser:
         made = commands.add_parser(name, help=words, description=words[0].upper() + words[1:] + ".", allow_abbrev=False)
-        made.set_defaults(run=run, changes=changes, json=False)
+        made.set_defaults(run=run, parser=made, changes=changes, json=False)
         made.add_argument("season", metavar="SEASON", help="the season's file")
         if changes:
+            made.add_argument("--source", metavar="TEXT", help="where it comes from" + ("; without, the file's name" if name == "import" else ""))
             made.add_argument("--note", metavar="TEXT", help="a note to keep with the call")
         if as_json:
             made.add_argument("--json", action="store_true", help="for programs")
         return made
 
     _add_settings(command("new", _new, "begin a season", changes=True), "of the season's reports; without: relaxed, bic, P95, none, size")
-    _add_settings(command("settings", _set, "show the season's settings, or change those that are given", changes=True, as_json=True), "those to change")
+    made = command("settings", _set, "show the season's settings, or change those that are given", changes=True, as_json=True)
+    _add_settings(made, "those to change")
 
     made = command("import", _import, "add the readings of a table, all or none", changes=True)
     made.add_argument("file", metavar="FILE", help="a table with headings: comma, semicolon or tab between; - is standard input")
@@ -234,16 +241,13 @@ def _parser() -> argparse.ArgumentParser:
     made.add_argument("x", metavar="X", type=_number)
     made.add_argument("y", metavar="Y", type=_number)
     made.add_argument("--weight", metavar="W", type=_number, default="1", help="what the reading counts; without, 1")
-    made.add_argument("--source", metavar="TEXT", help="where it comes from")
 
     made = command("correct", _correct, "give a reading a new y", changes=True)
     made.add_argument("name", metavar="NAME", type=_name, help="r1, r2, ..")
     made.add_argument("y", metavar="Y", type=_number)
-    made.add_argument("--source", metavar="TEXT", help="where it comes from")
 
     made = command("withdraw", _withdraw, "take a reading out; its name stays its own", changes=True)
     made.add_argument("name", metavar="NAME", type=_name, help="r1, r2, ..")
-    made.add_argument("--source", metavar="TEXT", help="where that comes from")
 
     command("undo", _undo, "take back the last call that stands, an import whole", changes=True)
 
@@ -266,11 +270,18 @@ def _parser() -> argparse.ArgumentParser:
     made.add_argument("file", metavar="FILE", help="an .html file to write")
 
     made = command("export", _export, "write the season for other programs")
-    made.add_argument("--format", choices=("csv", "frame", "calls"), default="csv", help="csv: the readings that stand; frame: these as one frame of version 2; calls: the list of calls for journal")
+    made.add_argument(
+        "--format",
+        choices=("csv", "frame", "calls"),
+        default="csv",
+        help="csv: the readings that stand; frame: these as one frame of version 2; calls: the list of calls for journal",
+    )
     made.add_argument("--output", metavar="FILE", help="without, standard output")
 
     made = command("check", _check, "read the file again, make its book in other ways and compare every bit", as_json=True)
-    made.add_argument("--leave-out", metavar="LINE", type=_whole, action="append", default=[], help="give a damaged line up, by a line more in the file")
+    made.add_argument(
+        "--leave-out", metavar="LINE", type=_whole, action="append", default=[], help="give a damaged line up, by a line more in the file"
+    )
     return parser
 
 
@@ -278,7 +289,7 @@ def _parser() -> argparse.ArgumentParser:
 
 
 def _new(arguments: argparse.Namespace) -> int:
-    season = Season.create(arguments.season, _settings_of(arguments, SettingsText()), note=arguments.note)
+    season = Season.create(arguments.season, _settings_of(arguments, SettingsText()), arguments.source, arguments.note)
     _say(f"{season.path}: a new season, {season.settings.summary()}")
     return 0
 
@@ -287,7 +298,7 @@ def _set(arguments: argparse.Namespace) -> int:
     season = _open(arguments.season)
     text = _settings_of(arguments, season.settings_text)
     if text != season.settings_text or arguments.note:
-        season.set(text, note=arguments.note)
+        season.set(text, arguments.source, arguments.note)
     if arguments.json:
         _say_json(season.settings.as_dict())
     else:
@@ -305,7 +316,7 @@ def _import(arguments: argparse.Namespace) -> int:
     season = _open(arguments.season)
     with _Progress(f"importing {table.source}") as progress:
         try:
-            readings = season.add_rows(table.rows, table.columns, table.source, arguments.note, progress.of(len(table.rows)))
+            readings = season.add_rows(table.rows, table.columns, arguments.source or table.source, arguments.note, progress.of(len(table.rows)))
         except RefusedRow as refused:
             raise RefusedField(refused.number, "", f"{table.source}:{table.rows[refused.row].line}") from None
     names = readings[0].name if len(readings) == 1 else f"{readings[0].name} to {readings[-1].name}"
@@ -354,7 +365,7 @@ def _withdraw(arguments: argparse.Namespace) -> int:
 
 def _undo(arguments: argparse.Namespace) -> int:
     season = _open(arguments.season)
-    call = season.undo(note=arguments.note)
+    call = season.undo(arguments.source, arguments.note)
     _say(f"{season.path}: line {call.line} taken back and saved: {call.text}; {counted(season.book.count, 'reading')}")
     return 0
 
@@ -377,7 +388,9 @@ def _list(arguments: argparse.Namespace) -> int:
     elif arguments.history:
         rows = [["line", "time", "call", "", ""]]
         for call in season.history:
-            rows.append([str(call.line), call.time or "", call.text, "undone" if call.undone else "", _remarks(call.source if call.call != "import" else None, call.note)])
+            # an import's text has its source
+            kept = _remarks(call.source if call.call != "import" else None, call.note)
+            rows.append([str(call.line), call.time or "", call.text, "undone" if call.undone else "", kept])
         _say(_table(rows, (1, 2, 3, 4)))
     else:
         called = any(reading.called for reading in season.readings)
@@ -525,7 +538,10 @@ def _report(arguments: argparse.Namespace) -> int:
     if split is not None:
         first, last = _named(standing[split.at - 1]), _named(standing[split.at])
         _say(f"\nThe list breaks between {first} and {last} (total {_six(split.total)}, {counted(split.tests, 'pivot test')}):")
-        for words, count, degree, coefficients in (("before", split.at, split.degree_before, split.before), ("after", split.n - split.at, split.degree_after, split.after)):
+        for words, count, degree, coefficients in (
+            ("before", split.at, split.degree_before, split.before),
+            ("after", split.n - split.at, split.degree_after, split.after),
+        ):
             terms = " ".join(f"{_six(c)} {_term(i)}" if i else _six(c) for i, c in enumerate(coefficients))
             _say(f"  {words}: {counted(count, 'reading')}, degree {degree}, {terms}")
     if warnings:
@@ -606,6 +622,8 @@ def _export(arguments: argparse.Namespace) -> int:
 
 def _write_beside(path: str, data: bytes) -> None:
     """Writes a file whole or not at all."""
+    import tempfile
+
     try:
         descriptor, made = tempfile.mkstemp(dir=os.path.dirname(os.path.abspath(path)), prefix=".stake-")
         try:
@@ -648,7 +666,8 @@ def _check(arguments: argparse.Namespace) -> int:
         _say(f"  {found.torn}. Everything before stands, and the next call will say so in the file")
     _say(f"  {counted(found.calls, 'call')} in force, {counted(found.readings, 'reading')}")
     for what, same in found.compared:
-        _say(f"  the replayed book and {what}: " + (f"{found.readings:,} x's, y's and weights and 272 sums are the same, bit for bit" if same else "they DIFFER"))
+        bits = f"{found.readings:,} x's, y's and weights and 272 sums are the same, bit for bit" if same else "they DIFFER"
+        _say(f"  the replayed book and {what}: {bits}")
     return 0 if found.good else 1
 
 
@@ -677,7 +696,7 @@ def _refused(refused: Refused, arguments: argparse.Namespace) -> int:
     return 1
 
 
-def _run(arguments: argparse.Namespace, parser: argparse.ArgumentParser) -> int:
+def _run(arguments: argparse.Namespace) -> int:
     try:
         status = arguments.run(arguments)
         sys.stdout.flush()
@@ -685,7 +704,8 @@ def _run(arguments: argparse.Namespace, parser: argparse.ArgumentParser) -> int:
     except Refused as refused:
         return _refused(refused, arguments)
     except Usage as error:
-        parser.error(str(error))
+        arguments.parser.error(str(error))
+        return 2
     except (SeasonError, LibraryError) as error:
         _tell(str(error))
         if arguments.changes and arguments.command != "new" and not isinstance(error, NotSaved):
@@ -701,10 +721,9 @@ def main(argv: Optional[Sequence[str]] = None) -> int:
             stream.reconfigure(errors="backslashreplace")
     # A minus with a digit behind it is a number, and a space keeps argparse from taking it as an option. `_number` takes the space away.
     words = [f" {word}" if re.match(r"-[0-9]", word) else word for word in (sys.argv[1:] if argv is None else argv)]
-    parser = _parser()
-    arguments = parser.parse_args(words)
+    arguments = _parser().parse_args(words)
     try:
-        return _run(arguments, parser)
+        return _run(arguments)
     except KeyboardInterrupt:
         _tell("interrupted" + ("; `stake list` says whether the call was saved" if arguments.changes else ""))
         return 130

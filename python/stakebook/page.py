@@ -77,7 +77,7 @@ def _summary(season: Any, view: View) -> Html:
     said = ["%s in force%s." % (_are(len(view.names), "reading"), ", {:,} withdrawn".format(withdrawn) if withdrawn else "")]
     paragraphs: List[Html] = []
     if view.report is None:
-        if view.names:
+        if view.names and view.refused is not None:
             why = element("strong", pictures.capital(refusal_words(view.refused)) + ".")
             paragraphs.append(element("p", "There is no report. ", why, class_="refused"))
     else:
@@ -247,7 +247,7 @@ def _curve(view: View, svg: str) -> Html:
 
 def _scores(view: View, svg: str) -> Html:
     told = "Picture of the score of each degree. "
-    if view.scores is None:
+    if view.unscored is not None:
         return _section("scores", "Scores", element("p", "There are no scores. %s." % pictures.capital(refusal_words(view.unscored))))
     told += "Scores of degrees 0 to %d; degree %d is chosen." % (view.scores.bound, view.scores.degree)
     caption = "The lower, the better; the lowest degree up to the dashed line is chosen."

@@ -125,7 +125,7 @@ def look(season: Any, title: Optional[str] = None) -> View:
 
 def title_of(season: Any) -> str:
     """The season file's name without its folder and suffix."""
-    return os.path.splitext(os.path.basename(season.path))[0]
+    return str(os.path.splitext(os.path.basename(season.path))[0])
 
 
 def written(text: str, value: float) -> str:
@@ -404,7 +404,7 @@ def _crowded(view: View) -> bool:
 
 def _area(view: View) -> float:
     """The area of a mark of the middle weight: smaller where there are many."""
-    return max(4.0, AREA * min(1.0, 120 / max(1, len(view.xs))) ** 0.5)
+    return max(4.0, AREA * math.sqrt(min(1.0, 120 / max(1, len(view.xs)))))
 
 
 def _areas(view: View) -> Any:
@@ -497,9 +497,8 @@ def _draw_residuals(axes: Any, view: View) -> None:
 def _draw_scores(axes: Any, view: View, narrow: bool = False) -> None:
     axes.set_xlabel("degree")
     axes.set_ylabel("score (%s)" % view.settings.criterion.upper())
-    if view.scores is None:
-        words = capital(refusal_words(view.unscored)) if view.unscored is not None else "No scores."
-        _say(axes, _wrap(words, 30))
+    if view.unscored is not None:
+        _say(axes, _wrap(capital(refusal_words(view.unscored)), 30))
         axes.set_xticks([])
         return
     known = [(row.degree, row.score) for row in view.scores.degrees if row.solved and math.isfinite(row.score)]

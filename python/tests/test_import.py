@@ -100,6 +100,10 @@ class WhatTheAlpsSend(unittest.TestCase):
         read = table('"depth; m","density; kg"\n"0,5","1,5"\n', x="depth; m", y="density; kg")
         self.assertEqual((numbers(read), read.delimiter), ([("0.5", "1.5")], "comma"))
 
+    def test_which_sign_parts_the_fields(self):
+        self.assertEqual(numbers(table("x;place, name;y\n1,5;a, b;2\n")), [("1.5", "2")])
+        self.assertEqual(numbers(table("x\tplace, name; height\ty\n1,5\ta;b, c\t2\n")), [("1.5", "2")])
+
     def test_decimal_commas_as_text(self):
         for text, point in (("0,25", "0.25"), ("-1,5", "-1.5"), ("1,5,0", "1,5,0"), ("1.000,5", "1.000,5"), ("7", "7"), (",5", ".5"), ("x,y", "x.y")):
             self.assertEqual(decimal_point(text), point)

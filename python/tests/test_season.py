@@ -7,6 +7,7 @@ calls is said by `Model`, plain lists that know nothing of files or books. A dec
 """
 
 import doctest
+import fcntl
 import json
 import os
 import random
@@ -181,7 +182,7 @@ class Folder(unittest.TestCase):
         season.add("0.70", "287", source="field book, page 12")
         season.correct("r4", "278", note='"mistyped"\n')
         season.withdraw("r2", note="Föhn 🏔")
-        season.undo()
+        season.undo(source="hut", note="no wind")
         season.add(0.1 + 0.2, 2, 0.5)
         season.set(SettingsText("relaxed", "aic", "1.5", "absolute 0.25", "positive"))
         season.withdraw("r1")
@@ -202,7 +203,7 @@ class Format(Folder):
             f'add r4 0.70 287 source "field book, page 12" at {AT}',
             f'correct r4 278 note "\\"mistyped\\"\\n" at {AT}',
             f'withdraw r2 note "Föhn 🏔" at {AT}',
-            f"undo 9 at {AT}",
+            f'undo 9 source "hut" note "no wind" at {AT}',
             f"add r5 0x1.3333333333334p-2 2 weight 0x1p-1 at {AT}",
             f"settings bound relaxed criterion aic confidence 1.5 tolerance absolute 0.25 pruning positive at {AT}",
             f"withdraw r1 at {AT}",
@@ -573,6 +574,25 @@ class ListsOfCalls(Folder):
             thread.join()
         self.assertEqual([(s.torn, s.book.count) for s in seasons], [(None, 1)] * 3)
 
+    def test_a_file_that_another_takes_the_place_of_while_one_waits(self):
+        waits = threading.Event()
+        season = Season.create(self.path)
+        season.add("1", "1")
+        season = Season.open(self.path, waits.set)
+        other = Season.create(self.path + "2")
+        other.add_rows([NewRow("5", "6"), NewRow("7", "8")])
+        with open(self.path, "rb") as file:
+            fcntl.flock(file, fcntl.LOCK_EX)
+            thread = threading.Thread(target=season.add, args=("2", "2"))
+            thread.start()
+            self.assertTrue(waits.wait(30))
+            os.replace(self.path + "2", self.path)
+            fcntl.flock(file, fcntl.LOCK_UN)
+            thread.join()
+            self.assertEqual(len(file.read().splitlines()), 3)
+        self.assertEqual([(r.name, r.x_text) for r in Season.open(self.path).readings], [("r1", "5"), ("r2", "7"), ("r3", "2")])
+        self.assertEqual(seen(Season.open(self.path)), seen(season))
+
     def test_what_a_full_book_refuses(self):
         season = Season.create(self.path)
         season.add_rows([NewRow(str(i), "1") for i in range(4095)])
@@ -619,10 +639,10 @@ class Saving(Folder):
         with mock.patch.object(seasonfile.os, "fsync", synced):
             season = Season.create(self.path)
             self.assertEqual(order, [len(self.data()), "folder"])
-            for call in (lambda: season.add("1", "2"), lambda: season.correct("r1", "3"), lambda: season.withdraw("r1"), season.undo, lambda: season.set(Settings())):
+            for call, *given in ((season.add, "1", "2"), (season.correct, "r1", "3"), (season.withdraw, "r1"), (season.undo,), (season.set, Settings())):
                 order.clear()
                 before = len(self.data())
-                call()
+                call(*given)
                 self.assertEqual(order, [len(self.data())])
                 self.assertGreater(order[0], before)
 
@@ -739,8 +759,8 @@ class Torn(Folder):
     def test_the_line_that_tells_of_a_torn_tail_is_torn_too(self):
         before, after = self.states(lambda season: season.add_rows([NewRow("1", "2", None, 2), NewRow("2", "3")]))
         head = after.index(b"\n", len(before)) + 1
-        # cut after the first byte, in the head, at the end of the head, before the last newline of all, one byte earlier
-        for end in (len(before) + 1, len(before) + 9, head, len(after) - 1, len(after) - 2):
+        # cut in the head, at the end of the head, before the last newline of all
+        for end in (len(before) + 9, head, len(after) - 1):
             self.put(after[:end])
             season = Season.open(self.path)
             season.add("0.9", "290")
@@ -903,7 +923,8 @@ class Warnings(Folder):
         season = Season.create(self.path)
         season.add_rows([NewRow(str(i % 2), str(i % 2)) for i in range(8)])
         words = self.warned(season, Settings(bound=1, tolerance=("absolute", 1)), 3, (2, 3))
-        self.assertEqual(words, ["Of the degrees 0 to 3, 2 could not be solved (2, 3): there are 2 different values of x, and a degree needs one more than its number."])
+        few = "there are 2 different values of x, and a degree needs one more than its number."
+        self.assertEqual(words, [f"Of the degrees 0 to 3, 2 could not be solved (2, 3): {few}"])
 
     def test_outliers_and_no_freedom(self):
         season = Season.create(self.path)
