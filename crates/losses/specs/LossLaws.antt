@@ -38,7 +38,7 @@ use Rattle.report.specs.Refusals.{reportNeeds, reportRefusal}
 use Rattle.report.specs.RefusalLaws.{report-room}
 use Rattle.report.specs.ReportLaws.{number-alike, told-alike}
 use Rattle.reporting.specs.Chosen.{chosenRefusal}
-use Rattle.reporting.specs.ChosenLaws.{of-number, chosen-numbers}
+use Rattle.reporting.specs.ChosenLaws.{of-either, of-number, chosen-numbers}
 use Rattle.reporting.specs.Reports.{reportNumber}
 use Rattle.report.specs.Reports.{reportChoice, reportOn}
 use Rattle.report.specs.ChosenLaws.{chosen-solved}
@@ -158,12 +158,7 @@ by-told n settings rows sums degree l d total score h = (cc, length-losses-at su
 
 of-told : (n : ℕ) (settings : Settings) (rows : List Row) (sums : List Float) (o : OptionDegree) → length rows ≡ n → Told n (lossOf n settings rows sums o)
 unfolding lossOf
-of-told n settings rows sums None l = none-told n 11 (zeros n)
-of-told n settings rows sums (Some d) l = go (inverseFails sums (countOf Curve (d .0))) _ (by-told n settings rows sums (d .0) l)
-  where
-    go : (t : Bool) (w : LossOut) → Told n w → Told n (cond t (lossLate n 12) w)
-    go true w h = none-told n 12 (zeros n)
-    go false w h = h
+of-told n settings rows sums o l = of-either Curve sums (lossLate n) _ (Told n) o (λ r. none-told n r (zeros n)) (λ d e. by-told n settings rows sums (d .0) l)
 
 settled-told : (n r : ℕ) (w : LossOut) → Told n w → Told n (settle r w (lossRefused r))
 settled-told n zero w h = h

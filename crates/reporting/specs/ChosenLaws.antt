@@ -52,6 +52,15 @@ module _ {A : Type 0} (basis : Basis) (sums : List Float) (late : ℕ → A) (to
       go true q = absurd (omega arith)
       go false q = refl
 
+  -- what holds of it where it is refused, and of every degree that may be chosen
+  pub of-either : (P : A → Type 0) (o : OptionDegree) → ((r : ℕ) → P (late r)) → ((d : Degree) → o ≡ Some d → P (told d)) → P (ofChosen basis sums late told o)
+  of-either P None l h = l 11
+  of-either P (Some d) l h = go (inverseFails sums (countOf basis (d .0)))
+    where
+      go : (t : Bool) → P (cond t (late 12) (told d))
+      go true = l 12
+      go false = h d refl
+
   -- its number is that of the choice
   pub of-number : (number : A → ℕ) → ((r : ℕ) → number (late r) ≡ r) → ((d : Degree) → number (told d) ≡ 0) → (o : OptionDegree)
       → number (ofChosen basis sums late told o) ≡ chosenRefusal basis o sums
