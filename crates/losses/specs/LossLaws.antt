@@ -158,7 +158,7 @@ by-told n settings rows sums degree l d total score h = (cc, length-losses-at su
 
 of-told : (n : ℕ) (settings : Settings) (rows : List Row) (sums : List Float) (o : OptionDegree) → length rows ≡ n → Told n (lossOf n settings rows sums o)
 unfolding lossOf
-of-told n settings rows sums o l = of-either Curve sums (lossLate n) _ (Told n) o (λ r. none-told n r (zeros n)) (λ d e. by-told n settings rows sums (d .0) l)
+of-told n settings rows sums o l = of-either Curve sums (lossLate n) _ (Told n) o (none-told n 11 (zeros n)) (none-told n 12 (zeros n)) (λ d e. by-told n settings rows sums (d .0) l)
 
 settled-told : (n r : ℕ) (w : LossOut) → Told n w → Told n (settle r w (lossRefused r))
 settled-told n zero w h = h

@@ -52,13 +52,13 @@ module _ {A : Type 0} (basis : Basis) (sums : List Float) (late : ℕ → A) (to
       go true q = absurd (omega arith)
       go false q = refl
 
-  -- what holds of it where it is refused, and of every degree that may be chosen
-  pub of-either : (P : A → Type 0) (o : OptionDegree) → ((r : ℕ) → P (late r)) → ((d : Degree) → o ≡ Some d → P (told d)) → P (ofChosen basis sums late told o)
-  of-either P None l h = l 11
-  of-either P (Some d) l h = go (inverseFails sums (countOf basis (d .0)))
+  -- what holds where it is refused, and where it is told of the chosen degree
+  pub of-either : (P : A → Type 0) (o : OptionDegree) → P (late 11) → P (late 12) → ((d : Degree) → o ≡ Some d → P (told d)) → P (ofChosen basis sums late told o)
+  of-either P None none fails h = none
+  of-either P (Some d) none fails h = go (inverseFails sums (countOf basis (d .0)))
     where
       go : (t : Bool) → P (cond t (late 12) (told d))
-      go true = l 12
+      go true = fails
       go false = h d refl
 
   -- its number is that of the choice

@@ -264,7 +264,7 @@ module _ (n : ℕ) (settings : Settings) (rows : List Row) (sums : List Float) (
   unfolding scoresPast scoresOf
   past-told =
       of-either Curve sums (scoresLate n) _ (Told (reportChoice n settings rows sums .score)) (reportChoice n settings rows sums .chosen)
-      (λ r. none-told _ r (zeros n)) by-told
+      (none-told _ 11 (zeros n)) (none-told _ 12 (zeros n)) by-told
 
 settled-told : (score : Float) (r : ℕ) (w : ScoresOut) → (r ≡ 0 → Told score w) → Told score (settle r w (scoresRefused r))
 settled-told score zero w h = h refl
