@@ -35,7 +35,7 @@ pub data Change : Type 0 where
   texts : List ℕ → Change
   windows : Sample → Change
 
--- A call of a list. R is the type of the calls that only read (fit, report, validate, band, split, losses), each with its arguments and the lengths of the memory
+-- A call of a list. R is the type of the calls that only read (fit, report, validate, band, split, losses, scores), each with its arguments and the lengths of the memory
 -- lent to it alone.
 pub data Call (R : Type 0) : Type 0 where
   changes : Change → Call R

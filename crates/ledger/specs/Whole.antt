@@ -40,7 +40,7 @@ pub record WholeBook (columns : Columns) (sums : List Float) (cs : List (Call Re
       → cs ≡ before ++ (reads (reports settings places) ∷ after)
       → ReportedIn (lentOf columns sums) before settings places (programReplies readOn (opened columns sums) cs)
 
--- Take any list of adds, a window's adds, corrections, withdrawals, frames, lines, fits, validations, bands, reports, splits and losses, refused ones included, in any
+-- Take any list of adds, a window's adds, corrections, withdrawals, frames, lines, fits, validations, bands, reports, splits, losses and scores, refused ones included, in any
 -- order, from a book just opened.
 abbrev pub AnyList : Type 0
 AnyList = (columns : Columns) (sums : List Float) → openOut sums .answer ≡ bookOf 0 → (cs : List (Call ReadCall)) → WholeBook columns sums cs

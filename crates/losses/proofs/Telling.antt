@@ -1,6 +1,5 @@
 -- What the losses come to: refused by 1 to 9, refused by 11 or 12, or told.
 use mathlib.Core.Path.{_≡_, refl, sym, ap, ap₂, _∙_}
-use mathlib.Core.Bool.{Bool, true, false, cond}
 use mathlib.Core.List.{List, _++_, map}
 use Prim.Native.Nat.{ℕ, zero, suc, _≤_}
 use native.Mathlib.Omega.{arith}
@@ -12,9 +11,7 @@ use Rattle.loops.specs.Within.{Within}
 use Rattle.loops.specs.WithinLaws.{within-then, within-written, front-written}
 use Rattle.basis.specs.Counts.{countOf}
 use Rattle.basis.specs.declared.Basis.the-variants.{Curve}
-use Rattle.basis.specs.declared.Degree.{Degree}
-use Rattle.basis.specs.declared.OptionDegree.{OptionDegree}
-use Rattle.basis.specs.declared.OptionDegree.the-variants.{Some, None}
+use Rattle.basis.specs.declared.OptionDegree.the-variants.{Some}
 use Rattle.value.specs.Absolute.{absF}
 use Rattle.value.specs.Total.{totalF}
 use Rattle.statistics.specs.Losses.{huberLoss, losses}
@@ -24,13 +21,13 @@ use Rattle.monomial.specs.Rows.{Row}
 use Rattle.score.specs.Score.{scoreOf}
 use Rattle.fit.specs.Residuals.{residual, residuals}
 use Rattle.refusal.specs.Refusals.{settle}
-use Rattle.measure.specs.Measures.{inverseFails}
 use Rattle.lent.specs.Slices.{contentsOf}
 use Rattle.lent.specs.Written.{zeros}
 use Rattle.lent.specs.WrittenLaws.{over-by, over-cleared}
 use Rattle.settings.specs.declared.Settings.{Settings}
 use Rattle.reporting.specs.declared.Chosen.{Chosen}
 use Rattle.reporting.specs.Chosen.{chosenRefusal, Chooses}
+use Rattle.reporting.specs.ChosenLaws.{of-late, of-told}
 use Rattle.report.specs.Reports.{reportChoice}
 use Rattle.report.specs.ChosenLaws.{chosen-solved}
 use Rattle.losses.specs.declared.LossAnswer.{LossAnswer}
@@ -57,32 +54,14 @@ pub let-through : (q n : ℕ) (settings : Settings) (rows own : List Row) (sums 
 let-through q n settings rows own sums r s s′ l l′ e same f = rw (e, ← same) f
 
 module _ (n : ℕ) (settings : Settings) (rows : List Row) (sums : List Float) where
-  -- a number that is not 0 is what the losses are refused by
-  late : (o : OptionDegree) (r : ℕ) → r ≡ chosenRefusal Curve o sums → (r ≡ 0 → ⊥) → lossOf n settings rows sums o ≡ lossLate n r
-  unfolding lossOf chosenRefusal
-  late None r e h = ap (lossLate n) (sym e)
-  late (Some d) r e h = go (inverseFails sums (countOf Curve (d .0))) _ e
-    where
-      go : (t : Bool) (w : LossOut) → r ≡ cond t 12 0 → cond t (lossLate n 12) w ≡ lossLate n r
-      go true w q = ap (lossLate n) (sym q)
-      go false w q = absurd (h q)
-
-  chosen-whole : (d : Degree) → chosenRefusal Curve (Some d) sums ≡ 0 → lossOf n settings rows sums (Some d) ≡ lossesBy n settings rows sums (d .0)
-  unfolding lossOf chosenRefusal
-  chosen-whole d e = go (inverseFails sums (countOf Curve (d .0))) _ e
-    where
-      go : (t : Bool) (w : LossOut) → _≡_ {A = ℕ} (cond t 12 0) 0 → cond t (lossLate n 12) w ≡ w
-      go true w q = absurd (omega arith)
-      go false w q = refl
-
   -- m is what was chosen, and u scratch after it
   module _ (s u : List Float) (m : Chosen) (ch : Chooses Curve (reportChoice n settings rows sums) n rows sums s u m) where
     -- 11 or 12: scratch is cleared
     pub refused-late : (m .number ≡ 0 → ⊥) → (l t : List Float) → t ≡ zeros n ++ drop n u
         → LossIs (lossPast n settings rows sums) (answers.Refused (m .number)) (contentsOf s t) (contentsOf l l)
-    unfolding lossPast
+    unfolding lossPast lossOf
     refused-late h l t cleared =
-        rw (late (reportChoice n settings rows sums .chosen) (m .number) (ch .number) h)
+        rw (of-late Curve sums (lossLate n) (λ d. lossesBy n settings rows sums (d .0)) (reportChoice n settings rows sums .chosen) (m .number) (ch .number) h)
         (record { answer = refl; scratch = over-cleared n s u t (ch .within) cleared; losses = refl })
 
     module _ (z : m .number ≡ 0) where
@@ -91,11 +70,11 @@ module _ (n : ℕ) (settings : Settings) (rows : List Row) (sums : List Float) w
       few-terms h = omega (arith, h, chosen-solved n settings rows sums (m .degree) (ch .degree z) .0)
 
       told-by : lossPast n settings rows sums ≡ lossesBy n settings rows sums (m .degree .0)
-      unfolding lossPast
+      unfolding lossPast lossOf
       told-by =
           let o = ch .degree z in
           let e : chosenRefusal Curve (Some (m .degree)) sums ≡ 0 = ap (λ d. chosenRefusal Curve d sums) (sym o) ∙ sym (ch .number) ∙ z in
-          ap (lossOf n settings rows sums) o ∙ chosen-whole (m .degree) e
+          rw o (of-told Curve sums (lossLate n) (λ d. lossesBy n settings rows sums (d .0)) (m .degree) e)
 
       -- k is the count of its coefficients; the sizes of their residuals were written to scratch, which v is now
       module _ (k : ℕ) (ek : k ≡ countOf Curve (m .degree .0)) (rowed : length rows ≡ n) (v : List Float) (written : v ≡ map absF (residuals k (m .c) rows) ++ drop n u) (h : n ≤ length u) where

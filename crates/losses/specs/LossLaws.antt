@@ -1,7 +1,7 @@
 -- Laws of Losses.antt: what the losses may answer, that they answer where a report does, and that their total is the one that the chosen score is made of.
 use mathlib.Core.Path.{_≡_, refl, sym, ap, _∙_}
 use mathlib.Core.Bool.{Bool, true, false, cond}
-use mathlib.Core.List.{List, [], _∷_, List·Memᴰ, List·Memᴰ·head, Memᴰ·append-right}
+use mathlib.Core.List.{List, [], _∷_, List·Memᴰ}
 use Prim.Native.Nat.{ℕ, zero, suc, _+_}
 use native.Mathlib.Omega.{arith}
 use lib.ListN.{length, length-map}
@@ -29,16 +29,18 @@ use Rattle.refusal.specs.Refusals.{settle, firstOf}
 use Rattle.refusal.specs.Tests.{tooShort}
 use Rattle.refusal.specs.Laws.{settled-among}
 use Rattle.refusal.specs.RoomLaws.{long-enough}
-use Rattle.measure.specs.Measures.{inverseFails, covarianceAt}
+use Rattle.measure.specs.Measures.{inverseFails}
 use Rattle.lent.specs.Written.{zeros}
 use Rattle.settings.specs.declared.Settings.{Settings}
 use Rattle.reporting.specs.declared.Places.{Places}
 use Rattle.reporting.specs.declared.ReportAnswer.the-variants as reports
 use Rattle.report.specs.Refusals.{reportNeeds, reportRefusal}
 use Rattle.report.specs.RefusalLaws.{report-room}
-use Rattle.reporting.specs.Reports.{ReportOut, reportNumber, refusedLate, refusedEarly, writtenBy, reportOf}
-use Rattle.report.specs.Reports.{reportPast, reportOn}
-use Rattle.report.specs.Reports.{reportChoice}
+use Rattle.report.specs.ReportLaws.{number-alike, told-alike}
+use Rattle.reporting.specs.Chosen.{chosenRefusal}
+use Rattle.reporting.specs.ChosenLaws.{of-either, of-number, chosen-numbers}
+use Rattle.reporting.specs.Reports.{reportNumber}
+use Rattle.report.specs.Reports.{reportChoice, reportOn}
 use Rattle.report.specs.ChosenLaws.{chosen-solved}
 use Rattle.losses.specs.declared.LossAnswer.the-variants as answers
 use Rattle.losses.specs.Refusals.{lossNeeds, lossRefusal}
@@ -51,43 +53,20 @@ by-number : (n : ℕ) (settings : Settings) (rows : List Row) (sums : List Float
 unfolding lossesBy
 by-number n settings rows sums degree = refl
 
-past-number : (n : ℕ) (settings : Settings) (rows : List Row) (sums : List Float) (o : OptionDegree)
-    → List·Memᴰ (lossNumber (lossOf n settings rows sums o .answer)) (0 ∷ 1 ∷ 4 ∷ 7 ∷ 8 ∷ 11 ∷ 12 ∷ [])
+-- past 1 to 9 it is the number of the choice
+past-number : (n : ℕ) (settings : Settings) (rows : List Row) (sums : List Float) (o : OptionDegree) → lossNumber (lossOf n settings rows sums o .answer) ≡ chosenRefusal Curve o sums
 unfolding lossOf
-past-number n settings rows sums None = Memᴰ·append-right (0 ∷ 1 ∷ 4 ∷ 7 ∷ 8 ∷ []) (List·Memᴰ·head refl)
-past-number n settings rows sums (Some d) = go (inverseFails sums (countOf Curve (d .0))) _ (by-number n settings rows sums (d .0))
-  where
-    go : (t : Bool) (w : LossOut) → lossNumber (w .answer) ≡ 0 → List·Memᴰ (lossNumber (cond t (lossLate n 12) w .answer)) (0 ∷ 1 ∷ 4 ∷ 7 ∷ 8 ∷ 11 ∷ 12 ∷ [])
-    go true w h = Memᴰ·append-right (0 ∷ 1 ∷ 4 ∷ 7 ∷ 8 ∷ 11 ∷ []) (List·Memᴰ·head refl)
-    go false w h = List·Memᴰ·head h
+past-number n settings rows sums = of-number Curve sums (lossLate n) _ (λ w. lossNumber (w .answer)) (λ r. refl) (λ d. by-number n settings rows sums (d .0))
 
 pub loss-answers : (n : ℕ) (settings : Settings) (samples : List Sample) (sums : List Float) (columns : List ℕ) (places scratch losses : ℕ)
     → List·Memᴰ (lossNumber (lossOn n settings samples sums columns places scratch losses .answer)) (0 ∷ 1 ∷ 4 ∷ 7 ∷ 8 ∷ 11 ∷ 12 ∷ [])
 unfolding lossOn lossPast
 loss-answers n settings samples sums columns places scratch losses =
     settled-among (λ (o : LossOut). lossNumber (o .answer)) (lossRefusal n settings samples columns places scratch losses) (lossPast n settings (rowsOf samples) sums) _
-    (0 ∷ 1 ∷ 4 ∷ 7 ∷ 8 ∷ []) (11 ∷ 12 ∷ []) (loss-numbers n settings samples columns places scratch losses) (past-number n settings (rowsOf samples) sums _) refl
+    (0 ∷ 1 ∷ 4 ∷ 7 ∷ 8 ∷ []) (11 ∷ 12 ∷ []) (loss-numbers n settings samples columns places scratch losses)
+    (rw (past-number n settings (rowsOf samples) sums _) (chosen-numbers Curve _ sums)) refl
 
 -- ---- they answer where a report answers, and are refused by its number where it is refused
-
-written-number : (n : ℕ) (settings : Settings) (rows : List Row) (degree solved : ℕ) (c v : List Float) → reportNumber (writtenBy Curve n settings rows degree solved c v .answer) ≡ 0
-unfolding writtenBy
-written-number n settings rows degree solved c v = refl
-
-pub same-number : (n : ℕ) (settings : Settings) (rows : List Row) (sums : List Float) (solved : ℕ) (o : OptionDegree)
-    → lossNumber (lossOf n settings rows sums o .answer) ≡ reportNumber (reportOf Curve n settings rows sums solved o .answer)
-unfolding lossOf reportOf
-same-number n settings rows sums solved None = refl
-same-number n settings rows sums solved (Some d) =
-    go (inverseFails sums k) _ _ (by-number n settings rows sums (d .0)) (written-number n settings rows (d .0) solved (solve sums k .c) (covarianceAt sums rows k))
-  where
-    k : ℕ
-    k = countOf Curve (d .0)
-
-    go : (t : Bool) (a : LossOut) (b : ReportOut) → lossNumber (a .answer) ≡ 0 → reportNumber (b .answer) ≡ 0
-        → lossNumber (cond t (lossLate n 12) a .answer) ≡ reportNumber (cond t (refusedLate n 12) b .answer)
-    go true a b h q = refl
-    go false a b h q = h ∙ sym q
 
 -- past 1
 pub same-refusal : (n : ℕ) (settings : Settings) (samples : List Sample) (columns : List ℕ) (places scratch losses : ℕ) (lent : Places)
@@ -96,63 +75,27 @@ pub same-refusal : (n : ℕ) (settings : Settings) (samples : List Sample) (colu
 unfolding lossRefusal reportRefusal firstOf
 same-refusal n settings samples columns places scratch losses lent h q = rw (h, q)
 
-settled-same : (r : ℕ) (a : LossOut) (b : ReportOut) → lossNumber (a .answer) ≡ reportNumber (b .answer)
-    → lossNumber (settle r a (lossRefused r) .answer) ≡ reportNumber (settle r b (refusedEarly r) .answer)
-settled-same zero a b h = h
-settled-same (suc r) a b h = refl
-
 pub same-answer : (n : ℕ) (settings : Settings) (samples : List Sample) (sums : List Float) (columns : List ℕ) (places scratch losses : ℕ) (lent : Places)
     → tooShort n columns (lossNeeds n places scratch losses) ≡ false → tooShort n columns (reportNeeds n places lent) ≡ false
     → lossNumber (lossOn n settings samples sums columns places scratch losses .answer) ≡ reportNumber (reportOn n settings samples sums columns places lent .answer)
-unfolding lossOn reportOn lossPast reportPast
+unfolding lossOn lossPast lossOf
 same-answer n settings samples sums columns places scratch losses lent h q =
-    let rows = rowsOf samples in
-    let choice = reportChoice n settings rows sums in
-    rw (same-refusal n settings samples columns places scratch losses lent h q)
-    (settled-same (reportRefusal n settings samples columns places lent) (lossPast n settings rows sums) (reportPast n settings rows sums)
-    (same-number n settings rows sums (choice .solved) (choice .chosen)))
+    number-alike n settings samples sums columns places lent (lossRefusal n settings samples columns places scratch losses) lossRefused (lossLate n)
+    (λ d. lossesBy n settings (rowsOf samples) sums (d .0)) (λ w. lossNumber (w .answer)) (λ r. refl) (λ r. refl)
+    (λ d. by-number n settings (rowsOf samples) sums (d .0)) (same-refusal n settings samples columns places scratch losses lent h q)
 
 -- so where a report tells a degree, it is the chosen one, and the losses are told of it
-written-degree : (n : ℕ) (settings : Settings) (rows : List Row) (e solved : ℕ) (c v : List Float) (d : Degree) (s u p : ℕ)
-    → writtenBy Curve n settings rows e solved c v .answer ≡ reports.Report d s u p → record { 0 = e } ≡ d
-unfolding writtenBy
-written-degree n settings rows e solved c v d s u p h = cc
-
-of-chosen : (n : ℕ) (settings : Settings) (rows : List Row) (sums : List Float) (solved : ℕ) (o : OptionDegree) (d : Degree) (s u p : ℕ)
-    → reportOf Curve n settings rows sums solved o .answer ≡ reports.Report d s u p
-    → (o ≡ Some d) × (lossOf n settings rows sums o ≡ lossesBy n settings rows sums (d .0))
-unfolding lossOf reportOf
-of-chosen n settings rows sums solved None d s u p h = absurd (let z : _≡_ {A = ℕ} 0 1 = cc in omega arith)
-of-chosen n settings rows sums solved (Some e) d s u p h =
-    go (inverseFails sums k) _ (written-degree n settings rows (e .0) solved (solve sums k .c) (covarianceAt sums rows k) d s u p) h
-  where
-    k : ℕ
-    k = countOf Curve (e .0)
-
-    go : (t : Bool) (w : ReportOut) → (w .answer ≡ reports.Report d s u p → e ≡ d) → cond t (refusedLate n 12) w .answer ≡ reports.Report d s u p
-        → (Some e ≡ Some d) × (cond t (lossLate n 12) (lossesBy n settings rows sums (e .0)) ≡ lossesBy n settings rows sums (d .0))
-    go true w f q = absurd (let z : _≡_ {A = ℕ} 0 1 = cc in omega arith)
-    go false w f q = (ap (λ x. Some x) (f q), ap (λ (x : Degree). lossesBy n settings rows sums (x .0)) (f q))
-
-settled-with : (r q : ℕ) (w : ReportOut) (a b : LossOut) (C : Type 0) (d : Degree) (s u p : ℕ) → (r ≡ 0 → q ≡ 0) → (w .answer ≡ reports.Report d s u p → C × (a ≡ b))
-    → settle r w (refusedEarly r) .answer ≡ reports.Report d s u p → C × (settle q a (lossRefused q) ≡ b)
-settled-with zero q w a b C d s u p f g h = rw (f refl) (g h)
-settled-with (suc r) q w a b C d s u p f g h = absurd (let z : _≡_ {A = ℕ} 0 1 = cc in omega arith)
-
 pub told-with-report : (n : ℕ) (settings : Settings) (samples : List Sample) (sums : List Float) (columns : List ℕ) (places scratch losses : ℕ) (lent : Places)
     → tooShort n columns (lossNeeds n places scratch losses) ≡ false
     → (d : Degree) (s u p : ℕ) → reportOn n settings samples sums columns places lent .answer ≡ reports.Report d s u p
     → (reportChoice n settings (rowsOf samples) sums .chosen ≡ Some d)
     × (lossOn n settings samples sums columns places scratch losses ≡ lossesBy n settings (rowsOf samples) sums (d .0))
-unfolding lossOn reportOn lossPast reportPast
-told-with-report n settings samples sums columns places scratch losses lent h d s u p e =
-    let rows = rowsOf samples in
-    let choice = reportChoice n settings rows sums in
-    settled-with (reportRefusal n settings samples columns places lent) (lossRefusal n settings samples columns places scratch losses) (reportPast n settings rows sums)
-    (lossPast n settings rows sums) (lossesBy n settings rows sums (d .0)) (choice .chosen ≡ Some d) d s u p
+unfolding lossOn lossPast lossOf
+told-with-report n settings samples sums columns places scratch losses lent h =
+    told-alike n settings samples sums columns places lent (lossRefusal n settings samples columns places scratch losses) lossRefused (lossLate n)
+    (λ d. lossesBy n settings (rowsOf samples) sums (d .0))
     (λ z.
     same-refusal n settings samples columns places scratch losses lent h (long-enough n columns (reportNeeds n places lent) (report-room n settings samples columns places lent z .room)) ∙ z)
-    (of-chosen n settings rows sums (choice .solved) (choice .chosen) d s u p) e
 
 -- ---- the total
 
@@ -215,12 +158,7 @@ by-told n settings rows sums degree l d total score h = (cc, length-losses-at su
 
 of-told : (n : ℕ) (settings : Settings) (rows : List Row) (sums : List Float) (o : OptionDegree) → length rows ≡ n → Told n (lossOf n settings rows sums o)
 unfolding lossOf
-of-told n settings rows sums None l = none-told n 11 (zeros n)
-of-told n settings rows sums (Some d) l = go (inverseFails sums (countOf Curve (d .0))) _ (by-told n settings rows sums (d .0) l)
-  where
-    go : (t : Bool) (w : LossOut) → Told n w → Told n (cond t (lossLate n 12) w)
-    go true w h = none-told n 12 (zeros n)
-    go false w h = h
+of-told n settings rows sums o l = of-either Curve sums (lossLate n) _ (Told n) o (none-told n 11 (zeros n)) (none-told n 12 (zeros n)) (λ d e. by-told n settings rows sums (d .0) l)
 
 settled-told : (n r : ℕ) (w : LossOut) → Told n w → Told n (settle r w (lossRefused r))
 settled-told n zero w h = h

@@ -1,6 +1,5 @@
 -- Document 02's losses line by line: what the call answers and writes, from samples, sums and lengths. Definitions only.
 use mathlib.Core.Path.{_≡_}
-use mathlib.Core.Bool.{cond}
 use mathlib.Core.List.{List, []}
 use Prim.Native.Nat.{ℕ}
 use lib.ListN.{length, take}
@@ -9,7 +8,6 @@ use Rattle.basis.specs.Counts.{countOf}
 use Rattle.basis.specs.Sizes.{sumPlaces}
 use Rattle.basis.specs.declared.Basis.the-variants.{Curve}
 use Rattle.basis.specs.declared.OptionDegree.{OptionDegree}
-use Rattle.basis.specs.declared.OptionDegree.the-variants.{Some, None}
 use Rattle.value.specs.Total.{totalF}
 use Rattle.statistics.specs.Losses.{losses}
 use Rattle.samples.specs.Samples.{Sample}
@@ -19,10 +17,10 @@ use Rattle.solve.specs.Solve.{solve}
 use Rattle.score.specs.Score.{scoreOf}
 use Rattle.fit.specs.Residuals.{residuals}
 use Rattle.refusal.specs.Refusals.{settle}
-use Rattle.measure.specs.Measures.{inverseFails}
 use Rattle.lent.specs.Slices.{Contents}
 use Rattle.lent.specs.Written.{over, zeros}
 use Rattle.settings.specs.declared.Settings.{Settings}
+use Rattle.reporting.specs.Chosen.{ofChosen}
 use Rattle.report.specs.Reports.{reportChoice}
 use Rattle.losses.specs.declared.LossAnswer.{LossAnswer}
 use Rattle.losses.specs.declared.LossAnswer.the-variants as answers
@@ -64,8 +62,7 @@ lossesBy n settings rows sums degree =
 
 -- past refusals 1 to 9, of a report's choice, and refused where a report is: 11 if no degree is chosen, 12 if an inverse pivot fails
 unfoldable pub lossOf : ℕ → Settings → List Row → List Float → OptionDegree → LossOut
-lossOf n settings rows sums None = lossLate n 11
-lossOf n settings rows sums (Some d) = cond (inverseFails sums (countOf Curve (d .0))) (lossLate n 12) (lossesBy n settings rows sums (d .0))
+lossOf n settings rows sums o = ofChosen Curve sums (lossLate n) (λ d. lossesBy n settings rows sums (d .0)) o
 
 unfoldable pub lossPast : ℕ → Settings → List Row → List Float → LossOut
 lossPast n settings rows sums = lossOf n settings rows sums (reportChoice n settings rows sums .chosen)

@@ -2,16 +2,14 @@
 use mathlib.Core.Path.{_≡_, refl}
 use mathlib.Core.List.{List, [], _∷_, List·Memᴰ}
 use Prim.Native.Nat.{ℕ, _≤_, _<_}
-use native.Mathlib.Omega.{arith}
-use borrow.Author.Tests.{ltb-false, eqb-false}
 use Rattle.basis.specs.Sizes.{highestDegree}
 use Rattle.statistics.specs.Degrees.{maxDegree}
 use Rattle.samples.specs.Samples.{Sample}
 use Rattle.refusal.specs.Refusals.{numbersOf, InOrder, those, isAmong}
-use Rattle.refusal.specs.Laws.{numbered, first-none}
+use Rattle.refusal.specs.Laws.{numbered}
 use Rattle.refusal.specs.Rooms.{Room}
-use Rattle.refusal.specs.RoomLaws.{room}
 use Rattle.settings.specs.declared.Settings.{Settings}
+use Rattle.reporting.specs.RefusalLaws.{choosing-room}
 use Rattle.losses.specs.Refusals.{lossNeeds, lossTests, lossRefusal}
 
 module _ (n : ℕ) (settings : Settings) (samples : List Sample) (columns : List ℕ) (sums scratch losses : ℕ) where
@@ -28,10 +26,4 @@ pub loss-room : (n : ℕ) (settings : Settings) (samples : List Sample) (columns
     → lossRefusal n settings samples columns sums scratch losses ≡ 0
     → Room n columns (lossNeeds n sums scratch losses) × (0 < n) × (maxDegree (settings .bound) n ≤ highestDegree)
 unfolding lossRefusal
-loss-room n settings samples columns sums scratch losses e =
-    let p1 = first-none _ 0 _ e in
-    let p4 = first-none _ 3 _ (p1 .1) in
-    let p7 = first-none _ 6 _ (p4 .1) in
-    let p8 = first-none _ 7 _ (p7 .1) in
-    let z : n ≡ 0 → ⊥ = eqb-false n 0 (p7 .0) in
-    (room n columns _ (p1 .0), omega (arith, z), ltb-false _ _ (p8 .0))
+loss-room n settings samples columns sums scratch losses = choosing-room n settings samples columns (lossNeeds n sums scratch losses)

@@ -12,7 +12,7 @@ use Rattle.reporting.specs.declared.ReportAnswer.{ReportAnswer}
 use Rattle.reporting.specs.declared.ReportAnswer.the-variants as reports
 use Rattle.reporting.specs.Outputs.{nothing, Outputs, LentOutputs, placesOf}
 use Rattle.ledger.specs.Ledger.{Call, Reply, said, told, lentOf, final, opened, ledgerEnd, ledgerReplies}
-use Rattle.ledger.specs.ReadCalls.{ReadCall, Told, fitReply, bandReply, reportReply, splitReply, lossReply, readOn}
+use Rattle.ledger.specs.ReadCalls.{ReadCall, Told, fitReply, bandReply, reportReply, splitReply, lossReply, scoresReply, readOn}
 use Rattle.ledger.specs.Whole.{WholeBook}
 use Rattle.lent.specs.Slices.{Slice, before, after}
 use Rattle.replay.specs.declared.Buffers.{Buffers}
@@ -27,7 +27,7 @@ abbrev pub reportResults : ReportAnswer → List ℕ
 reportResults (reports.Report d s o p) = 0 ∷ d .0 ∷ s ∷ o ∷ p ∷ []
 reportResults (reports.Refused r) = r ∷ 0 ∷ 0 ∷ 0 ∷ 0 ∷ []
 
--- (fits, validations, bands and losses stand in no record)
+-- (fits, validations, bands, losses and scores stand in no record)
 unfoldable pub resultsOf : Reply Told → List ℕ
 resultsOf (said (answers.Book b)) = 0 ∷ b .count ∷ 0 ∷ 0 ∷ 0 ∷ []
 resultsOf (said (answers.Refused r)) = r ∷ 0 ∷ 0 ∷ 0 ∷ 0 ∷ []
@@ -36,6 +36,7 @@ resultsOf (told (fitReply o)) = 0 ∷ 0 ∷ 0 ∷ 0 ∷ 0 ∷ []
 resultsOf (told (bandReply o)) = 0 ∷ 0 ∷ 0 ∷ 0 ∷ 0 ∷ []
 resultsOf (told (splitReply o)) = 0 ∷ 0 ∷ 0 ∷ 0 ∷ 0 ∷ []
 resultsOf (told (lossReply o)) = 0 ∷ 0 ∷ 0 ∷ 0 ∷ 0 ∷ []
+resultsOf (told (scoresReply o)) = 0 ∷ 0 ∷ 0 ∷ 0 ∷ 0 ∷ []
 
 -- the values written to the memory of a report
 unfoldable pub writtenOf : Reply Told → Outputs
@@ -45,6 +46,7 @@ writtenOf (told (fitReply o)) = nothing
 writtenOf (told (bandReply o)) = nothing
 writtenOf (told (splitReply o)) = nothing
 writtenOf (told (lossReply o)) = nothing
+writtenOf (told (scoresReply o)) = nothing
 
 -- ---- the buffers
 

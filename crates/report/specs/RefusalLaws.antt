@@ -2,14 +2,12 @@
 use mathlib.Core.Path.{_≡_, refl}
 use mathlib.Core.List.{List, [], _∷_, List·Memᴰ}
 use Prim.Native.Nat.{ℕ}
-use native.Mathlib.Omega.{arith}
-use borrow.Author.Tests.{ltb-false, eqb-false}
 use Rattle.samples.specs.Samples.{Sample}
 use Rattle.refusal.specs.Refusals.{numbersOf, InOrder, those, isAmong}
-use Rattle.refusal.specs.Laws.{numbered, first-none}
-use Rattle.refusal.specs.RoomLaws.{room}
+use Rattle.refusal.specs.Laws.{numbered}
 use Rattle.settings.specs.declared.Settings.{Settings}
 use Rattle.reporting.specs.declared.Places.{Places}
+use Rattle.reporting.specs.RefusalLaws.{choosing-room}
 use Rattle.report.specs.Refusals.{reportTests, reportRefusal}
 use Rattle.report.specs.Rooms.{ReportRoom}
 
@@ -26,9 +24,5 @@ pub report-room : (n : ℕ) (settings : Settings) (samples : List Sample) (colum
     → reportRefusal n settings samples columns sums places ≡ 0 → ReportRoom n settings columns sums places
 unfolding reportRefusal
 report-room n settings samples columns sums places e =
-    let p1 = first-none _ 0 _ e in
-    let p4 = first-none _ 3 _ (p1 .1) in
-    let p7 = first-none _ 6 _ (p4 .1) in
-    let p8 = first-none _ 7 _ (p7 .1) in
-    let z : n ≡ 0 → ⊥ = eqb-false n 0 (p7 .0) in
-    record { room = room n columns _ (p1 .0); some = omega (arith, z); most = ltb-false _ _ (p8 .0) }
+    let r = choosing-room n settings samples columns _ e in
+    record { room = r .0; some = r .1; most = r .2 }

@@ -1,45 +1,35 @@
 -- What a report comes to past 1 to 9: refused by 11 or 12, or written.
 use mathlib.Core.Path.{_≡_, refl, sym, ap, _∙_}
-use mathlib.Core.Bool.{Bool, true, false, cond}
 use mathlib.Core.List.{List}
 use Prim.Native.Nat.{ℕ}
-use native.Mathlib.Omega.{arith}
 use lib.Ieee.{Float}
 use Rattle.basis.specs.Counts.{countOf}
 use Rattle.basis.specs.declared.Basis.{Basis}
 use Rattle.basis.specs.declared.OptionDegree.{OptionDegree}
-use Rattle.basis.specs.declared.OptionDegree.the-variants.{Some, None}
+use Rattle.basis.specs.declared.OptionDegree.the-variants.{Some}
 use Rattle.basis.specs.declared.Degree.{Degree}
 use Rattle.monomial.specs.Rows.{Row}
 use Rattle.solve.specs.Solve.{solve}
-use Rattle.measure.specs.Measures.{inverseFails, covarianceAt}
+use Rattle.measure.specs.Measures.{covarianceAt}
 use Rattle.lent.specs.Written.{over, zeros}
 use Rattle.lent.specs.WrittenLaws.{over-within}
 use Rattle.loops.specs.Within.{Within}
 use Rattle.settings.specs.declared.Settings.{Settings}
 use Rattle.reporting.specs.Chosen.{chosenRefusal}
+use Rattle.reporting.specs.ChosenLaws.{of-late, of-told}
 use Rattle.reporting.specs.Outputs.{Outputs, overAll}
 use Rattle.reporting.specs.Reports.{ReportOut, refusedLate, writtenBy, reportOf}
 
 module _ (basis : Basis) (n : ℕ) (settings : Settings) (rows : List Row) (sums : List Float) (solved : ℕ) where
   -- a number that is not 0 is what the report is refused by
   pub late-refused : (o : OptionDegree) (r : ℕ) → r ≡ chosenRefusal basis o sums → (r ≡ 0 → ⊥) → reportOf basis n settings rows sums solved o ≡ refusedLate n r
-  unfolding reportOf chosenRefusal
-  late-refused None r e h = ap (refusedLate n) (sym e)
-  late-refused (Some d) r e h = go (inverseFails sums (countOf basis (d .0))) _ e
-    where
-      go : (t : Bool) (w : ReportOut) → r ≡ cond t 12 0 → cond t (refusedLate n 12) w ≡ refusedLate n r
-      go true w q = ap (refusedLate n) (sym q)
-      go false w q = absurd (h q)
+  unfolding reportOf
+  late-refused = of-late basis sums (refusedLate n) _
 
   pub chosen-whole : (d : Degree) → chosenRefusal basis (Some d) sums ≡ 0
       → reportOf basis n settings rows sums solved (Some d) ≡ writtenBy basis n settings rows (d .0) solved (solve sums (countOf basis (d .0)) .c) (covarianceAt sums rows (countOf basis (d .0)))
-  unfolding reportOf chosenRefusal
-  chosen-whole d e = go (inverseFails sums (countOf basis (d .0))) _ e
-    where
-      go : (t : Bool) (w : ReportOut) → _≡_ {A = ℕ} (cond t 12 0) 0 → cond t (refusedLate n 12) w ≡ w
-      go true w q = absurd (omega arith)
-      go false w q = refl
+  unfolding reportOf
+  chosen-whole = of-told basis sums (refusedLate n) (λ d. writtenBy basis n settings rows (d .0) solved (solve sums (countOf basis (d .0)) .c) (covarianceAt sums rows (countOf basis (d .0))))
 
 -- scratch that the choice has used is written over as scratch that it has not
 pub used-scratch : (n : ℕ) (s u : List Float) → Within n s u → (values w : Outputs) → values .scratch ≡ zeros n

@@ -1,6 +1,5 @@
 -- A report of the chosen degree: what it answers and writes, from rows and sums, of a curve and of a surface. Definitions only.
 use mathlib.Core.Path.{_≡_}
-use mathlib.Core.Bool.{cond}
 use mathlib.Core.List.{List}
 use Prim.Native.Nat.{ℕ}
 use lib.ListN.{take}
@@ -9,7 +8,6 @@ use Rattle.basis.specs.Counts.{countOf}
 use Rattle.basis.specs.declared.Basis.{Basis}
 use Rattle.basis.specs.declared.Basis.the-variants.{Curve, Surface}
 use Rattle.basis.specs.declared.OptionDegree.{OptionDegree}
-use Rattle.basis.specs.declared.OptionDegree.the-variants.{Some, None}
 use Rattle.statistics.specs.Scores.{zScore, tScore, degreesOfFreedom}
 use Rattle.statistics.specs.Variances.{stddevAndMean}
 use Rattle.monomial.specs.Rows.{Row, ysIn}
@@ -18,11 +16,12 @@ use Rattle.covariance.specs.Covariance.{errorsOf}
 use Rattle.covariance.specs.Marks.{ones}
 use Rattle.covariance.specs.Bands.{lowersOf, uppersOf, outliersOf}
 use Rattle.covariance.specs.Pruning.{prunedBytes}
-use Rattle.measure.specs.Measures.{inverseFails, covarianceAt}
+use Rattle.measure.specs.Measures.{covarianceAt}
 use Rattle.lent.specs.Written.{zeros}
 use Rattle.settings.specs.declared.Settings.{Settings}
 use Rattle.reporting.specs.declared.ReportAnswer.{ReportAnswer}
 use Rattle.reporting.specs.declared.ReportAnswer.the-variants as answers
+use Rattle.reporting.specs.Chosen.{ofChosen}
 use Rattle.reporting.specs.Outputs.{Outputs, LentOutputs, nothing, scratchAlone, overAll}
 
 -- the places of coefficients, errors and pruning bytes
@@ -77,10 +76,11 @@ refusedEarly r = record { answer = answers.Refused r; written = nothing }
 
 -- past refusals 1 to 9, of the chosen degree or none: 11 if no degree is chosen, 12 if an inverse pivot fails, else the report of the chosen degree
 unfoldable pub reportOf : Basis → ℕ → Settings → List Row → List Float → ℕ → OptionDegree → ReportOut
-reportOf basis n settings rows sums solved None = refusedLate n 11
-reportOf basis n settings rows sums solved (Some d) =
+reportOf basis n settings rows sums solved o =
+    ofChosen basis sums (refusedLate n)
+    (λ d.
     let k = countOf basis (d .0) in
-    cond (inverseFails sums k) (refusedLate n 12) (writtenBy basis n settings rows (d .0) solved (solve sums k .c) (covarianceAt sums rows k))
+    writtenBy basis n settings rows (d .0) solved (solve sums k .c) (covarianceAt sums rows k)) o
 
 -- ---- the promise
 

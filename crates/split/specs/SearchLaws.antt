@@ -203,7 +203,7 @@ twice sums (suc m) = go m (twice sums m)
         omega (arith, e, h, at-most sums (countOf Curve m), curve-count m)
 
 -- sixteen degrees have at most 1 + 2 + .. + 16
-tests-at-most : (sums : List Float) (bound : ℕ) → bound ≤ 15 → testsOf sums (countsOf Curve bound) ≤ 136
+pub tests-at-most : (sums : List Float) (bound : ℕ) → bound ≤ 15 → testsOf sums (countsOf Curve bound) ≤ 136
 unfolding testsOf
 tests-at-most sums bound h =
     let e = ap (fold _+_ 0) (map-table (pivotTests sums) (countOf Curve) (bound + 1)) in
