@@ -12,10 +12,10 @@ use Rattle.book.specs.declared.Answer.{Answer}
 use Rattle.book.specs.Calls.{Out, Is}
 use Rattle.two_column.specs.Pairs.{Columns as PairColumns}
 use Rattle.two_column.specs.Calls.{Out as PairOut, Is as PairIs}
-use Rattle.query.specs.declared.FitAnswer.{FitAnswer}
-use Rattle.query.specs.declared.BandAnswer.{BandAnswer}
-use Rattle.query.specs.Fits.{FitOut, FitIs}
-use Rattle.query.specs.Bands.{BandOut, BandIs}
+use Rattle.measure.specs.declared.FitAnswer.{FitAnswer}
+use Rattle.measure.specs.declared.BandAnswer.{BandAnswer}
+use Rattle.measure.specs.Fits.{FitOut, FitIs}
+use Rattle.measure.specs.Bands.{BandOut, BandIs}
 use Rattle.reporting.specs.declared.ReportAnswer.{ReportAnswer}
 use Rattle.reporting.specs.Reports.{ReportOut, Does}
 use Rattle.reporting.specs.Outputs.{LentOutputs}

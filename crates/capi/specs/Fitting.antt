@@ -29,6 +29,7 @@ use Rattle.choice.specs.Choice.{solvedCount}
 use Rattle.choice.specs.Laws.{chosen}
 use Rattle.choice.specs.declared.Scored.{Scored}
 use Rattle.basis.specs.Counts.{countOf}
+use Rattle.basis.specs.declared.Basis.{Basis}
 use Rattle.basis.specs.declared.Basis.the-variants.{Curve}
 use Rattle.fit.specs.Solved.{isSolved}
 use Rattle.fit.specs.Chosen.{tried, choiceOf, countsOf}
@@ -55,9 +56,11 @@ use Rattle.book.specs.WindowLaws.{window-numbers, window-room}
 use Rattle.measure.specs.Measures.{inverseFails, measureRefusal, covarianceAt}
 use Rattle.query.specs.Refusals.{fitRefusal, validateRefusal, bandRefusal}
 use Rattle.query.specs.RefusalLaws.{fit-numbers, validate-numbers, band-numbers, fit-room, validate-room}
-use Rattle.query.specs.declared.BandAnswer.the-variants as bands
-use Rattle.query.specs.Fits.{FitOut, fitRefused, fitPast, fitOn, fitOut, validatePast, validateOn, validateOut}
-use Rattle.query.specs.Bands.{BandOut, bandRefused, bandPast, bandFor, bandOut}
+use Rattle.measure.specs.declared.BandAnswer.the-variants as bands
+use Rattle.measure.specs.Fits.{FitOut, fitRefused, fitPast}
+use Rattle.query.specs.Fits.{fitOn, fitOut, validatePast, validateOn, validateOut}
+use Rattle.measure.specs.Bands.{BandOut, bandRefused, bandPast}
+use Rattle.query.specs.Bands.{bandFor, bandOut}
 use Rattle.reporting.specs.declared.ReportAnswer.the-variants as reports
 use Rattle.settings.specs.declared.Settings.{Settings}
 use Rattle.reporting.specs.declared.Places.{Places}
@@ -200,11 +203,11 @@ window-fits n columns sums p =
 
 -- ---- fit and validation
 
-past-fits : (n degree : ℕ) (rows : List Row) (sums : List Float) → degree ≤ 15 → FitFits (fitPast n degree rows sums .answer)
+past-fits : (basis : Basis) (n degree : ℕ) (rows : List Row) (sums : List Float) → degree ≤ 15 → FitFits (fitPast basis n degree rows sums .answer)
 unfolding fitPast FitFits
-past-fits n degree rows sums h = go (isSolved sums rows (countOf Curve degree)) refl
+past-fits basis n degree rows sums h = go (isSolved sums rows (countOf basis degree)) refl
   where
-    go : (t : Bool) → isSolved sums rows (countOf Curve degree) ≡ t → FitFits (fitPast n degree rows sums .answer)
+    go : (t : Bool) → isSolved sums rows (countOf basis degree) ≡ t → FitFits (fitPast basis n degree rows sums .answer)
     go true e = rw e h
     go false e = rw e (omega arith, omega arith)
 
@@ -220,7 +223,7 @@ module _ (n : ℕ) (columns : Columns) (sums scratch coefficients : List Float) 
       fit-settles (fitRefusal n degree (samplesOf n columns) (lengths columns) (length sums) (length scratch) (length coefficients)) _
       (omega (arith, among _ (fit-numbers n (samplesOf n columns) (lengths columns) (length sums) (length scratch) degree (length coefficients))))
       (λ e.
-      past-fits n degree _ _ (fit-room n (samplesOf n columns) (lengths columns) (length sums) (length scratch) degree (length coefficients) e .1))
+      past-fits Curve n degree _ _ (fit-room n (samplesOf n columns) (lengths columns) (length sums) (length scratch) degree (length coefficients) e .1))
 
   pub validate-fits : (folds : ℕ) (bound : DegreeBound) (criterion : Criterion)
       → FitFits (validateOut n columns sums scratch coefficients folds bound criterion .answer)
@@ -238,7 +241,7 @@ module _ (n : ℕ) (columns : Columns) (sums scratch coefficients : List Float) 
       chosen-fits h None e = (omega arith, omega arith)
       chosen-fits h (Some d) e =
           let w = chosen (λ d. validated criterion (weightedRows (samplesOf n columns)) folds (countOf Curve d)) (maxDegree bound n + 1) (d .0) e in
-          past-fits n (d .0) _ _ (omega (arith, w .within))
+          past-fits Curve n (d .0) _ _ (omega (arith, w .within))
 
 -- ---- the band
 

@@ -17,12 +17,12 @@ use Rattle.book.specs.declared.Answer.the-variants as books
 use Rattle.book.specs.Calls.{Out}
 use Rattle.two_column.specs.Pairs.{Columns as PairColumns}
 use Rattle.two_column.specs.Calls.{Out as PairOut}
-use Rattle.query.specs.declared.FitAnswer.{FitAnswer}
-use Rattle.query.specs.declared.FitAnswer.the-variants as fits
-use Rattle.query.specs.declared.BandAnswer.{BandAnswer}
-use Rattle.query.specs.declared.BandAnswer.the-variants as bands
-use Rattle.query.specs.Fits.{FitOut, FitIs}
-use Rattle.query.specs.Bands.{BandOut, BandIs, bandRefused}
+use Rattle.measure.specs.declared.FitAnswer.{FitAnswer}
+use Rattle.measure.specs.declared.FitAnswer.the-variants as fits
+use Rattle.measure.specs.declared.BandAnswer.{BandAnswer}
+use Rattle.measure.specs.declared.BandAnswer.the-variants as bands
+use Rattle.measure.specs.Fits.{FitOut, FitIs}
+use Rattle.measure.specs.Bands.{BandOut, BandIs, bandRefused}
 use Rattle.reporting.specs.declared.ReportAnswer.{ReportAnswer}
 use Rattle.reporting.specs.declared.ReportAnswer.the-variants as reports
 use Rattle.reporting.specs.Reports.{ReportOut, Does}

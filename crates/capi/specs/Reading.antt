@@ -7,10 +7,10 @@ use Rattle.frame.specs.declared.cursor.Read.{Read}
 use Rattle.frame.specs.declared.cursor.Read.the-variants as reads
 use Rattle.book.specs.declared.Answer.{Answer}
 use Rattle.book.specs.declared.Answer.the-variants as books
-use Rattle.query.specs.declared.FitAnswer.{FitAnswer}
-use Rattle.query.specs.declared.FitAnswer.the-variants as fits
-use Rattle.query.specs.declared.BandAnswer.{BandAnswer}
-use Rattle.query.specs.declared.BandAnswer.the-variants as bands
+use Rattle.measure.specs.declared.FitAnswer.{FitAnswer}
+use Rattle.measure.specs.declared.FitAnswer.the-variants as fits
+use Rattle.measure.specs.declared.BandAnswer.{BandAnswer}
+use Rattle.measure.specs.declared.BandAnswer.the-variants as bands
 use Rattle.reporting.specs.declared.ReportAnswer.{ReportAnswer}
 use Rattle.reporting.specs.declared.ReportAnswer.the-variants as reports
 use Rattle.split.specs.declared.SplitAnswer.{SplitAnswer}

@@ -25,10 +25,10 @@ use Rattle.frame.specs.Frame.{frameRefusal, weighted, sampleBytes}
 use Rattle.frame.specs.Laws.{least-bytes}
 use Rattle.frame.specs.Handed.{nextOf, openedBy, openedOf}
 use Rattle.frame.specs.HandedLaws.{next-whole, next-end}
-use Rattle.query.specs.declared.FitAnswer.{FitAnswer}
-use Rattle.query.specs.declared.FitAnswer.the-variants as fits
-use Rattle.query.specs.declared.BandAnswer.{BandAnswer}
-use Rattle.query.specs.declared.BandAnswer.the-variants as bands
+use Rattle.measure.specs.declared.FitAnswer.{FitAnswer}
+use Rattle.measure.specs.declared.FitAnswer.the-variants as fits
+use Rattle.measure.specs.declared.BandAnswer.{BandAnswer}
+use Rattle.measure.specs.declared.BandAnswer.the-variants as bands
 use Rattle.query.specs.Fits.{fitOut, validateOut}
 use Rattle.query.specs.Bands.{bandOut}
 use Rattle.settings.specs.declared.Settings.{Settings}

@@ -7,7 +7,7 @@ use book::Book;
 use frame::Cursor;
 use frame::Read;
 use losses::LossAnswer;
-use query::BandAnswer;
+use measure::BandAnswer;
 use reporting::ReportAnswer;
 use split::SplitAnswer;
 ghost use mathlib.Core.Path.{_≡_};

@@ -1,7 +1,7 @@
 // Answers of one number packed into one u64. A refusal's number is in the top byte, 0 where there is none.
 use book::Answer;
 use frame::Opened;
-use query::FitAnswer;
+use measure::FitAnswer;
 use replay::Replayed;
 ghost use mathlib.Core.Path.{_≡_};
 ghost use Rattle.capi.specs.Packed.{packedRefusal, packedBook, packedFit, packedReplay, packedOpened};

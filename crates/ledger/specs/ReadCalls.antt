@@ -5,8 +5,10 @@ use Rattle.statistics.specs.declared.Confidence.{Confidence}
 use Rattle.statistics.specs.declared.DegreeBound.{DegreeBound}
 use Rattle.statistics.specs.declared.Tolerance.{Tolerance}
 use Rattle.score.specs.declared.Criterion.{Criterion}
-use Rattle.query.specs.Fits.{FitOut, fitOn, validateOn}
-use Rattle.query.specs.Bands.{BandOut, bandFor}
+use Rattle.measure.specs.Fits.{FitOut}
+use Rattle.query.specs.Fits.{fitOn, validateOn}
+use Rattle.measure.specs.Bands.{BandOut}
+use Rattle.query.specs.Bands.{bandFor}
 use Rattle.settings.specs.declared.Settings.{Settings}
 use Rattle.reporting.specs.declared.Places.{Places}
 use Rattle.reporting.specs.Reports.{ReportOut}

@@ -1,3 +1,8 @@
--- A degree solved and measured, as the calls that read a book share it.
+-- A degree solved and measured, and the fit and the band of an asked one, as the calls that read samples share them.
+pub mod Places
 pub mod Measures
 pub mod MeasureLaws
+pub mod Fits
+pub mod FitLaws
+pub mod Bands
+pub mod BandLaws

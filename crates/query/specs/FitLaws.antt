@@ -1,44 +1,24 @@
 -- Laws of Fits.antt.
-use mathlib.Core.Path.{_≡_, refl}
-use mathlib.Core.Bool.{Bool, true, false}
-use mathlib.Core.List.{List, [], _∷_, List·Memᴰ, List·Memᴰ·head, List·Memᴰ·tail, List·Memᴰ·cases-cons, Memᴰ·append-left, Memᴰ·append-right}
+use mathlib.Core.Path.{refl}
+use mathlib.Core.List.{List, [], _∷_, List·Memᴰ, List·Memᴰ·head, List·Memᴰ·cases-cons, Memᴰ·append-left, Memᴰ·append-right}
 use mathlib.Core.Logic.{⊎-elim}
 use Prim.Native.Nat.{ℕ}
 use lib.Ieee.{Float}
 use Rattle.basis.specs.declared.OptionDegree.{OptionDegree}
 use Rattle.basis.specs.declared.OptionDegree.the-variants.{Some, None}
 use Rattle.statistics.specs.declared.DegreeBound.{DegreeBound}
-use Rattle.basis.specs.Counts.{countOf}
 use Rattle.basis.specs.declared.Basis.the-variants.{Curve}
 use Rattle.samples.specs.Samples.{Sample}
 use Rattle.monomial.specs.Rows.{Row, rowsOf}
 use Rattle.score.specs.declared.Criterion.{Criterion}
-use Rattle.fit.specs.Solved.{isSolved}
 use Rattle.refusal.specs.Laws.{settled-among}
-use Rattle.lent.specs.Written.{zeros}
-use Rattle.query.specs.declared.FitAnswer.the-variants as answers
+use Rattle.measure.specs.Fits.{FitOut, fitNumber, fitPast}
+use Rattle.measure.specs.FitLaws.{fit-past-number}
 use Rattle.query.specs.Refusals.{fitRefusal, validateRefusal}
 use Rattle.query.specs.RefusalLaws.{fit-numbers, validate-numbers}
-use Rattle.query.specs.Fits.{FitOut, fitNumber, fitPast, fitOn, validatePast, validateOn}
-
--- Every fit or validation that passes refusals 1 to 9 leaves scratch's first n places +0.
-pub past-scratch : (n degree : ℕ) (rows : List Row) (sums : List Float) → fitPast n degree rows sums .scratch ≡ zeros n
-unfolding fitPast
-past-scratch n degree rows sums = go (isSolved sums rows (countOf Curve degree)) refl
-  where
-    go : (t : Bool) → isSolved sums rows (countOf Curve degree) ≡ t → fitPast n degree rows sums .scratch ≡ zeros n
-    go true h = rw h
-    go false h = rw h
+use Rattle.query.specs.Fits.{fitOn, validatePast, validateOn}
 
 -- ---- what each may answer, by document 01's numbers
-
-fit-past-number : (n degree : ℕ) (rows : List Row) (sums : List Float) → List·Memᴰ (fitNumber (fitPast n degree rows sums .answer)) (0 ∷ 10 ∷ [])
-unfolding fitPast
-fit-past-number n degree rows sums = go (isSolved sums rows (countOf Curve degree)) refl
-  where
-    go : (t : Bool) → isSolved sums rows (countOf Curve degree) ≡ t → List·Memᴰ (fitNumber (fitPast n degree rows sums .answer)) (0 ∷ 10 ∷ [])
-    go true h = rw h (List·Memᴰ·head refl)
-    go false h = rw h (List·Memᴰ·tail (List·Memᴰ·head refl))
 
 -- 0 or 10 among these
 past-among : (k : ℕ) → List·Memᴰ k (0 ∷ 10 ∷ []) → List·Memᴰ k (0 ∷ 1 ∷ 4 ∷ 7 ∷ 8 ∷ 10 ∷ [])
@@ -49,15 +29,15 @@ pub fit-answers : (n degree : ℕ) (samples : List Sample) (sums : List Float) (
     → List·Memᴰ (fitNumber (fitOn n degree samples sums columns places scratch coefficients .answer)) (0 ∷ 1 ∷ 4 ∷ 7 ∷ 8 ∷ 10 ∷ [])
 unfolding fitOn
 fit-answers n degree samples sums columns places scratch coefficients =
-    settled-among (λ (o : FitOut). fitNumber (o .answer)) (fitRefusal n degree samples columns places scratch coefficients) (fitPast n degree (rowsOf samples) sums) _
+    settled-among (λ (o : FitOut). fitNumber (o .answer)) (fitRefusal n degree samples columns places scratch coefficients) (fitPast Curve n degree (rowsOf samples) sums) _
     (0 ∷ 1 ∷ 4 ∷ 7 ∷ 8 ∷ []) (10 ∷ []) (fit-numbers n samples columns places scratch degree coefficients)
-    (past-among _ (fit-past-number n degree (rowsOf samples) sums)) refl
+    (past-among _ (fit-past-number Curve n degree (rowsOf samples) sums)) refl
 
 validate-past-number : (n : ℕ) (o : OptionDegree) (rows : List Row) (sums : List Float)
     → List·Memᴰ (fitNumber (validatePast n o rows sums .answer)) (0 ∷ 1 ∷ 4 ∷ 7 ∷ 8 ∷ 10 ∷ 11 ∷ [])
 unfolding validatePast
 validate-past-number n None rows sums = Memᴰ·append-right (0 ∷ 1 ∷ 4 ∷ 7 ∷ 8 ∷ 10 ∷ []) (List·Memᴰ·head refl)
-validate-past-number n (Some d) rows sums = Memᴰ·append-left (11 ∷ []) (past-among _ (fit-past-number n (d .0) rows sums))
+validate-past-number n (Some d) rows sums = Memᴰ·append-left (11 ∷ []) (past-among _ (fit-past-number Curve n (d .0) rows sums))
 
 pub validate-answers : (n folds : ℕ) (bound : DegreeBound) (criterion : Criterion) (samples : List Sample) (sums : List Float) (columns : List ℕ) (places scratch coefficients : ℕ)
     → List·Memᴰ (fitNumber (validateOn n folds bound criterion samples sums columns places scratch coefficients .answer)) (0 ∷ 1 ∷ 4 ∷ 7 ∷ 8 ∷ 10 ∷ 11 ∷ [])

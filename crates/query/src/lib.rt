@@ -7,56 +7,18 @@ use basis::Degree;
 use basis::OptionDegree;
 use basis::SUMS;
 use book::Book;
-use covariance::Band;
+use measure::BandAnswer;
+use measure::FitAnswer;
 use score::Criterion;
 use statistics::Confidence;
 use statistics::DegreeBound;
 use statistics::Tolerance;
-ghost use Prim.Native.Nat.{_≤_};
-ghost use lib.ListN.{length, take};
-ghost use Rattle.basis.specs.Sizes.{highestDegree, maxTerms, sumPlaces};
-ghost use Rattle.basis.specs.declared.Basis.the-variants.{Curve};
 ghost use Rattle.samples.specs.Columns.{columnsOf};
-ghost use Rattle.monomial.specs.Rows.{rowsAt};
 ghost use Rattle.lent.specs.Slices.{before, contents};
-ghost use Rattle.query.specs.Fits.{FitIs, fitPast, fitOut, validateOut};
-ghost use Rattle.query.specs.Bands.{BandIs, bandOut};
-
-// What a fit or a validation answers: the degree, or the number of a refusal.
-pub enum FitAnswer {
-    Fit(Degree),
-    Refused(u8),
-}
-
-// What a band answers: value, lower and upper, or the number of a refusal.
-pub enum BandAnswer {
-    Band(Band),
-    Refused(u8),
-}
-
-// Past refusals 1 to 9: solves the degree, and writes its coefficients unless it is unsolved.
-fn solve_at(
-    n: usize,
-    degree: Degree,
-    xs: &[f64],
-    ys: &[f64],
-    sums: &[f64],
-    scratch: &mut [f64],
-    coefficients: &mut [f64],
-) -> FitAnswer
-    requires { ⌜ (n ≤ length (now xs)) × (n ≤ length (now ys)) × (n ≤ length (now scratch)) × (sumPlaces ≤ length (now sums)) × (maxTerms ≤ length (now coefficients)) × (degree .0 ≤ highestDegree) ⌝ }
-    ensures { λ r. ⌜ FitIs (fitPast n (degree .0) (rowsAt Curve n (before xs) (before xs) (before ys)) (take sumPlaces (before sums))) r (contents scratch) (contents coefficients) ⌝ }
-{
-    let k = degree.k(Basis::Curve);
-    let s = fit::attempt(Basis::Curve, xs, xs, ys, n, &sums[..SUMS], k, &mut *scratch);
-    lent::clear(&mut *scratch, n);
-    if !s.solved {
-        return FitAnswer::Refused(10);
-    }
-    let c = s.c;
-    lent::put_terms(c, coefficients);
-    FitAnswer::Fit(degree)
-}
+ghost use Rattle.measure.specs.Fits.{FitIs};
+ghost use Rattle.measure.specs.Bands.{BandIs};
+ghost use Rattle.query.specs.Fits.{fitOut, validateOut};
+ghost use Rattle.query.specs.Bands.{bandOut};
 
 // The fit of the asked degree: its 16 coefficients are written, +0 from k on.
 pub fn fit(
@@ -85,7 +47,17 @@ pub fn fit(
     if refusal != 0 {
         return FitAnswer::Refused(refusal);
     }
-    solve_at(n, degree, xs, ys, sums, scratch, coefficients)
+    measure::solve_at(
+        Basis::Curve,
+        n,
+        degree,
+        xs,
+        xs,
+        ys,
+        &sums[..SUMS],
+        scratch,
+        coefficients,
+    )
 }
 
 // The fit of the degree that k-fold cross-validation chooses. The folds solve from the columns, the fit from the lent sums.
@@ -124,7 +96,17 @@ pub fn validate(
         lent::clear(scratch, n);
         return FitAnswer::Refused(11);
     };
-    solve_at(n, degree, xs, ys, sums, scratch, coefficients)
+    measure::solve_at(
+        Basis::Curve,
+        n,
+        degree,
+        xs,
+        xs,
+        ys,
+        &sums[..SUMS],
+        scratch,
+        coefficients,
+    )
 }
 
 // The band at x of the curve of the asked degree.
@@ -158,25 +140,18 @@ pub fn band(
     if refusal != 0 {
         return BandAnswer::Refused(refusal);
     }
-    let k = degree.k(Basis::Curve);
-    let m = measure::measure(Basis::Curve, xs, xs, ys, n, &sums[..SUMS], k, &mut *scratch);
-    lent::clear(scratch, n);
-    if m.number != 0 {
-        return BandAnswer::Refused(m.number);
-    }
-    let c = m.c;
-    let v = m.covariance;
-    let z = statistics::z_score(confidence);
-    let spread = statistics::stddev_and_mean(ys, n);
-    BandAnswer::Band(covariance::band_at(
+    measure::band_of(
         Basis::Curve,
-        k,
-        &c,
-        &v,
+        n,
+        x,
+        x,
+        degree,
+        confidence,
         tolerance,
-        z,
-        spread.stddev,
-        x,
-        x,
-    ))
+        xs,
+        xs,
+        ys,
+        &sums[..SUMS],
+        scratch,
+    )
 }

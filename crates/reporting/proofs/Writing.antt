@@ -18,12 +18,13 @@ use Rattle.covariance.specs.Covariance.{errorsOf}
 use Rattle.covariance.specs.Marks.{ones}
 use Rattle.covariance.specs.Bands.{lowerOf, upperOf, outlierOf, lowersOf, uppersOf, outliersOf}
 use Rattle.covariance.specs.Pruning.{prunedAt, prunedBytes}
+use Rattle.measure.specs.Places.{termPlaces}
 use Rattle.lent.specs.Written.{over, zeros}
 use Rattle.lent.specs.WrittenLaws.{over-by}
 use Rattle.settings.specs.declared.Settings.{Settings}
 use Rattle.reporting.specs.declared.ReportAnswer.the-variants as answers
 use Rattle.reporting.specs.Outputs.{Outputs}
-use Rattle.reporting.specs.Reports.{Does, termPlaces, writtenBy}
+use Rattle.reporting.specs.Reports.{Does, writtenBy}
 
 length-errors : (k : ℕ) (v : List Float) → length (errorsOf k v) ≡ 16
 unfolding errorsOf

@@ -6,7 +6,6 @@ use lib.ListN.{take}
 use lib.Ieee.{Float}
 use Rattle.basis.specs.Counts.{countOf}
 use Rattle.basis.specs.declared.Basis.{Basis}
-use Rattle.basis.specs.declared.Basis.the-variants.{Curve, Surface}
 use Rattle.basis.specs.declared.OptionDegree.{OptionDegree}
 use Rattle.statistics.specs.Scores.{zScore, tScore, degreesOfFreedom}
 use Rattle.statistics.specs.Variances.{stddevAndMean}
@@ -16,6 +15,7 @@ use Rattle.covariance.specs.Covariance.{errorsOf}
 use Rattle.covariance.specs.Marks.{ones}
 use Rattle.covariance.specs.Bands.{lowersOf, uppersOf, outliersOf}
 use Rattle.covariance.specs.Pruning.{prunedBytes}
+use Rattle.measure.specs.Places.{termPlaces}
 use Rattle.measure.specs.Measures.{covarianceAt}
 use Rattle.lent.specs.Written.{zeros}
 use Rattle.settings.specs.declared.Settings.{Settings}
@@ -23,11 +23,6 @@ use Rattle.reporting.specs.declared.ReportAnswer.{ReportAnswer}
 use Rattle.reporting.specs.declared.ReportAnswer.the-variants as answers
 use Rattle.reporting.specs.Chosen.{ofChosen}
 use Rattle.reporting.specs.Outputs.{Outputs, LentOutputs, nothing, scratchAlone, overAll}
-
--- the places of coefficients, errors and pruning bytes
-abbrev pub termPlaces : Basis → ℕ
-termPlaces Curve = 16
-termPlaces Surface = 15
 
 -- the answer, and the values written
 pub record ReportOut : Type 0 where

@@ -11,17 +11,17 @@ use fit::Choice;
 pub use refusals::settings_refusal;
 use score::Criterion;
 use settings::Settings;
-ghost use mathlib.Core.Path.{_≡_};
 ghost use Prim.Native.Nat.{_+_, _≤_};
 ghost use lib.ListN.{length};
 ghost use Rattle.basis.specs.Sizes.{highestDegree, maxTerms, sumPlaces};
 ghost use Rattle.basis.specs.Counts.{countOf};
 ghost use Rattle.monomial.specs.Rows.{rowsAt};
 ghost use Rattle.fit.specs.Chosen.{choiceOf, countsOf};
+ghost use Rattle.measure.specs.Places.{termPlaces};
 ghost use Rattle.lent.specs.Slices.{before, after};
 ghost use Rattle.reporting.specs.Chosen.{Chooses};
 ghost use Rattle.reporting.specs.Outputs.{outputs};
-ghost use Rattle.reporting.specs.Reports.{Does, termPlaces, writtenBy};
+ghost use Rattle.reporting.specs.Reports.{Does, writtenBy};
 
 // How many places are lent of each memory that a report writes.
 pub struct Places {
@@ -95,17 +95,6 @@ pub fn choose(
     }
 }
 
-// The places of coefficients, errors and pruning bytes.
-fn term_places(basis: Basis) -> usize
-    ensures is { λ r. ⌜ r ≡ termPlaces basis ⌝ }
-    ensures small { λ r. ⌜ r ≤ maxTerms ⌝ }
-{
-    match basis {
-        Basis::Curve => TERMS,
-        Basis::Surface => 15,
-    }
-}
-
 // Writes what a report of this degree writes, and answers it.
 pub fn write(
     basis: Basis,
@@ -130,7 +119,7 @@ pub fn write(
     requires { ⌜ (n ≤ length (now scratch)) × (termPlaces basis ≤ length (now coefficients)) × (termPlaces basis ≤ length (now errors)) × (termPlaces basis ≤ length (now pruned)) × (n ≤ length (now lower)) × (n ≤ length (now upper)) × (n ≤ length (now outliers)) ⌝ }
     ensures { λ r. ⌜ Does (writtenBy basis n settings (rowsAt basis n (before xs) (before zs) (before ys)) (degree .0) solved c v) r (outputs scratch coefficients errors pruned lower upper outliers) ⌝ }
 {
-    let places = term_places(basis);
+    let places = measure::term_places(basis);
     let k = degree.k(basis);
     let df = n - k.0;
     let confidence = settings.confidence;

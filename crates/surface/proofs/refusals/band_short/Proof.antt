@@ -1,0 +1,12 @@
+-- `surface::refusals::band_short` meets its contract.
+use Prim.Native.Nat.{_-_}
+use borrow.Author.Needs.{needs}
+use Rattle.refusal.specs.RoomLaws.{short-of, short-end, short-is}
+use Rattle.surface.proofs.refusals.band_short.Statement.{statement}
+use Rattle.surface.proofs.refusals.band_short.Tie as tie
+
+returns : tie.Need-returns
+returns c = short-is _ _ _ (c .too-short .ensures) (short-of _ _ _ (c .before .short .ensures) short-end)
+
+pub band-short-spec : {M : Type 1} → statement M
+band-short-spec = tie.close (tie.spec (λ c κs. search needs) (λ c κs. search needs) returns)
