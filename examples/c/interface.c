@@ -1,5 +1,5 @@
 /* Checks of the C interface that no list of calls reaches: a frame read sample by sample, a window of the latest samples, a replay beside its single calls,
- * the calls of two columns beside those of three at weight 1, a book carried over from two columns to three, and what a split and the losses write. What is expected is worked out by hand here, or is what
+ * the calls of two columns beside those of three at weight 1, a book carried over from two columns to three, and what a split, the losses and the scores write. What is expected is worked out by hand here, or is what
  * the other calls leave. It prints what fails, and ends with 1 if anything does. */
 #include <math.h>
 #include <stdio.h>
@@ -447,6 +447,43 @@ static void check_split_and_losses(void) {
           (uint64_t)1 << 56);
 }
 
+/* the scores of a line of five samples by hand, what is told of degrees that are unsolved or past the bound, and the refusals */
+static void check_scores(void) {
+    static const uint32_t words[2] = {STAKEBOOK_CUSTOM_DEGREE, 2}, line_words[2] = {STAKEBOOK_CUSTOM_DEGREE, 1};
+    static const double values[1], ys[4] = {0, 0, 4, 8};
+    double columns[3][5], sums[STAKEBOOK_SUMS], scratch[5] = {7, 7, 7, 7, 7}, scores[STAKEBOOK_TERMS + 1], least[2] = {7, 7}, numbers[2];
+    double losses[5];
+    uint8_t solved[STAKEBOOK_TERMS + 1];
+    for (size_t i = 0; i <= STAKEBOOK_TERMS; i++) scores[i] = solved[i] = 7;
+    size_t count = stakebook_count(stakebook_open(sums, STAKEBOOK_SUMS));
+    for (size_t i = 0; i < 5; i++)
+        count = stakebook_count(stakebook_add(count, (double)i, (double)i, 1, columns[0], 5, columns[1], 5, columns[2], 5, sums, STAKEBOOK_SUMS));
+#define SCORES(count, words, solved_len, scores_len, least_len)                                                                                   \
+    stakebook_scores(count, words, 2, values, 0, columns[0], 5, columns[1], 5, columns[2], 5, sums, STAKEBOOK_SUMS, scratch, 5, solved, solved_len, \
+                     scores, scores_len, least, least_len)
+    /* 1 judges every length, before 7 too: nothing is written */
+    CHECK(SCORES(5, words, STAKEBOOK_TERMS, STAKEBOOK_TERMS, 0) == (uint64_t)1 << 56 && SCORES(0, words, 15, STAKEBOOK_TERMS, 1) == (uint64_t)1 << 56);
+    CHECK(SCORES(5, words, STAKEBOOK_TERMS, 15, 1) == (uint64_t)1 << 56 && SCORES(0, words, STAKEBOOK_TERMS, STAKEBOOK_TERMS, 1) == (uint64_t)7 << 56);
+    CHECK(scratch[0] == 7 && solved[0] == 7 && scores[0] == 7 && least[0] == 7);
+    /* degrees 1 and 2 have no loss, so that the mean loss is 2^-52; at degree 2 the further term of AIC is 2 * 3 * 4 / 1 */
+    uint64_t answer = SCORES(5, words, STAKEBOOK_TERMS + 1, STAKEBOOK_TERMS + 1, 2);
+    CHECK(stakebook_refusal(answer) == 0 && stakebook_degree(answer) == 1 && stakebook_solved(answer) == 3);
+    CHECK(stakebook_bound(answer) == 2 && stakebook_tests(answer) == 1 + 2 + 3);
+    CHECK(scores[1] == least[0] && scores[1] < -170 && scores[1] > -171 && scores[0] > 0 && least[1] == 7);
+    CHECK(solved[0] == 1 && solved[1] == 1 && solved[2] == 1 && solved[3] == 0 && scores[3] == 0 && solved[STAKEBOOK_TERMS] == 7);
+    CHECK(scores[STAKEBOOK_TERMS - 1] == 0 && scores[STAKEBOOK_TERMS] == 7 && scratch[0] == 0 && scratch[4] == 0);
+    /* the chosen degree's is the score that the losses tell */
+    answer = stakebook_losses(5, words, 2, values, 0, columns[0], 5, columns[1], 5, columns[2], 5, sums, STAKEBOOK_SUMS, scratch, 5, losses, 5, numbers, 2);
+    CHECK(stakebook_degree(answer) == 1 && numbers[1] == scores[1]);
+    /* at one x degree 1 is unsolved: its second pivot fails, and is counted */
+    count = stakebook_count(stakebook_open(sums, STAKEBOOK_SUMS));
+    for (size_t i = 0; i < 4; i++)
+        count = stakebook_count(stakebook_add(count, 0, ys[i], 1, columns[0], 5, columns[1], 5, columns[2], 5, sums, STAKEBOOK_SUMS));
+    answer = SCORES(count, line_words, STAKEBOOK_TERMS, STAKEBOOK_TERMS, 1);
+    CHECK(stakebook_degree(answer) == 0 && stakebook_solved(answer) == 1 && stakebook_bound(answer) == 1 && stakebook_tests(answer) == 3);
+    CHECK(solved[0] == 1 && solved[1] == 0 && solved[2] == 0 && scores[0] == least[0] && scores[1] == 0 && scores[2] == 0);
+}
+
 int main(void) {
     check_weights();
     check_frames();
@@ -455,6 +492,7 @@ int main(void) {
     check_two_columns();
     check_carry();
     check_split_and_losses();
+    check_scores();
     printf("C interface: %d checks, %d failed\n", checks, failures);
     return failures != 0;
 }

@@ -146,6 +146,11 @@ static void one_losses(void) {
     const uint32_t words[] = {STAKEBOOK_CUSTOM_DEGREE, 15};
     stakebook_losses(count, words, 2, no_values, 0, xs, ROOM, ys, ROOM, ws, ROOM, sums, STAKEBOOK_SUMS, scratch, ROOM, lower, ROOM, numbers, 2);
 }
+static void one_scores(void) {
+    const uint32_t words[] = {STAKEBOOK_CUSTOM_DEGREE, 15};
+    stakebook_scores(count, words, 2, no_values, 0, xs, ROOM, ys, ROOM, ws, ROOM, sums, STAKEBOOK_SUMS, scratch, ROOM, pruned, STAKEBOOK_TERMS,
+                     coefficients, STAKEBOOK_TERMS, numbers, 1);
+}
 static void one_reader(void) { stakebook_reader(frame, sizeof frame); }
 static void one_next(void) { stakebook_next(weighted, sizeof weighted, 3, sample, STAKEBOOK_SAMPLE); }
 static void ten_folds(void) { validate(10, 15); }
@@ -273,6 +278,7 @@ int main(void) {
     show_cost("validate in 4,096 folds up to degree 3", all_folds_3, 3);
     show_cost("validate in 4,096 folds up to degree 15", all_folds_15, 3);
     show_cost("losses up to degree 15", one_losses, 100);
+    show_cost("scores up to degree 15", one_scores, 100);
     show_cost("split up to degree 3", split_3, 3);
     show_cost("split up to degree 8", split_8, 3);
     show_cost("split up to degree 15", split_15, 3);

@@ -24,12 +24,14 @@ use Rattle.split.specs.declared.SplitAnswer.the-variants as splits
 use Rattle.split.specs.Splits.{SplitOut, LentSplit, splitRefused, Does as SplitDoes}
 use Rattle.losses.specs.declared.LossAnswer.{LossAnswer}
 use Rattle.losses.specs.Losses.{LossOut, LossIs}
+use Rattle.scores.specs.declared.ScoresAnswer.{ScoresAnswer}
+use Rattle.scores.specs.Scores.{ScoresOut, ScoresIs}
 use Rattle.replay.specs.declared.Replayed.{Replayed}
 use Rattle.replay.specs.Records.{callsOf}
 use Rattle.replay.specs.Replay.{LentMemory, Ran, ReplayIs}
 use Rattle.lent.specs.Slices.{Slice, before, after, contents}
 use Rattle.lent.specs.Written.{over}
-use Rattle.capi.specs.Packed.{packedRefusal, packedBook, packedFit, packedBand, packedReport, packedLosses, bandNumbers, bandInto, lossNumbers, lossInto, BookPacked, PairPacked, FitPacked, BandPacked, ReportPacked, LossPacked, packedSplit, splitTotal, splitInto, SplitPacked, packedRead, readNumbers, ReadPacked, packedReplay, ReplayPacked}
+use Rattle.capi.specs.Packed.{packedRefusal, packedBook, packedFit, packedBand, packedReport, packedLosses, bandNumbers, bandInto, lossNumbers, lossInto, BookPacked, PairPacked, FitPacked, BandPacked, ReportPacked, LossPacked, packedSplit, splitTotal, splitInto, SplitPacked, packedScores, leastNumber, scoresInto, ScoresPacked, packedRead, readNumbers, ReadPacked, packedReplay, ReplayPacked}
 use Rattle.samples.specs.Columns.{Columns}
 
 pub book-packed : {o : Out} {a : Answer} {r : ℕ} {columns : Columns} {sums : List Float} → Is o a columns sums → r ≡ packedBook a → BookPacked o r columns sums
@@ -115,6 +117,24 @@ module _ (o : LossOut) (places : ℕ) (s l v : Slice Float) where
         answer = e ∙ ap packedLosses (i .answer);
         lent = record { answer = refl; scratch = i .scratch; losses = i .losses };
         numbers = n ∙ ap (λ (b : LossAnswer). over (lossNumbers b) (before v)) (i .answer);
+      })
+
+-- the least of the scores into no place, and into one
+module _ (o : ScoresOut) (places : ℕ) (s : Slice Float) (b : Slice ℕ) (l v : Slice Float) where
+  pub scores-short : ltb places 1 ≡ true → after s ≡ before s → after b ≡ before b → after l ≡ before l → after v ≡ before v → (r : ℕ) → r ≡ packedRefusal 1
+      → ScoresPacked (scoresInto places o) r s b l v
+  unfolding scoresInto packedScores leastNumber
+  scores-short h es eb el ev r e = rw h (record { answer = e; lent = record { answer = refl; scratch = es; solved = eb; scores = el }; least = ev })
+
+  pub scores-packed : ltb places 1 ≡ false → (a : ScoresAnswer) (r : ℕ) → ScoresIs o a (contents s) (contents b) (contents l) → r ≡ packedScores a
+      → after v ≡ over (leastNumber a) (before v) → ScoresPacked (scoresInto places o) r s b l v
+  unfolding scoresInto
+  scores-packed h a r i e n =
+      rw h
+      (record {
+        answer = e ∙ ap packedScores (i .answer);
+        lent = record { answer = refl; scratch = i .scratch; solved = i .solved; scores = i .scores };
+        least = n ∙ ap (λ (c : ScoresAnswer). over (leastNumber c) (before v)) (i .answer);
       })
 
 -- a sample into too few places, and into enough

@@ -68,6 +68,7 @@ use Rattle.report.specs.Refusals.{reportRefusal}
 use Rattle.report.specs.RefusalLaws.{report-numbers, report-room}
 use Rattle.report.specs.Reports.{reportChoice}
 use Rattle.report.specs.ChosenLaws.{chosen-solved}
+use Rattle.reporting.specs.ChosenLaws.{of-either}
 use Rattle.reporting.specs.Reports.{ReportOut, refusedEarly, refusedLate, reportOf, writtenBy}
 use Rattle.report.specs.Reports.{reportPast, reportOn, reportOut}
 use Rattle.capi.specs.Packed.{BookFits, FitFits, BandFits, ReportFits, bandInto}
@@ -288,6 +289,12 @@ module _ (k : ℕ) (c v : List Float) where
   unfolding prunedAt
   pruned-most rule t = ones-table (prunedAt rule k c v t) (λ i. mark-most (ltb i k && prunes rule t (getD c i nan) (getD v i nan))) 16
 
+pub choice-solved : (n : ℕ) (settings : Settings) (rows : List Row) (sums : List Float) → maxDegree (settings .bound) n ≤ 15 → reportChoice n settings rows sums .solved ≤ 16
+unfolding reportChoice choiceOf
+choice-solved n settings rows sums most =
+    let counts = countsOf Curve (maxDegree (settings .bound) n) in
+    omega (arith, solved-most (tried (settings .criterion) sums rows counts) (length counts), length-table (countOf Curve) (maxDegree (settings .bound) n + 1))
+
 module _ (n : ℕ) (settings : Settings) (rows : List Row) (sums : List Float)
     (few : length rows ≤ 4096) (most : maxDegree (settings .bound) n ≤ 15) where
   written-fits : (degree solved : ℕ) (c v : List Float) → degree ≤ 15 → solved ≤ 16 → ReportFits (writtenBy Curve n settings rows degree solved c v .answer)
@@ -295,23 +302,11 @@ module _ (n : ℕ) (settings : Settings) (rows : List Row) (sums : List Float)
   written-fits degree solved c v h k =
       (h, k, outliers-most (countOf Curve degree) c v (settings .tolerance) _ _ rows few, pruned-most (countOf Curve degree) c _ (settings .pruning) _)
 
-  choice-solved : reportChoice n settings rows sums .solved ≤ 16
-  unfolding reportChoice choiceOf
-  choice-solved =
-      let counts = countsOf Curve (maxDegree (settings .bound) n) in
-      omega (arith, solved-most (tried (settings .criterion) sums rows counts) (length counts), length-table (countOf Curve) (maxDegree (settings .bound) n + 1))
-
-  chosen-fits : (o : OptionDegree) → reportChoice n settings rows sums .chosen ≡ o
-      → ReportFits (reportOf Curve n settings rows sums (reportChoice n settings rows sums .solved) o .answer)
-  unfolding reportOf ReportFits
-  chosen-fits None e = (omega arith, omega arith)
-  chosen-fits (Some d) e = go (inverseFails sums (countOf Curve (d .0)))
-    where
-      go : (t : Bool)
-          → ReportFits
-          (cond t (refusedLate n 12) (writtenBy Curve n settings rows (d .0) (reportChoice n settings rows sums .solved) (solve sums (countOf Curve (d .0)) .c) (covarianceAt sums rows (countOf Curve (d .0)))) .answer)
-      go true = (omega arith, omega arith)
-      go false = written-fits (d .0) _ _ _ (omega (arith, chosen-solved n settings rows sums d e .0)) choice-solved
+  chosen-fits : ReportFits (reportPast n settings rows sums .answer)
+  unfolding reportPast reportOf ReportFits
+  chosen-fits =
+      of-either Curve sums (refusedLate n) _ (λ (o : ReportOut). ReportFits (o .answer)) (reportChoice n settings rows sums .chosen) (omega arith, omega arith) (omega arith, omega arith)
+      (λ d e. written-fits (d .0) _ _ _ (omega (arith, chosen-solved n settings rows sums d e .0)) (choice-solved n settings rows sums most))
 
 report-settles : (k : ℕ) (good : ReportOut) → k ≤ mostNumber → (k ≡ 0 → ReportFits (good .answer))
     → ReportFits (settle k good (refusedEarly k) .answer)
@@ -320,12 +315,11 @@ report-settles zero good h g = g refl
 report-settles (suc k) good h g = (omega arith, h)
 
 pub report-fits : (n : ℕ) (settings : Settings) (columns : Columns) (sums : List Float) (places : Places) → ReportFits (reportOut n settings columns sums places .answer)
-unfolding reportOn reportPast
+unfolding reportOn
 report-fits n settings columns sums places =
     let samples = samplesOf n columns in
     report-settles (reportRefusal n settings samples (lengths columns) (length sums) places) _
     (omega (arith, among _ (report-numbers n settings samples (lengths columns) (length sums) places)))
     (λ e.
     let w = report-room n settings samples (lengths columns) (length sums) places e in
-    chosen-fits n settings (rowsOf samples) (take 272 sums) (omega (arith, w .room .most, length-samples n columns, length-map samples rowOf)) (w .most)
-    (reportChoice n settings (rowsOf samples) (take 272 sums) .chosen) refl)
+    chosen-fits n settings (rowsOf samples) (take 272 sums) (omega (arith, w .room .most, length-samples n columns, length-map samples rowOf)) (w .most))

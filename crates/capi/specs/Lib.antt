@@ -9,3 +9,4 @@ pub mod Reading
 pub mod ReadingLaws
 pub mod ReportByLaws
 pub mod SplitFitting
+pub mod ScoresFitting

@@ -7,17 +7,14 @@ use native.Mathlib.Omega.{arith}
 use lib.Dec.{ltb}
 use lib.ListN.{length, take}
 use lib.Ieee.{Float}
-use Rattle.basis.specs.Counts.{countOf}
 use Rattle.basis.specs.declared.Basis.the-variants.{Curve}
-use Rattle.basis.specs.declared.OptionDegree.{OptionDegree}
-use Rattle.basis.specs.declared.OptionDegree.the-variants.{Some, None}
 use Rattle.statistics.specs.Degrees.{maxDegree}
 use Rattle.samples.specs.Columns.{Columns, samplesOf, lengths}
 use Rattle.monomial.specs.Rows.{Row, rowsOf}
 use Rattle.refusal.specs.Refusals.{settle, mostNumber}
 use Rattle.refusal.specs.Laws.{among}
-use Rattle.measure.specs.Measures.{inverseFails}
 use Rattle.settings.specs.declared.Settings.{Settings}
+use Rattle.reporting.specs.ChosenLaws.{of-either}
 use Rattle.report.specs.Reports.{reportChoice}
 use Rattle.report.specs.ChosenLaws.{chosen-solved}
 use Rattle.losses.specs.Refusals.{lossRefusal}
@@ -30,14 +27,11 @@ module _ (n : ℕ) (settings : Settings) (rows : List Row) (sums : List Float) (
   unfolding LossFits lossesBy
   by-fits degree h = h
 
-  chosen-fits : (o : OptionDegree) → reportChoice n settings rows sums .chosen ≡ o → LossFits (lossOf n settings rows sums o .answer)
-  unfolding lossOf LossFits
-  chosen-fits None e = (omega arith, omega arith)
-  chosen-fits (Some d) e = go (inverseFails sums (countOf Curve (d .0)))
-    where
-      go : (t : Bool) → LossFits (cond t (lossLate n 12) (lossesBy n settings rows sums (d .0)) .answer)
-      go true = (omega arith, omega arith)
-      go false = by-fits (d .0) (omega (arith, chosen-solved n settings rows sums d e .0))
+  past-fits : LossFits (lossPast n settings rows sums .answer)
+  unfolding lossPast lossOf LossFits
+  past-fits =
+      of-either Curve sums (lossLate n) _ (λ (o : LossOut). LossFits (o .answer)) (reportChoice n settings rows sums .chosen) (omega arith, omega arith) (omega arith, omega arith)
+      (λ d e. by-fits (d .0) (omega (arith, chosen-solved n settings rows sums d e .0)))
 
 settles : (k : ℕ) (good : LossOut) → k ≤ mostNumber → (k ≡ 0 → LossFits (good .answer)) → LossFits (settle k good (lossRefused k) .answer)
 unfolding LossFits
@@ -54,12 +48,11 @@ into-fits places o h = go (ltb places 2)
 
 pub loss-fits : (n : ℕ) (settings : Settings) (columns : Columns) (sums scratch losses : List Float) (places : ℕ)
     → LossFits (lossInto places (lossOut n settings columns sums scratch losses) .answer)
-unfolding lossOn lossPast
+unfolding lossOn
 loss-fits n settings columns sums scratch losses places =
     let samples = samplesOf n columns in
     into-fits places _
     (settles (lossRefusal n settings samples (lengths columns) (length sums) (length scratch) (length losses)) _
     (omega (arith, among _ (loss-numbers n settings samples (lengths columns) (length sums) (length scratch) (length losses))))
     (λ e.
-    chosen-fits n settings (rowsOf samples) (take 272 sums) (loss-room n settings samples (lengths columns) (length sums) (length scratch) (length losses) e .2)
-    (reportChoice n settings (rowsOf samples) (take 272 sums) .chosen) refl))
+    past-fits n settings (rowsOf samples) (take 272 sums) (loss-room n settings samples (lengths columns) (length sums) (length scratch) (length losses) e .2)))

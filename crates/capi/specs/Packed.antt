@@ -35,6 +35,9 @@ use Rattle.split.specs.Splits.{SplitOut, LentSplit, splitRefused, splitOut, pla
 use Rattle.losses.specs.declared.LossAnswer.{LossAnswer}
 use Rattle.losses.specs.declared.LossAnswer.the-variants as losses
 use Rattle.losses.specs.Losses.{LossOut, LossIs, lossRefused}
+use Rattle.scores.specs.declared.ScoresAnswer.{ScoresAnswer}
+use Rattle.scores.specs.declared.ScoresAnswer.the-variants as scores
+use Rattle.scores.specs.Scores.{ScoresOut, ScoresIs, scoresRefused}
 use Rattle.settings.specs.declared.Settings.{Settings}
 use Rattle.replay.specs.declared.Replayed.{Replayed}
 use Rattle.replay.specs.declared.Replayed.the-variants as replays
@@ -111,6 +114,20 @@ lossNumbers (losses.Refused k) = []
 unfoldable pub lossInto : ℕ → LossOut → LossOut
 lossInto places o = cond (ltb places 2) (lossRefused 1) o
 
+-- the scores: the chosen degree, the solved degrees, the bound, the pivot tests
+unfoldable pub packedScores : ScoresAnswer → ℕ
+packedScores (scores.Scores d bound solved least tests) = packedFields (d .0) solved (bound .0) tests
+packedScores (scores.Refused k) = packedRefusal k
+
+-- the least score; a refused call writes none
+unfoldable pub leastNumber : ScoresAnswer → List Float
+leastNumber (scores.Scores d bound solved least tests) = least ∷ []
+leastNumber (scores.Refused k) = []
+
+-- the scores, the least one into so many places: 1 judges them with the other lengths, before all else
+unfoldable pub scoresInto : ℕ → ScoresOut → ScoresOut
+scoresInto places o = cond (ltb places 1) (scoresRefused 1) o
+
 -- a reader: the offset of its next sample
 unfoldable pub packedOpened : Opened → ℕ
 packedOpened (readers.Cursor c) = c .at
@@ -163,6 +180,11 @@ unfoldable pub LossFits : LossAnswer → Type 0
 LossFits (losses.Losses d total score) = d .0 ≤ 15
 LossFits (losses.Refused k) = RefusalFits k
 
+-- 16 degrees have at most 1 + 2 + .. + 16 pivot tests
+unfoldable pub ScoresFits : ScoresAnswer → Type 0
+ScoresFits (scores.Scores d bound solved least tests) = (d .0 ≤ 15) × (solved ≤ maxTerms) × (bound .0 ≤ 15) × (tests ≤ 136)
+ScoresFits (scores.Refused k) = RefusalFits k
+
 -- ---- what each call promises: the packed answer of the book's own call, and every lent list as that call leaves it
 
 -- of a call that changes a book, with weights or without: a, c and s are its answer, the columns and the sums that it leaves
@@ -213,6 +235,12 @@ pub record LossPacked (o : LossOut) (r : ℕ) (s l v : Slice Float) : Type 0 whe
   pub answer : r ≡ packedLosses (o .answer)
   pub lent : LossIs o (o .answer) (contents s) (contents l)
   pub numbers : after v ≡ over (lossNumbers (o .answer)) (before v)
+
+-- s, b, l and v: scratch, the solved bytes, the scores, and the lent place for the least
+pub record ScoresPacked (o : ScoresOut) (r : ℕ) (s : Slice Float) (b : Slice ℕ) (l v : Slice Float) : Type 0 where
+  pub answer : r ≡ packedScores (o .answer)
+  pub lent : ScoresIs o (o .answer) (contents s) (contents b) (contents l)
+  pub least : after v ≡ over (leastNumber (o .answer)) (before v)
 
 -- v: the lent places for x, y and the weight
 pub record ReadPacked (a : Read) (r : ℕ) (v : Slice Float) : Type 0 where

@@ -17,6 +17,8 @@ use Rattle.split.specs.declared.SplitAnswer.{SplitAnswer}
 use Rattle.split.specs.declared.SplitAnswer.the-variants as splits
 use Rattle.losses.specs.declared.LossAnswer.{LossAnswer}
 use Rattle.losses.specs.declared.LossAnswer.the-variants as losses
+use Rattle.scores.specs.declared.ScoresAnswer.{ScoresAnswer}
+use Rattle.scores.specs.declared.ScoresAnswer.the-variants as scores
 
 -- the number of the refusal, 0 if there is none
 abbrev pub numberIn : ℕ → ℕ
@@ -26,11 +28,11 @@ numberIn p = p / 0x100_0000_0000_0000
 abbrev pub countIn : ℕ → ℕ
 countIn p = p % 0x100_0000_0000_0000
 
--- the degree of a fit, a validation, a report or its losses
+-- the degree of a fit, a validation, a report, its losses or its scores
 abbrev pub degreeIn : ℕ → ℕ
 degreeIn p = p % 0x100
 
--- a report's solved degrees, pruned terms and outliers
+-- a report's solved degrees, which the scores have too, pruned terms and outliers
 abbrev pub solvedIn : ℕ → ℕ
 solvedIn p = p / 0x100 % 0x100
 
@@ -40,7 +42,7 @@ prunedIn p = p / 0x1_0000 % 0x100
 abbrev pub outliersIn : ℕ → ℕ
 outliersIn p = p / 0x1_0000_0000 % 0x1_0000
 
--- a split's degree after the break, the samples before it, and the pivot tests
+-- a split's degree after the break, the samples before it, and the pivot tests, which the scores have too
 abbrev pub afterIn : ℕ → ℕ
 afterIn p = p / 0x100 % 0x100
 
@@ -49,6 +51,10 @@ breakIn p = p / 0x1_0000 % 0x1_0000
 
 abbrev pub testsIn : ℕ → ℕ
 testsIn p = p / 0x1_0000_0000 % 0x100_0000
+
+-- the bound of the scores
+abbrev pub boundIn : ℕ → ℕ
+boundIn p = p / 0x1_0000 % 0x1_0000
 
 -- ---- what is read of a number p is the answer
 
@@ -77,6 +83,11 @@ SplitRead p (splits.Refused k) = numberIn p ≡ k
 unfoldable pub LossRead : ℕ → LossAnswer → Type 0
 LossRead p (losses.Losses d total score) = (numberIn p ≡ 0) × (degreeIn p ≡ d .0)
 LossRead p (losses.Refused k) = numberIn p ≡ k
+
+unfoldable pub ScoresRead : ℕ → ScoresAnswer → Type 0
+ScoresRead p (scores.Scores d bound solved least tests) =
+    (numberIn p ≡ 0) × (degreeIn p ≡ d .0) × (solvedIn p ≡ solved) × (boundIn p ≡ bound .0) × (testsIn p ≡ tests)
+ScoresRead p (scores.Refused k) = numberIn p ≡ k
 
 unfoldable pub OpenedRead : ℕ → Opened → Type 0
 OpenedRead p (readers.Cursor c) = (numberIn p ≡ 0) × (countIn p ≡ c .at)

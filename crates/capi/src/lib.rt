@@ -9,6 +9,7 @@ use frame::Read;
 use losses::LossAnswer;
 use measure::BandAnswer;
 use reporting::ReportAnswer;
+use scores::ScoresAnswer;
 use split::SplitAnswer;
 ghost use mathlib.Core.Path.{_≡_};
 ghost use mathlib.Core.List.{[]};
@@ -24,13 +25,14 @@ ghost use Rattle.query.specs.Fits.{fitOut, validateOut};
 ghost use Rattle.query.specs.Bands.{bandOut};
 ghost use Rattle.reporting.specs.Outputs.{outputs};
 ghost use Rattle.losses.specs.Losses.{lossOut};
+ghost use Rattle.scores.specs.Scores.{scoresOut};
 ghost use Rattle.carried.specs.Carry.{carryOut};
 ghost use Rattle.split.specs.Splits.{lentSplit};
 ghost use Rattle.two_column.specs.Pairs.{columns as pairColumns};
 ghost use Rattle.two_column.specs.Calls.{openOut as pairOpenOut, addOut as pairAddOut, correctOut as pairCorrectOut, withdrawOut as pairWithdrawOut, addFrameOut as pairFrameOut};
 ghost use Rattle.replay.specs.Replay.{memory};
 ghost use Rattle.settings.specs.Numbers.{boundOf, criterionOf, confidenceOf, toleranceOf, settingsOf, settingsIn};
-ghost use Rattle.capi.specs.Packed.{packedFields, packedReport, ReportFits, packedBand, bandNumbers, BookPacked, PairPacked, FitPacked, BandPacked, bandInto, ReportPackedIs, packedSplit, splitTotal, SplitFits, SplitPackedIs, packedLosses, lossNumbers, LossPacked, lossInto, packedOpened, packedRead, readNumbers, ReadPacked, ReplayPacked};
+ghost use Rattle.capi.specs.Packed.{packedFields, packedReport, ReportFits, packedBand, bandNumbers, BookPacked, PairPacked, FitPacked, BandPacked, bandInto, ReportPackedIs, packedSplit, splitTotal, SplitFits, SplitPackedIs, packedLosses, lossNumbers, LossPacked, lossInto, packedScores, leastNumber, ScoresFits, ScoresPacked, scoresInto, packedOpened, packedRead, readNumbers, ReadPacked, ReplayPacked};
 
 // The places that a band is written to, the total and the score of losses, and a reader's sample.
 const BAND: usize = 3;
@@ -117,6 +119,27 @@ fn packed_losses(answer: LossAnswer, numbers: &mut [f64]) -> u64
             degree.0 as u64
         }
         LossAnswer::Refused(k) => packed::refused(k),
+    }
+}
+
+// The scores: the chosen degree, the solved degrees, the bound and the pivot tests; the least is written.
+fn packed_scores(answer: ScoresAnswer, least: &mut [f64]) -> u64
+    requires { ⌜ ScoresFits answer ⌝ }
+    requires { ⌜ 1 ≤ length (now least) ⌝ }
+    ensures { λ r. ⌜ (r ≡ packedScores answer) × (after least ≡ over (leastNumber answer) (before least)) ⌝ }
+{
+    match answer {
+        ScoresAnswer::Scores {
+            degree,
+            bound,
+            solved,
+            least: score,
+            tests,
+        } => {
+            least[0] = score;
+            fields(degree.0, solved, bound.0, tests)
+        }
+        ScoresAnswer::Refused(k) => packed::refused(k),
     }
 }
 
@@ -568,6 +591,42 @@ pub extern "C" fn stakebook_losses(
         losses::losses(Book { count }, settings, xs, ys, ws, sums, scratch, losses),
         numbers,
     )
+}
+
+// Of each degree within the bound whether it is solved and its score, 16 places each, and what a report by these settings chooses from them. The least score
+// is written to one place.
+#[no_mangle]
+pub extern "C" fn stakebook_scores(
+    count: usize,
+    words: &[u32],
+    values: &[f64],
+    xs: &[f64],
+    ys: &[f64],
+    ws: &[f64],
+    sums: &[f64],
+    scratch: &mut [f64],
+    solved: &mut [u8],
+    scores: &mut [f64],
+    least: &mut [f64],
+) -> u64
+    ensures { λ r. ⌜ ScoresPacked (scoresInto (length (before least)) (scoresOut count (settingsIn (before words) (before values)) (columnsOf (before xs) (before ys) (before ws)) (before sums) (before scratch) (before solved) (before scores))) r scratch solved scores least ⌝ }
+{
+    if least.len() < 1 {
+        return packed::refused(1);
+    }
+    let settings = settings::listed(words, values);
+    let answer = scores::scores(
+        Book { count },
+        settings,
+        xs,
+        ys,
+        ws,
+        sums,
+        scratch,
+        solved,
+        scores,
+    );
+    packed_scores(answer, least)
 }
 
 // A reader of a frame: the offset of its first sample.
