@@ -10,11 +10,10 @@ import json
 import os
 import re
 import sys
-import tempfile
 import textwrap
 import threading
 import time
-from typing import Any, Callable, Dict, Iterator, List, NoReturn, Optional, Sequence, Tuple
+from typing import Any, Callable, Dict, List, Optional, Sequence
 
 from . import season as seasons
 from ._library import LibraryError, Refused
@@ -192,10 +191,14 @@ def _asked(arguments: argparse.Namespace, season: Season) -> Settings:
 
 def _add_settings(parser: argparse.ArgumentParser, words: str) -> None:
     group = parser.add_argument_group("settings", words)
-    group.add_argument("--bound", type=_bound, metavar="B", help="the highest degree to try, or conservative, relaxed or aggressive, which need many readings")
+    group.add_argument(
+        "--bound", type=_bound, metavar="B", help="the highest degree to try, or conservative, relaxed or aggressive, which need many readings"
+    )
     group.add_argument("--criterion", choices=("aic", "bic"), help="how degrees are scored")
     group.add_argument("--confidence", type=_confidence, metavar="P", help="P80, P90, P95, P98, P99, P999 or a z score")
-    group.add_argument("--tolerance", type=_tolerance, metavar="T", help="none, or absolute=, variance= or measurement= with a number: what the band allows besides")
+    group.add_argument(
+        "--tolerance", type=_tolerance, metavar="T", help="what the band allows besides: none, or absolute=, variance= or measurement= with a number"
+    )
     group.add_argument("--pruning", choices=("size", "positive"), help="which terms are marked: by size, or polyfit's rule")
 
 
@@ -208,9 +211,11 @@ def _parser() -> argparse.ArgumentParser:
     )
     commands = parser.add_subparsers(title="commands", dest="command", metavar="COMMAND", required=True)
 
-    def command(name: str, run: Callable[[argparse.Namespace], int], words: str, changes: bool = False, as_json: bool = False) -> argparse.ArgumentParser:
+    def command(
+        name: str, run: Callable[[argparse.Namespace], int], words: str, changes: bool = False, as_json: bool = False
+    ) -> argparse.ArgumentParser:
         made = commands.add_parser(name, help=words, description=words[0].upper() + words[1:] + ".", allow_abbrev=False)
-        made.set_defaults(run=run, changes=changes, json=False)
+        made.set_defaults(run=run, parser=made, changes=changes, json=False)
         made.add_argument("season", metavar="SEASON", help="the season's file")
         if changes:
             made.add_argument("--source", metavar="TEXT", help="where it comes from" + ("; without, the file's name" if name == "import" else ""))
@@ -220,7 +225,8 @@ def _parser() -> argparse.ArgumentParser:
         return made
 
     _add_settings(command("new", _new, "begin a season", changes=True), "of the season's reports; without: relaxed, bic, P95, none, size")
-    _add_settings(command("settings", _set, "show the season's settings, or change those that are given", changes=True, as_json=True), "those to change")
+    made = command("settings", _set, "show the season's settings, or change those that are given", changes=True, as_json=True)
+    _add_settings(made, "those to change")
 
     made = command("import", _import, "add the readings of a table, all or none", changes=True)
     made.add_argument("file", metavar="FILE", help="a table with headings: comma, semicolon or tab between; - is standard input")
@@ -264,11 +270,18 @@ def _parser() -> argparse.ArgumentParser:
     made.add_argument("file", metavar="FILE", help="an .html file to write")
 
     made = command("export", _export, "write the season for other programs")
-    made.add_argument("--format", choices=("csv", "frame", "calls"), default="csv", help="csv: the readings that stand; frame: these as one frame of version 2; calls: the list of calls for journal")
+    made.add_argument(
+        "--format",
+        choices=("csv", "frame", "calls"),
+        default="csv",
+        help="csv: the readings that stand; frame: these as one frame of version 2; calls: the list of calls for journal",
+    )
     made.add_argument("--output", metavar="FILE", help="without, standard output")
 
     made = command("check", _check, "read the file again, make its book in other ways and compare every bit", as_json=True)
-    made.add_argument("--leave-out", metavar="LINE", type=_whole, action="append", default=[], help="give a damaged line up, by a line more in the file")
+    made.add_argument(
+        "--leave-out", metavar="LINE", type=_whole, action="append", default=[], help="give a damaged line up, by a line more in the file"
+    )
     return parser
 
 
@@ -375,7 +388,9 @@ def _list(arguments: argparse.Namespace) -> int:
     elif arguments.history:
         rows = [["line", "time", "call", "", ""]]
         for call in season.history:
-            rows.append([str(call.line), call.time or "", call.text, "undone" if call.undone else "", _remarks(call.source if call.call != "import" else None, call.note)])
+            # an import's text has its source
+            kept = _remarks(call.source if call.call != "import" else None, call.note)
+            rows.append([str(call.line), call.time or "", call.text, "undone" if call.undone else "", kept])
         _say(_table(rows, (1, 2, 3, 4)))
     else:
         called = any(reading.called for reading in season.readings)
@@ -523,7 +538,10 @@ def _report(arguments: argparse.Namespace) -> int:
     if split is not None:
         first, last = _named(standing[split.at - 1]), _named(standing[split.at])
         _say(f"\nThe list breaks between {first} and {last} (total {_six(split.total)}, {counted(split.tests, 'pivot test')}):")
-        for words, count, degree, coefficients in (("before", split.at, split.degree_before, split.before), ("after", split.n - split.at, split.degree_after, split.after)):
+        for words, count, degree, coefficients in (
+            ("before", split.at, split.degree_before, split.before),
+            ("after", split.n - split.at, split.degree_after, split.after),
+        ):
             terms = " ".join(f"{_six(c)} {_term(i)}" if i else _six(c) for i, c in enumerate(coefficients))
             _say(f"  {words}: {counted(count, 'reading')}, degree {degree}, {terms}")
     if warnings:
@@ -604,6 +622,8 @@ def _export(arguments: argparse.Namespace) -> int:
 
 def _write_beside(path: str, data: bytes) -> None:
     """Writes a file whole or not at all."""
+    import tempfile
+
     try:
         descriptor, made = tempfile.mkstemp(dir=os.path.dirname(os.path.abspath(path)), prefix=".stake-")
         try:
@@ -646,7 +666,8 @@ def _check(arguments: argparse.Namespace) -> int:
         _say(f"  {found.torn}. Everything before stands, and the next call will say so in the file")
     _say(f"  {counted(found.calls, 'call')} in force, {counted(found.readings, 'reading')}")
     for what, same in found.compared:
-        _say(f"  the replayed book and {what}: " + (f"{found.readings:,} x's, y's and weights and 272 sums are the same, bit for bit" if same else "they DIFFER"))
+        bits = f"{found.readings:,} x's, y's and weights and 272 sums are the same, bit for bit" if same else "they DIFFER"
+        _say(f"  the replayed book and {what}: {bits}")
     return 0 if found.good else 1
 
 
@@ -675,7 +696,7 @@ def _refused(refused: Refused, arguments: argparse.Namespace) -> int:
     return 1
 
 
-def _run(arguments: argparse.Namespace, parser: argparse.ArgumentParser) -> int:
+def _run(arguments: argparse.Namespace) -> int:
     try:
         status = arguments.run(arguments)
         sys.stdout.flush()
@@ -683,7 +704,8 @@ def _run(arguments: argparse.Namespace, parser: argparse.ArgumentParser) -> int:
     except Refused as refused:
         return _refused(refused, arguments)
     except Usage as error:
-        parser.error(str(error))
+        arguments.parser.error(str(error))
+        return 2
     except (SeasonError, LibraryError) as error:
         _tell(str(error))
         if arguments.changes and arguments.command != "new" and not isinstance(error, NotSaved):
@@ -699,10 +721,9 @@ def main(argv: Optional[Sequence[str]] = None) -> int:
             stream.reconfigure(errors="backslashreplace")
     # A minus with a digit behind it is a number, and a space keeps argparse from taking it as an option. `_number` takes the space away.
     words = [f" {word}" if re.match(r"-[0-9]", word) else word for word in (sys.argv[1:] if argv is None else argv)]
-    parser = _parser()
-    arguments = parser.parse_args(words)
+    arguments = _parser().parse_args(words)
     try:
-        return _run(arguments, parser)
+        return _run(arguments)
     except KeyboardInterrupt:
         _tell("interrupted" + ("; `stake list` says whether the call was saved" if arguments.changes else ""))
         return 130

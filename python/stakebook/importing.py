@@ -28,6 +28,9 @@ MISSING = ("", "na", "n/a", "#n/a", "nan", "null", "none", "-", "--")
 
 _DELIMITERS = (("\t", "tab"), (";", "semicolon"), (",", "comma"))
 
+#: A line with no number missing: which it is, its numbers as they stand there, the observer's name and remark.
+_Taken = Tuple[int, Dict[str, str], Optional[str], Optional[str]]
+
 
 class TableError(SeasonError):
     """A table that can't be imported: which file and line, and why."""
@@ -97,7 +100,8 @@ def _decoded(data: bytes, source: str) -> Tuple[str, str]:
 
 
 def _begin(text: str, source: str) -> Tuple[str, int, str]:
-    """From its heading on: the text, how many lines stand before, and the delimiter. Lines of comment before the heading, and Excel's `sep=` line, are passed over."""
+    """From its heading on: the text, how many lines stand before, and the delimiter. Lines of comment before the heading are passed over, and so is
+    Excel's `sep=` line."""
     lines = io.StringIO(text, newline="")
     before = at = 0
     delimiter: Optional[str] = None
@@ -167,7 +171,7 @@ def read_table(
         numbers = {key: column for key, column in at.items() if column is not None}
         if len(set(numbers.values())) < len(numbers):
             raise TableError(f"{where}: one column can't be two of x, y and the weight")
-        taken: List[Tuple[int, Dict[str, str], Optional[str], Optional[str]]] = []
+        taken: List[_Taken] = []
         left: List[int] = []
         absent = {*MISSING, *(sign.casefold() for sign in missing)}
         line = before + reader.line_num + 1
@@ -188,10 +192,10 @@ def read_table(
         raise TableError(f"{source}:{before + reader.line_num}: {error}") from error
     columns = {key: headings[column] for key, column in numbers.items()}
     comma = _decimal_comma(taken, source)
-    rows = [
-        NewRow(decimal_point(v["x"]), decimal_point(v["y"]), decimal_point(v["weight"]) if "weight" in v else None, line, called or None, note or None)
-        for line, v, called, note in taken
-    ]
+    rows = []
+    for line, values, called, note in taken:
+        x_text, y_text, *weights = (decimal_point(values[key]) for key in numbers)
+        rows.append(NewRow(x_text, y_text, weights[0] if weights else None, line, called or None, note or None))
     try:
         Numbers().read([text for row in rows for text in row[:3] if text is not None])
     except RefusedText as refused:
@@ -200,7 +204,7 @@ def read_table(
     return Table(source, rows, (columns["x"], columns["y"], columns.get("weight")), left, names[delimiter], comma, encoding)
 
 
-def _decimal_comma(taken: Sequence[Tuple[int, Dict[str, str], Optional[str], Optional[str]]], source: str) -> bool:
+def _decimal_comma(taken: Sequence[_Taken], source: str) -> bool:
     """Whether the table has decimal commas. If it has points too, one of them may part thousands, and nobody can say which."""
     comma = point = None
     for line, values, _, _ in taken:
@@ -214,7 +218,7 @@ def _decimal_comma(taken: Sequence[Tuple[int, Dict[str, str], Optional[str], Opt
     return comma is not None
 
 
-def _refuse(refused: RefusedText, taken: Sequence[Tuple[int, Dict[str, str], Optional[str], Optional[str]]], rows: Sequence[NewRow], columns: Dict[str, str], source: str) -> None:
+def _refuse(refused: RefusedText, taken: Sequence[_Taken], rows: Sequence[NewRow], columns: Dict[str, str], source: str) -> None:
     for (line, values, _, _), row in zip(taken, rows):
         for key, text in zip(("x", "y", "weight"), row[:3]):
             if text == refused.text:

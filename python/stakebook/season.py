@@ -419,7 +419,9 @@ class Season:
         self.book, answers = Book.replay(self.calls)
         refused = next((place for place, answer in enumerate(answers) if answer.refusal), None)
         if refused is not None:
-            lines = [line for call in self._stack for line in ([call.line] if call.call in ("correct", "withdraw") else [row.line for row in call.rows])]
+            lines = []
+            for call in self._stack:
+                lines += [call.line] if call.call in ("correct", "withdraw") else [row.line for row in call.rows]
             self._wrong(lines[refused], str(Refused(answers[refused].refusal)))
         self.settings = self.settings_text.meant(self._numbers)
         self._number_order()
@@ -532,8 +534,8 @@ class Season:
         outside = sum(report.outliers)
         if outside:
             said.append(
-                f"{outside:,} of {counted(n, 'reading')} {'lies' if outside == 1 else 'lie'} outside the band. It is the band of the mean curve: it says where the curve lies, not where single"
-                " readings do, and grows narrower with more of them. So a mark is no sign of a bad reading."
+                f"{outside:,} of {counted(n, 'reading')} {'lies' if outside == 1 else 'lie'} outside the band. It is the band of the mean curve: it says where the"
+                " curve lies, not where single readings do, and grows narrower with more of them. So a mark is no sign of a bad reading."
             )
         if split is not None and min(split.at, split.n - split.at) < MANY:
             said.append(

@@ -261,7 +261,8 @@ class SettingsText(NamedTuple):
 
     @property
     def body(self) -> str:
-        return f"settings bound {self.bound} criterion {self.criterion} confidence {self.confidence} tolerance {self.tolerance} pruning {self.pruning}"
+        words = f"settings bound {self.bound} criterion {self.criterion} confidence {self.confidence}"
+        return f"{words} tolerance {self.tolerance} pruning {self.pruning}"
 
 
 def counted(number: int, thing: str) -> str:

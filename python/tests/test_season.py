@@ -639,10 +639,10 @@ class Saving(Folder):
         with mock.patch.object(seasonfile.os, "fsync", synced):
             season = Season.create(self.path)
             self.assertEqual(order, [len(self.data()), "folder"])
-            for call in (lambda: season.add("1", "2"), lambda: season.correct("r1", "3"), lambda: season.withdraw("r1"), season.undo, lambda: season.set(Settings())):
+            for call, *given in ((season.add, "1", "2"), (season.correct, "r1", "3"), (season.withdraw, "r1"), (season.undo,), (season.set, Settings())):
                 order.clear()
                 before = len(self.data())
-                call()
+                call(*given)
                 self.assertEqual(order, [len(self.data())])
                 self.assertGreater(order[0], before)
 
@@ -923,7 +923,8 @@ class Warnings(Folder):
         season = Season.create(self.path)
         season.add_rows([NewRow(str(i % 2), str(i % 2)) for i in range(8)])
         words = self.warned(season, Settings(bound=1, tolerance=("absolute", 1)), 3, (2, 3))
-        self.assertEqual(words, ["Of the degrees 0 to 3, 2 could not be solved (2, 3): there are 2 different values of x, and a degree needs one more than its number."])
+        few = "there are 2 different values of x, and a degree needs one more than its number."
+        self.assertEqual(words, [f"Of the degrees 0 to 3, 2 could not be solved (2, 3): {few}"])
 
     def test_outliers_and_no_freedom(self):
         season = Season.create(self.path)

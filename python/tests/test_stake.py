@@ -5,8 +5,8 @@
 
 A report's numbers are compared with the judge's (tests/season.answers), words of refusals with include/refusals.txt.
 
-The command always runs in a process of its own, with its own output and exit status. Whole seasons, the guide's session and what a terminal sees are run from the
-script; the many short calls of other tests are forked, which spares each of them the start of Python.
+The command always runs in a process of its own, with its own output and exit status. A whole season is run from the script; the many short calls of
+other tests are forked, which spares each of them the start of Python.
 """
 
 import contextlib
@@ -26,6 +26,7 @@ import tempfile
 import textwrap
 import time
 import traceback
+import types
 import unittest
 from pathlib import Path
 from unittest import mock
@@ -33,7 +34,8 @@ from unittest import mock
 ROOT = Path(__file__).resolve().parents[2]
 sys.path.insert(0, str(ROOT / "python"))
 
-from stakebook import Book, _library, command
+import stakebook
+from stakebook import Book, Refused, _library, command
 from stakebook.season import Season
 
 STAKE = str(ROOT / "bin" / "stake")
@@ -311,14 +313,15 @@ class Seasons(Command):
         self.stake("add", "s.stake", "-0x1.8p+1", "-0", "--weight", "0x1p-1")
         self.stake("correct", "s.stake", "r1", "-1,25")
         listed = self.json("list", "s.stake")["readings"]
-        self.assertEqual([(r["x_text"], r["y_text"], r["weight_text"], r["x"], r["y"]) for r in listed], [("-0.5", "-1.25", "1", -0.5, -1.25), ("-0x1.8p+1", "-0", "0x1p-1", -3.0, 0.0)])
+        shown = [(r["x_text"], r["y_text"], r["weight_text"], r["x"], r["y"]) for r in listed]
+        self.assertEqual(shown, [("-0.5", "-1.25", "1", -0.5, -1.25), ("-0x1.8p+1", "-0", "0x1p-1", -3.0, 0.0)])
 
     def test_every_change_keeps_its_source_and_note(self):
         self.file("a.csv", "x,y\n1,2\n")
         kept = ("--source", "book 3", "--note", "by Ann")
         self.stake("new", "s.stake", *kept)
-        for words in (("import", "s.stake", "a.csv"), ("add", "s.stake", "1", "2"), ("correct", "s.stake", "r1", "3"), ("withdraw", "s.stake", "r1"), ("settings", "s.stake", "--bound", "1"), ("undo", "s.stake")):
-            self.stake(*words, *kept)
+        for words in ("import s.stake a.csv", "add s.stake 1 2", "correct s.stake r1 3", "withdraw s.stake r1", "settings s.stake --bound 1", "undo s.stake"):
+            self.stake(*words.split(), *kept)
         told = self.json("list", "s.stake")
         self.assertEqual({(call["source"], call["note"]) for call in told["history"]}, {("book 3", "by Ann")})
         self.assertEqual(len(told["history"]), 7)
@@ -350,9 +353,13 @@ class Seasons(Command):
         told = self.json("list", "s.stake")
         self.assertEqual(
             told["readings"][1],
-            dict(name="r2", called=None, x_text="3", y_text="4", weight_text="2", x=3.0, y=4.0, weight=2.0, state="stands", index=1, was=[], source=None, note=None, line=5),
+            {
+                **dict(name="r2", called=None, x_text="3", y_text="4", weight_text="2", x=3.0, y=4.0, weight=2.0),
+                **dict(state="stands", index=1, was=[], source=None, note=None, line=5),
+            },
         )
-        self.assertEqual([(c["line"], c["lines"], c["call"], c["undone"]) for c in told["history"]], [(2, 1, "new", False), (3, 3, "import", False), (6, 1, "correct", True), (7, 1, "undo", False)])
+        calls = [(c["line"], c["lines"], c["call"], c["undone"]) for c in told["history"]]
+        self.assertEqual(calls, [(2, 1, "new", False), (3, 3, "import", False), (6, 1, "correct", True), (7, 1, "undo", False)])
         self.assertEqual([told["history"][2][key] for key in ("name", "text", "note", "source")], ["r1", "correct r1: y 5, was 2", "n", "s"])
 
 
@@ -372,8 +379,9 @@ def guide_session(folder):
             Path(folder, split[1]).write_text(expected, encoding="utf-8")
             printed = expected
         else:
-            done = subprocess.run([sys.executable, STAKE, *split[1:]], stdout=subprocess.PIPE, stderr=subprocess.STDOUT, env=environment(), cwd=folder, timeout=60)
-            printed = done.stdout.decode()
+            done = forked(split[1:], folder)
+            # no command of the session says something on both
+            printed = (done.stdout + done.stderr).decode()
         yield words, expected, printed
 
 
@@ -565,7 +573,8 @@ class Wrong(Command):
         found = self.run_stake("check", "s.stake", status=1).stdout.decode()
         self.assertIn("  line 4: it does not match its check\n", found)
         self.assertIn("stake check s.stake --leave-out 4\n", found)
-        self.assertEqual(json.loads(self.run_stake("check", "s.stake", "--json", status=1).stdout)["damaged"], [{"line": 4, "why": "it does not match its check"}])
+        told = json.loads(self.run_stake("check", "s.stake", "--json", status=1).stdout)
+        self.assertEqual(told["damaged"], [{"line": 4, "why": "it does not match its check"}])
         self.assertIn("the damaged lines are 4", self.fails("check", "s.stake", "--leave-out", "5"))
         self.assertIn("line 4 left out, as a later line says", self.stake("check", "s.stake", "--leave-out", "4"))
         self.assertEqual([r["name"] for r in self.json("list", "s.stake")["readings"]], ["r2", "r3"])
@@ -658,17 +667,31 @@ class Files(Command):
                     self.assertEqual(told[name], list(map(double, shown[name][:count])), (flag, name))
                 self.assertEqual(told["outliers"], [mark == "1" for mark in shown["outliers"]])
 
-    def test_pictures_and_pages(self):
-        import matplotlib.pyplot  # once here, and not in each process that is forked
+    def test_what_becomes_of_pictures_and_pages(self):
+        # test_pictures.py and test_page.py draw real ones by this command; here their part is played by another
+        self.made(("1", "2"))
 
-        self.made(*[(str(x), str(y)) for x, y in enumerate((5, 1, 4, 4, 9, 3))], bound="1")
-        self.assertEqual(self.stake("plot", "s.stake", "s.svg"), "s.svg written\n")
-        self.assertEqual(self.stake("page", "s.stake", "s.html"), "s.html written\n")
-        self.assertIn(b"<svg", Path(self.folder, "s.svg").read_bytes())
-        self.assertIn(b"<html", Path(self.folder, "s.html").read_bytes())
-        self.assertIn(".gif", self.fails("plot", "s.stake", "s.gif", status=2))
-        for words in (("plot", "s.stake", "none/s.svg"), ("page", "s.stake", "none/s.html")):
-            self.assertIn(f"stake: {words[2]}: No such file or directory", self.fails(*words))
+        def played():
+            for name, call in (("pictures", "plot"), ("page", "write")):
+                module = types.ModuleType(f"stakebook.{name}")
+                setattr(module, call, lambda season, path, name=name: draw(season, path, name))
+                sys.modules[module.__name__] = module
+                setattr(stakebook, name, module)
+
+        def draw(season, path, name):
+            if path.endswith(".gif"):
+                raise ValueError(f"{path} is no picture")
+            if path.endswith("refused"):
+                raise Refused(7)
+            with open(path, "w") as file:
+                file.write(f"{name} of {season.book.count} in {os.path.basename(season.path)}")
+
+        for word, name in (("plot", "pictures"), ("page", "page")):
+            self.assertEqual(self.stake(word, "s.stake", "made.svg", prepare=played), "made.svg written\n")
+            self.assertEqual(Path(self.folder, "made.svg").read_text(), f"{name} of 1 in s.stake")
+            self.assertIn(f"stake {word}: error: a.gif is no picture\n", self.fails(word, "s.stake", "a.gif", status=2, prepare=played))
+            self.assertEqual(self.fails(word, "s.stake", "none/a.svg", prepare=played), "stake: none/a.svg: No such file or directory\n")
+            self.assertIn(f"refused by 7: {WORDS['7']}\nstake: the season is unchanged\n", self.fails(word, "s.stake", "refused", prepare=played))
 
     def test_pictures_without_matplotlib(self):
         self.made(("1", "2"), ("2", "4"), ("3", "7"), bound="1")
@@ -681,7 +704,8 @@ class Files(Command):
     def test_the_script_itself(self):
         done = subprocess.run([STAKE, "new", "s.stake"], stdout=subprocess.PIPE, env=environment(), cwd=self.folder)
         self.assertEqual(done.returncode, 0)
-        module = subprocess.run([sys.executable, "-m", "stakebook", "list", "s.stake"], stdout=subprocess.PIPE, env=environment(PYTHONPATH=str(ROOT / "python")), cwd=self.folder)
+        words, path = [sys.executable, "-m", "stakebook", "list", "s.stake"], str(ROOT / "python")
+        module = subprocess.run(words, stdout=subprocess.PIPE, env=environment(PYTHONPATH=path), cwd=self.folder)
         self.assertEqual((module.returncode, module.stdout.splitlines()[-1]), (0, b"0 readings"))
         # installed, by a link from another folder
         os.makedirs(os.path.join(self.folder, "usr/bin"))
@@ -752,7 +776,8 @@ class Saving(Command):
                     sys.exit(1)
             """
         text = f"import sys\nsys.path.insert(0, {str(ROOT / 'python')!r})\nfrom stakebook import command\n" + textwrap.dedent(code)
-        writers = [subprocess.Popen([sys.executable, "-c", text, y], stdout=subprocess.PIPE, stderr=subprocess.PIPE, env=environment(), cwd=self.folder) for y in "12"]
+        pipes = dict(stdout=subprocess.PIPE, stderr=subprocess.PIPE)
+        writers = [subprocess.Popen([sys.executable, "-c", text, y], **pipes, env=environment(), cwd=self.folder) for y in "12"]
         said = [writer.communicate(timeout=60) for writer in writers]
         self.assertEqual([(writer.returncode, err) for writer, (_, err) in zip(writers, said)], [(0, b"")] * 2)
         season = Season.open(self.season)
@@ -865,7 +890,8 @@ class Terminal(Command):
     def test_a_frame_is_not_for_a_terminal(self):
         self.made(("1", "2"))
         ours, theirs = pty.openpty()
-        done = subprocess.run([sys.executable, STAKE, "export", "s.stake", "--format", "frame"], stdout=theirs, stderr=subprocess.PIPE, env=environment(), cwd=self.folder)
+        words = [sys.executable, STAKE, "export", "s.stake", "--format", "frame"]
+        done = subprocess.run(words, stdout=theirs, stderr=subprocess.PIPE, env=environment(), cwd=self.folder)
         os.close(theirs)
         os.close(ours)
         self.assertEqual(done.returncode, 2)
