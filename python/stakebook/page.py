@@ -255,7 +255,8 @@ def _scores(view: View, svg: str) -> Html:
     for row in view.scores.degrees:
         kinds.append("chosen" if row.degree == view.scores.degree else "")
         score, above = (number(row.score, 7), number(row.score - view.scores.least, 4)) if row.solved else ("unsolved", "")
-        rows.append([(row.degree, ""), (score, "number"), (above, "number"), (kinds[-1], "mark bare")])
+        verdict = kinds[-1] or ("within 2" if row.degree in view.scores.within else "")
+        rows.append([(row.degree, ""), (score, "number"), (above, "number"), (verdict, "mark bare" if kinds[-1] else "bare")])
     table = _table("scores", ["degree", view.settings.criterion.upper(), "above the least", ""], rows, kinds)
     return _section("scores", "Scores", _figure(svg, "picture-scores", told, caption), table)
 
