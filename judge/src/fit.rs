@@ -5,7 +5,7 @@ use std::ops::Range;
 
 use crate::coefficient_count;
 use crate::numbers::{abs, is_finite, ln, maximum, power, square_root, EPSILON};
-use crate::solve::{inverse, solve, Matrix};
+use crate::solve::{inverse, pivots_compared, solve, Matrix};
 use crate::statistics::{
     huber_loss, max_degree, median_absolute_deviation, residual_variance, stddev_and_mean, t_score,
     z_score, Confidence, DegreeBound, Tolerance,
@@ -291,6 +291,31 @@ pub fn chosen_losses(samples: &[Sample], sums: &[f64], settings: Settings) -> Re
     let total = total_loss(&losses);
     let score = score_of(settings.criterion, total, samples.len(), coefficient_count(degree));
     Ok(Losses { degree, losses, total, score })
+}
+
+/// What is known of the degrees that a report chooses from: of each from 0 to the bound its score, none
+/// where it is unsolved; the least of these, the chosen degree, and the pivots compared for all of them.
+#[derive(Debug, Clone, PartialEq)]
+pub struct Scores {
+    pub degree: usize,
+    pub bound: usize,
+    pub scores: Vec<Option<f64>>,
+    pub least: f64,
+    pub tests: usize,
+}
+
+/// The scores behind a report's choice, or the number by which the report is refused.
+pub fn scores_by_degree(
+    samples: &[Sample],
+    sums: &[f64],
+    settings: Settings,
+) -> Result<Scores, u8> {
+    let Choice { degree, .. } = choice(samples, sums, settings)?;
+    let bound = max_degree(settings.bound, samples.len());
+    let scores = scores(samples, sums, bound, settings.criterion);
+    let least = least(&scores);
+    let tests = (0..=bound).map(|degree| pivots_compared(sums, coefficient_count(degree))).sum();
+    Ok(Scores { degree, bound, scores, least, tests })
 }
 
 /// The band at one x and degree; 10 where the degree is unsolved, 12 where an inverse pivot fails.

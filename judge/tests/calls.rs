@@ -1,7 +1,9 @@
 //! Each call on small lent memory: what it answers, what it writes, and by which number it is
 //! refused where several would do. The expected values are worked out by hand from the documents.
 
-use judge::book::{self, LossesAnswer, Memory, ReportAnswer, ReportMemory, SplitAnswer};
+use judge::book::{
+    self, LossesAnswer, Memory, ReportAnswer, ReportMemory, ScoresAnswer, SplitAnswer,
+};
 use judge::fit::{Band, Criterion, PruningRule, Settings};
 use judge::frame::{encode, encode_weighted};
 use judge::numbers::bits;
@@ -52,6 +54,8 @@ struct Book {
     before: Vec<f64>,
     after: Vec<f64>,
     losses: Vec<f64>,
+    solved: Vec<u8>,
+    scores: Vec<f64>,
 }
 
 impl Book {
@@ -73,6 +77,8 @@ impl Book {
             before: vec![MARK; TERMS + 1],
             after: vec![MARK; TERMS + 1],
             losses: vec![MARK; capacity + 1],
+            solved: vec![77; TERMS + 1],
+            scores: vec![MARK; TERMS + 1],
         };
         book.count = book::open(&mut book.sums).unwrap();
         for &(x, y) in samples {
@@ -156,6 +162,12 @@ impl Book {
     fn losses(&mut self, settings: Settings) -> Result<LossesAnswer, u8> {
         let memory = memory!(self);
         book::losses(self.count, &memory, settings, &mut self.scratch, &mut self.losses)
+    }
+
+    fn scores(&mut self, settings: Settings) -> Result<ScoresAnswer, u8> {
+        let memory = memory!(self);
+        let (solved, scores) = (&mut self.solved, &mut self.scores);
+        book::scores(self.count, &memory, settings, &mut self.scratch, solved, scores)
     }
 
     fn validate(&mut self, folds: usize, bound: usize) -> Result<usize, u8> {
@@ -558,6 +570,92 @@ fn losses_without_a_report() {
     (book.sums[256], book.sums[257]) = (f64::EPSILON + 2.0 * p, -p * above - 2.0);
     assert_eq!((book.losses(AIC_1), book.report(AIC_1)), (Err(12), Err(12)));
     assert_eq!((&book.scratch[..2], &book.losses[..2]), (&[0.0; 2][..], &[MARK; 2][..]));
+}
+
+/// Of y 0, 0, 4 and 8 at one x degree 0 has the losses of the test above, and degree 1 is unsolved: its
+/// second pivot fails. Of 0 to 4 on a line degree 0 has sizes 2, 1, 0, 1 and 2, whose median is 1, distances
+/// 1, 0, 1, 0 and 1, their median 1; degree 1 has no loss, and its score is the floor's.
+#[test]
+fn scores_of_every_degree() {
+    let mut book = Book::new(4, &[(0.0, 0.0), (0.0, 0.0), (0.0, 4.0), (0.0, 8.0)]);
+    let linear = |size: f64| 1.345 * (size - 0.5 * 1.345);
+    let total = ((linear(3.0) + linear(3.0)) + 0.5) + linear(5.0);
+    let score = 4.0 * judge::numbers::ln(total / 4.0) + 2.0;
+    let answer = ScoresAnswer { degree: 0, bound: 1, solved: 1, least: score, tests: 3 };
+    assert_eq!(book.scores(AIC_1), Ok(answer));
+    let (mut solved, mut scores) = ([0; TERMS], [0.0; TERMS]);
+    (solved[0], scores[0]) = (1, score);
+    assert_eq!((&book.solved[..TERMS], book.solved[TERMS]), (&solved[..], 77));
+    assert_eq!((&book.scores[..TERMS], book.scores[TERMS]), (&scores[..], MARK));
+    assert!(book.scores[1..TERMS].iter().all(|score| bits(*score) == 0));
+    assert_eq!((&book.scratch[..4], book.scratch[4]), (&[0.0; 4][..], MARK));
+    assert_eq!(book.losses(AIC_1).map(|losses| losses.score), Ok(score));
+
+    let line: Vec<(f64, f64)> = (0..5).map(|i| (f64::from(i), f64::from(i))).collect();
+    let mut book = Book::new(5, &line);
+    let total = ((linear(2.0) + 0.5) + 0.5) + linear(2.0);
+    let flat = 5.0 * judge::numbers::ln(total / 5.0) + 2.0;
+    // 5 / 2 is below 4 and 5 above 3: 2 × 2 × 3 / 2 is added.
+    let exact = 5.0 * judge::numbers::ln(f64::EPSILON) + 4.0 + 12.0 / 2.0;
+    let answer = ScoresAnswer { degree: 1, bound: 1, solved: 2, least: exact, tests: 3 };
+    assert_eq!(book.scores(AIC_1), Ok(answer));
+    assert_eq!((&book.solved[..3], &book.scores[..3]), (&[1, 1, 0][..], &[flat, exact, 0.0][..]));
+    // The chosen one is at most 2 above the least.
+    let aic_3 = Settings { bound: DegreeBound::Custom(3), ..AIC_1 };
+    let answer = book.scores(aic_3).unwrap();
+    let chosen = book.scores[answer.degree];
+    assert_eq!((answer.bound, answer.solved, answer.tests), (3, 4, 10));
+    assert!(answer.least <= chosen && chosen - answer.least <= 2.0);
+}
+
+/// As a report is refused; each memory of its own one place too short.
+#[test]
+fn scores_are_refused_as_a_report() {
+    let mut book = Book::new(17, &[]);
+    let nan_score = Settings { confidence: Confidence::Custom(NAN), ..AIC_1 };
+    let wide = Settings { bound: DegreeBound::Custom(20), ..AIC_1 };
+    assert_eq!((book.scores(AIC_1), book.scores(nan_score)), (Err(7), Err(4)));
+    for i in 0..17 {
+        book.add(f64::from(i), 1.0).unwrap();
+    }
+    assert_eq!(book.scores(wide), Err(8));
+    book.y[3] = INFINITY;
+    assert_eq!(book.scores(wide), Err(4));
+    assert!(book.scratch.iter().all(|v| *v == MARK));
+    let shorten: [fn(&mut Book); 5] = [
+        |book| book.sums.truncate(PLACES - 1),
+        |book| book.scratch.truncate(2),
+        |book| book.solved.truncate(TERMS - 1),
+        |book| book.scores.truncate(TERMS - 1),
+        |book| book.weight.truncate(2),
+    ];
+    for shorten in shorten {
+        let mut book = Book::new(3, &LINE);
+        // What only a report writes is not judged.
+        (book.coefficients, book.lower, book.outlier) = (vec![], vec![], vec![]);
+        assert!(book.scores(AIC_1).is_ok());
+        (book.scratch.fill(MARK), book.solved.fill(77), book.scores.fill(MARK));
+        shorten(&mut book);
+        assert_eq!(book.scores(nan_score), Err(1));
+        assert!(book.scratch.iter().chain(&book.scores).all(|v| *v == MARK));
+        assert!(book.solved.iter().all(|byte| *byte == 77));
+    }
+}
+
+/// 11 and 12 where a report has them; scratch is cleared, and neither byte nor score is written.
+#[test]
+fn scores_without_a_report() {
+    let mut book = Book::new(2, &[(0.0, f64::MAX), (0.0, f64::MAX)]);
+    assert_eq!((book.report(AIC_1), book.scores(AIC_1)), (Err(11), Err(11)));
+    assert_eq!((&book.scratch[..2], &book.scores[..2]), (&[0.0; 2][..], &[MARK; 2][..]));
+    let mut book = Book::new(2, &LINE[..2]);
+    let (p, above) = (1.0 / (1u64 << 26) as f64, 1.0 + 1.0 / 1024.0);
+    (book.sums[0], book.sums[1]) = (f64::EPSILON, p);
+    (book.sums[16], book.sums[17]) = (-p * above, -1.0);
+    (book.sums[256], book.sums[257]) = (f64::EPSILON + 2.0 * p, -p * above - 2.0);
+    assert_eq!((book.scores(AIC_1), book.report(AIC_1)), (Err(12), Err(12)));
+    assert_eq!((&book.scratch[..2], &book.scores[..2]), (&[0.0; 2][..], &[MARK; 2][..]));
+    assert!(book.solved.iter().all(|byte| *byte == 77));
 }
 
 #[test]
