@@ -141,6 +141,38 @@ pub struct Losses<'a> {
     pub score: f64,
 }
 
+/// The degrees that a report chooses from, with their scores.
+#[derive(Debug, Clone, Copy, PartialEq)]
+pub struct Scores {
+    /// The chosen degree: the lowest solved one whose score is at most 2 above the least.
+    pub degree: usize,
+    /// The highest degree that was tried.
+    pub bound: usize,
+    /// How many degrees were solved.
+    pub solved: usize,
+    /// The least score of a solved degree.
+    pub least: f64,
+    /// The pivot tests that all degrees took.
+    pub tests: usize,
+    marks: [u8; TERMS],
+    values: [f64; TERMS],
+}
+
+impl Scores {
+    /// The score of a degree; none where it is unsolved or past the bound.
+    pub fn score(&self, degree: usize) -> Option<f64> {
+        match self.marks.get(degree) {
+            Some(1) => Some(self.values[degree]),
+            _ => None,
+        }
+    }
+
+    /// The scores of the degrees from 0 to the bound.
+    pub fn all(&self) -> impl Iterator<Item = Option<f64>> + '_ {
+        (0..=self.bound).map(|degree| self.score(degree))
+    }
+}
+
 impl Fit {
     /// The coefficients, degree + 1 of them, the constant one first.
     pub fn coefficients(&self) -> &[f64] {
@@ -518,5 +550,44 @@ impl Book {
         let degree = sys::degree(judged(answer)?);
         let [total, score] = numbers;
         Ok(Losses { degree, losses: &self.losses[..self.count], total, score })
+    }
+
+    /// Why a report takes the degree that it takes: of each degree within the bound its score, the
+    /// least of them, and what is chosen. Takes a report's settings, and is refused where the report
+    /// is.
+    ///
+    /// ```
+    /// # use stakebook::{Book, Confidence, Criterion, DegreeBound, PruningRule, Settings, Tolerance};
+    /// # let settings = Settings {
+    /// #     bound: DegreeBound::Custom(1),
+    /// #     criterion: Criterion::Aic,
+    /// #     confidence: Confidence::P95,
+    /// #     tolerance: Tolerance::None,
+    /// #     pruning: PruningRule::default(),
+    /// # };
+    /// let mut book = Book::with_capacity(10);
+    /// book.add_lines(b"1 212\n2 209.5\n3 208\n4 203.5\n5 202\n")?;
+    /// let scores = book.scores(settings)?;
+    /// assert_eq!((scores.degree, scores.bound, scores.solved), (1, 1, 2));
+    /// assert!(scores.score(0) > scores.score(1) && scores.score(1) == Some(scores.least));
+    /// # Ok::<(), stakebook::Refusal>(())
+    /// ```
+    pub fn scores(&mut self, settings: Settings) -> Result<Scores, Refusal> {
+        let (words, values) = settings.lists();
+        let (mut marks, mut told, mut least) = ([0u8; TERMS], [0.0; TERMS], [0.0]);
+        let answer = lend!(stakebook_scores(
+            self.count, words.as_ptr(), words.len(), values.as_ptr(), values.len();
+            self.xs, self.ys, self.ws, self.sums, self.scratch, marks, told, least
+        ));
+        let answer = judged(answer)?;
+        Ok(Scores {
+            degree: sys::degree(answer),
+            bound: sys::bound(answer),
+            solved: sys::solved(answer),
+            least: least[0],
+            tests: sys::tests(answer),
+            marks,
+            values: told,
+        })
     }
 }

@@ -305,6 +305,29 @@ extern "C" {
         numbers: *mut f64,
         numbers_len: usize,
     ) -> u64;
+    pub fn stakebook_scores(
+        count: usize,
+        words: *const u32,
+        words_len: usize,
+        values: *const f64,
+        values_len: usize,
+        xs: *const f64,
+        xs_len: usize,
+        ys: *const f64,
+        ys_len: usize,
+        ws: *const f64,
+        ws_len: usize,
+        sums: *const f64,
+        sums_len: usize,
+        scratch: *mut f64,
+        scratch_len: usize,
+        solved: *mut u8,
+        solved_len: usize,
+        scores: *mut f64,
+        scores_len: usize,
+        least: *mut f64,
+        least_len: usize,
+    ) -> u64;
     pub fn stakebook_reader(frame: *const u8, frame_len: usize) -> u64;
     pub fn stakebook_next(
         frame: *const u8,
@@ -363,12 +386,13 @@ pub fn count(answer: u64) -> usize {
     (answer & 0x00FF_FFFF_FFFF_FFFF) as usize
 }
 
-/// The degree, in the answer of a fit, a validation, a report or losses; of a split, the one before the break.
+/// The degree, in the answer of a fit, a validation, a report, losses or scores; of a split, the one
+/// before the break.
 pub fn degree(answer: u64) -> usize {
     (answer & 0xFF) as usize
 }
 
-/// The number of solved degrees, in the answer of a report.
+/// The number of solved degrees, in the answer of a report or of scores.
 pub fn solved(answer: u64) -> usize {
     (answer >> 8 & 0xFF) as usize
 }
@@ -393,7 +417,12 @@ pub fn samples_before(answer: u64) -> usize {
     (answer >> 16 & 0xFFFF) as usize
 }
 
-/// The number of pivot tests made, in the answer of a split.
+/// The bound, in the answer of scores.
+pub fn bound(answer: u64) -> usize {
+    (answer >> 16 & 0xFFFF) as usize
+}
+
+/// The number of pivot tests made, in the answer of a split or of scores.
 pub fn tests(answer: u64) -> usize {
     (answer >> 32 & 0x00FF_FFFF) as usize
 }

@@ -73,6 +73,33 @@ fn losses_behind_a_report() {
     assert_eq!(huge.losses(SETTINGS).map(|losses| losses.degree), Err(Refusal::NoDegree));
 }
 
+/// Of 0, 0, 4 and 8 at one x degree 1 is unsolved; of a line its score is that of the floor 2^-52, with the
+/// further term of AIC.
+#[test]
+fn scores_by_degree() {
+    let mut book = book_of(&[(0.0, 0.0), (0.0, 0.0), (0.0, 4.0), (0.0, 8.0)]);
+    let score = book.losses(SETTINGS).expect("a degree is chosen").score;
+    let scores = book.scores(SETTINGS).expect("a degree is chosen");
+    assert_eq!((scores.degree, scores.bound, scores.solved, scores.tests), (0, 1, 1, 3));
+    assert_eq!(scores.all().collect::<Vec<_>>(), [Some(score), None]);
+    assert_eq!((scores.least, scores.score(15), scores.score(16)), (score, None, None));
+    let mut line = book_of(&[(0.0, 1.0), (1.0, 3.0), (2.0, 5.0), (3.0, 7.0), (4.0, 9.0)]);
+    let scores = line.scores(SETTINGS).expect("a degree is chosen");
+    let exact = 5.0 * f64::EPSILON.ln() + 4.0 + 6.0;
+    assert_eq!((scores.degree, scores.solved, scores.score(1)), (1, 2, Some(scores.least)));
+    assert!((scores.least - exact).abs() < 1e-12 && scores.score(0) > Some(0.0));
+    let by_bic = Settings { criterion: Criterion::Bic, ..SETTINGS };
+    let scores = line.scores(by_bic).expect("a degree is chosen");
+    assert!((scores.least - (5.0 * f64::EPSILON.ln() + 2.0 * 5f64.ln())).abs() < 1e-12);
+    // Refused where a report is.
+    let mut empty = Book::with_capacity(1);
+    assert_eq!(empty.scores(SETTINGS), Err(Refusal::NoSamples));
+    let nan = Settings { confidence: Confidence::Custom(f64::NAN), ..SETTINGS };
+    assert_eq!(book.scores(nan), Err(Refusal::NotFinite));
+    let mut huge = book_of(&[(0.0, 3e200), (1.0, -1e200), (2.0, -2e200)]);
+    assert_eq!(huge.scores(SETTINGS), Err(Refusal::NoDegree));
+}
+
 /// Each sample counts as much as its weight, and keeps it when it is corrected or moves down.
 #[test]
 fn weights() {
