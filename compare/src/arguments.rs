@@ -138,13 +138,14 @@ pub fn validate(random: &mut Random, n: usize) -> Call {
 
 /// A call that reads a fit.
 pub fn reading(random: &mut Random, samples: &[Sample]) -> Call {
-    match random.below(12) {
+    match random.below(13) {
         0 | 1 => Call::Fit { degree: degree(random, samples.len()) },
         2 | 3 => band(random, samples),
         4 => validate(random, samples.len()),
         // Of many samples it takes long.
         5 if samples.len() <= 20 => split::call(random, samples),
         6 => Call::Losses(settings(random)),
+        7 => Call::Scores(settings(random)),
         _ => Call::Report(settings(random)),
     }
 }

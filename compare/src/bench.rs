@@ -50,6 +50,8 @@ fn memory_of(samples: &[Sample]) -> Memory {
         before: vec![0.0; 16],
         after: vec![0.0; 16],
         losses: vec![0.0; count],
+        solved: vec![0; 16],
+        scores: vec![0.0; 16],
     }
 }
 
@@ -69,6 +71,8 @@ fn lent(memory: &mut Memory) -> Lent<'_> {
         before: &mut memory.before,
         after: &mut memory.after,
         losses: &mut memory.losses,
+        solved: &mut memory.solved,
+        scores: &mut memory.scores,
     }
 }
 
@@ -114,6 +118,9 @@ fn by_reference(call: &Call, samples: &[Sample]) -> Option<f64> {
         })),
         Call::Losses(settings) => {
             Some(best(|| drop(black_box(reference::losses(samples, settings)))))
+        }
+        Call::Scores(settings) => {
+            Some(best(|| drop(black_box(reference::scores_by_degree(samples, settings)))))
         }
         Call::Validate { folds, bound, criterion } => Some(best(|| {
             drop(black_box(reference::validate(samples, folds, bound, criterion)));
@@ -260,6 +267,8 @@ fn print_rows(count: usize, port: &dyn Side, further: &mut Further) {
         }
         let losses = Call::Losses(settings);
         print_row(&format!("losses, bound {degree}"), &losses, count, &samples, port);
+        let scores = Call::Scores(settings);
+        print_row(&format!("scores, bound {degree}"), &scores, count, &samples, port);
         let validate = Call::Validate { folds: FOLDS, bound, criterion };
         print_row(&format!("validate, bound {degree}"), &validate, count, &samples, port);
     }

@@ -45,6 +45,7 @@ pub fn name(call: &Call) -> &'static str {
         Call::Report(_) => "report",
         Call::Split { .. } => "split",
         Call::Losses(_) => "losses",
+        Call::Scores(_) => "scores",
         Call::Validate { .. } => "validate",
         Call::Band { .. } => "band",
         Call::Reader(_) => "reader",
@@ -66,6 +67,7 @@ pub fn conditions(call: &Call, lengths: &Lengths, count: usize, samples: &[Sampl
         Call::Report(settings) => refusals::report(lengths, count, samples, *settings),
         Call::Split { settings, .. } => refusals::split(lengths, count, samples, *settings),
         Call::Losses(settings) => refusals::losses(lengths, count, samples, *settings),
+        Call::Scores(settings) => refusals::scores(lengths, count, samples, *settings),
         Call::Validate { folds, bound, .. } => {
             refusals::validate(lengths, count, samples, *folds, *bound)
         }

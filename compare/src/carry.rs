@@ -117,6 +117,8 @@ impl Plan {
             before: longest(|l| l.before),
             after: longest(|l| l.after),
             losses: longest(|l| l.losses).max(rows),
+            solved: longest(|l| l.solved),
+            scores: longest(|l| l.scores),
         };
         let split = (random.unit() * list.steps.len() as f64) as usize;
         let (first, rest) = list.steps.split_at(split);
@@ -197,6 +199,9 @@ fn places(call: &Call, answer: &Answer, count: usize) -> Vec<(Name, usize)> {
     }
     if let Answer::Losses { .. } = answer {
         places.push((Name::Losses, count));
+    }
+    if let Answer::Scores { .. } = answer {
+        places.extend([(Name::Solved, TERMS), (Name::Scores, TERMS)]);
     }
     if let Answer::Degree(_) | Answer::Report { .. } = answer {
         places.push((Name::Coefficients, TERMS));

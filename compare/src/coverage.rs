@@ -48,7 +48,7 @@ pub struct Coverage {
 }
 
 /// What each call may answer, besides being let through, in checking order.
-pub const REFUSALS: [(&str, &[u8]); 14] = [
+pub const REFUSALS: [(&str, &[u8]); 15] = [
     ("open", &[1]),
     ("add", &[1, 4, 15, 5]),
     ("add_window", &[1, 4, 15, 5]),
@@ -60,6 +60,7 @@ pub const REFUSALS: [(&str, &[u8]); 14] = [
     ("report", &[1, 4, 7, 8, 11, 12]),
     ("split", &[1, 4, 7, 8, 16, 11]),
     ("losses", &[1, 4, 7, 8, 11, 12]),
+    ("scores", &[1, 4, 7, 8, 11, 12]),
     ("validate", &[1, 4, 7, 8, 10, 11]),
     ("band", &[1, 4, 7, 8, 9, 10, 12]),
     ("reader", &[2, 3]),
@@ -67,15 +68,22 @@ pub const REFUSALS: [(&str, &[u8]); 14] = [
 
 /// Pairs that cannot both hold: without samples no column value is below the count, and a bound is
 /// then 0; a bound is below a count of less than four; a frame of neither version has no weights.
-const IMPOSSIBLE_PAIRS: [(&str, u8, u8); 5] =
-    [("fit", 4, 7), ("report", 7, 8), ("split", 7, 8), ("losses", 7, 8), ("add_frame", 3, 15)];
+const IMPOSSIBLE_PAIRS: [(&str, u8, u8); 6] = [
+    ("fit", 4, 7),
+    ("report", 7, 8),
+    ("split", 7, 8),
+    ("losses", 7, 8),
+    ("scores", 7, 8),
+    ("add_frame", 3, 15),
+];
 
 /// Calls that read the fit, each with the refusals that polyfit can speak of.
-const BY_REFERENCE: [(&str, &[u8]); 6] = [
+const BY_REFERENCE: [(&str, &[u8]); 7] = [
     ("fit", &[10]),
     ("report", &[11, 12]),
     ("split", &[16, 11]),
     ("losses", &[11, 12]),
+    ("scores", &[11, 12]),
     ("validate", &[10, 11]),
     ("band", &[10, 12]),
 ];
@@ -88,7 +96,7 @@ const CRITERIA: [&str; 2] = ["Aic", "Bic"];
 const RULES: [&str; 2] = ["positive", "size"];
 
 /// Memory whose length is judged, and by which calls.
-const LENGTHS: [(&str, &[&str]); 11] = [
+const LENGTHS: [(&str, &[&str]); 13] = [
     (
         "sums",
         &[
@@ -103,11 +111,12 @@ const LENGTHS: [(&str, &[&str]); 11] = [
             "report",
             "split",
             "losses",
+            "scores",
             "validate",
             "band",
         ],
     ),
-    ("scratch", &["fit", "report", "split", "losses", "validate", "band"]),
+    ("scratch", &["fit", "report", "split", "losses", "scores", "validate", "band"]),
     ("coefficients", &["fit", "report", "validate"]),
     ("errors", &["report"]),
     ("pruned", &["report"]),
@@ -117,10 +126,12 @@ const LENGTHS: [(&str, &[&str]); 11] = [
     ("before", &["split"]),
     ("after", &["split"]),
     ("losses", &["losses"]),
+    ("solved", &["scores"]),
+    ("scores", &["scores"]),
 ];
 
 /// Everything else that must happen.
-const EVENTS: [&str; 73] = [
+const EVENTS: [&str; 81] = [
     "report: 11 with no degree solved",
     "report: 11 with degrees solved",
     "report: degree 0 unsolved, a higher one chosen",
@@ -160,6 +171,13 @@ const EVENTS: [&str; 73] = [
     "losses: the least score's degree would have others",
     "losses: the total without the last is another",
     "losses: backwards the total is another",
+    "scores: all solved",
+    "scores: an unsolved degree below a solved one",
+    "scores: the highest degree unsolved",
+    "scores: past the bound",
+    "scores: the chosen one is not the least",
+    "scores: fewer tests than pivots",
+    "scores: below zero",
     "band: 9 before 10",
     "band: 9 before 12",
     "band: NaN",
@@ -182,6 +200,7 @@ const EVENTS: [&str; 73] = [
     "sums: not the ledger's, report answered",
     "sums: not the ledger's, split answered",
     "sums: not the ledger's, losses answered",
+    "sums: not the ledger's, scores answered",
     "sums: not the ledger's, validate answered",
     "sums: not the ledger's, band answered",
     "sums: not symmetric, report answered",
@@ -398,6 +417,7 @@ impl Coverage {
                 self.note(format!("split: bound {}", bound_name(settings.bound)));
             }
             Call::Losses(settings) => self.note_chosen_losses(seen, *settings),
+            Call::Scores(settings) => self.note_scores(seen, *settings),
             Call::Validate { folds, bound, criterion } => {
                 self.note_validation(seen, *folds, *bound, *criterion)
             }
@@ -545,6 +565,28 @@ impl Coverage {
         self.note_if(backwards, "losses: backwards the total is another");
     }
 
+    /// The scores of a call for them.
+    fn note_scores(&mut self, seen: &Seen, settings: Settings) {
+        let (degree, bound, solved, tests, least) = match seen.answer {
+            Answer::Scores { degree, bound, solved, tests, least } => {
+                (degree, bound, solved, tests, least)
+            }
+            _ => return,
+        };
+        self.note(format!("scores: criterion {}", criterion_name(settings.criterion)));
+        self.note(format!("scores: bound {}", bound_name(settings.bound)));
+        let marks = &seen.memory.solved[..=bound];
+        let gap = marks.windows(2).any(|pair| pair == [0, 1]);
+        self.note_if(solved == bound + 1, "scores: all solved");
+        self.note_if(gap, "scores: an unsolved degree below a solved one");
+        self.note_if(marks[bound] == 0, "scores: the highest degree unsolved");
+        self.note_if(bound + 1 < TERMS, "scores: past the bound");
+        self.note_if(seen.memory.scores[degree] > least, "scores: the chosen one is not the least");
+        let pivots: usize = (1..=bound + 1).sum();
+        self.note_if(tests < pivots, "scores: fewer tests than pivots");
+        self.note_if(least < 0.0, "scores: below zero");
+    }
+
     fn note_medians(&mut self, samples: &[Sample], sums: &[f64], bound: usize) {
         for coefficients in (0..=bound).filter_map(|degree| fit::solved(samples, sums, degree)) {
             let residuals = fit::residuals(samples, &coefficients);
@@ -676,7 +718,7 @@ fn required_settings() -> Vec<String> {
     for confidence in CONFIDENCES {
         keys.extend(FREEDOMS.map(|freedom| format!("report: {confidence} at {freedom}")));
     }
-    for call in ["report", "split", "losses", "validate"] {
+    for call in ["report", "split", "losses", "scores", "validate"] {
         keys.extend(CRITERIA.map(|criterion| format!("{call}: criterion {criterion}")));
         keys.extend(BOUNDS.map(|bound| format!("{call}: bound {bound}")));
     }
@@ -700,6 +742,8 @@ fn length_of(lengths: &Lengths, memory: &str, count: usize) -> (usize, usize) {
         "before" => (lengths.before, TERMS),
         "after" => (lengths.after, TERMS),
         "losses" => (lengths.losses, count),
+        "solved" => (lengths.solved, TERMS),
+        "scores" => (lengths.scores, TERMS),
         _ => (lengths.outlier, count),
     }
 }

@@ -97,6 +97,8 @@ impl<'a> Maker<'a> {
             before: TERMS + more(),
             after: TERMS + more(),
             losses: n + more(),
+            solved: TERMS + more(),
+            scores: TERMS + more(),
             x: self.x_length,
             y: self.y_length,
             weight: self.weight_length,
@@ -207,7 +209,7 @@ fn spoil_sample(random: &mut Random, source: &mut Source) -> Sample {
 fn shorten(random: &mut Random, lengths: &mut Lengths, n: usize) {
     let empty = random.one_in(5);
     let short = |places: usize| if empty { 0 } else { places.saturating_sub(1) };
-    match random.below(11) {
+    match random.below(13) {
         0 => lengths.sums = short(PLACES),
         1 => lengths.scratch = short(n),
         2 => lengths.coefficients = short(TERMS),
@@ -218,6 +220,8 @@ fn shorten(random: &mut Random, lengths: &mut Lengths, n: usize) {
         7 => lengths.before = short(TERMS),
         8 => lengths.after = short(TERMS),
         9 => lengths.losses = short(n),
+        10 => lengths.solved = short(TERMS),
+        11 => lengths.scores = short(TERMS),
         _ => lengths.outlier = short(n),
     }
 }
@@ -569,6 +573,7 @@ fn overflowing_mean(random: &mut Random) -> Vec<Step> {
         let settings = Settings { bound, ..arguments::settings(maker.random) };
         maker.call(Call::Report(settings));
         maker.call(Call::Losses(settings));
+        maker.call(Call::Scores(settings));
         maker.read();
     }
     maker.steps
@@ -588,6 +593,7 @@ fn pivot_edge(random: &mut Random) -> Vec<Step> {
         settings.bound = DegreeBound::Custom(degree);
         maker.call(Call::Report(settings));
         maker.call(Call::Losses(settings));
+        maker.call(Call::Scores(settings));
         let (confidence, tolerance) = (Confidence::P95, Tolerance::None);
         maker.call(Call::Band { x: samples[0].x, degree, confidence, tolerance });
         maker.read();
@@ -663,6 +669,7 @@ fn inverse_fails(random: &mut Random) -> Vec<Step> {
     let settings = Settings { bound: DegreeBound::Custom(1), ..arguments::settings(maker.random) };
     maker.step(sums_pokes(&places), Call::Report(settings));
     maker.call(Call::Losses(settings));
+    maker.call(Call::Scores(settings));
     let (confidence, tolerance) = (arguments::confidence(maker.random), Tolerance::None);
     for x in [0.0, -1.0] {
         maker.call(Call::Band { x, degree: 1, confidence, tolerance });
@@ -762,7 +769,7 @@ fn spoiled_call(random: &mut Random, source: &mut Source, samples: &[Sample]) ->
         5 => Call::Fit { degree: random.pick(&[0, n, 16, usize::MAX]) },
         6 => {
             let settings = spoiled_settings(random, bad);
-            random.pick(&[Call::Report, Call::Losses])(settings)
+            random.pick(&[Call::Report, Call::Losses, Call::Scores])(settings)
         }
         7 => Call::Validate {
             folds: random.pick(&[0, 1, 2, n + 1]),
@@ -860,6 +867,7 @@ fn full(random: &mut Random, version: u64) -> Vec<Step> {
     let settings = Settings { bound, ..arguments::settings(maker.random) };
     maker.call(Call::Report(settings));
     maker.call(Call::Losses(settings));
+    maker.call(Call::Scores(settings));
     let degree = maker.random.below(16);
     maker.call(Call::Fit { degree });
     let (folds, criterion) = (maker.random.between(2, 5), arguments::criterion(maker.random));

@@ -46,6 +46,8 @@ pub fn filled(list: &List) -> Memory {
         before: longest(|l| l.before),
         after: longest(|l| l.after),
         losses: longest(|l| l.losses),
+        solved: longest(|l| l.solved),
+        scores: longest(|l| l.scores),
     };
     filled_for(list.contents, &lengths)
 }
@@ -68,6 +70,8 @@ pub fn filled_for(contents: u64, lengths: &Lengths) -> Memory {
         before: numbers(random, lengths.before),
         after: numbers(random, lengths.after),
         losses: numbers(random, lengths.losses),
+        solved: bytes(random, lengths.solved),
+        scores: numbers(random, lengths.scores),
     }
 }
 

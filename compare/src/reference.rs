@@ -6,7 +6,7 @@ use polyfit::score::{Aic, Bic, ModelScoreProvider};
 use polyfit::statistics as theirs;
 use polyfit::{basis::MonomialBasis, CurveFitCovariance, MonomialFit};
 
-use judge::fit::{Band, Criterion, Losses, PruningRule, Report, Settings};
+use judge::fit::{Band, Criterion, Losses, PruningRule, Report, Scores, Settings};
 use judge::split::{Break, SideFit, Split};
 use judge::statistics::{Confidence, DegreeBound, Tolerance};
 use judge::Sample;
@@ -162,6 +162,31 @@ fn losses_by(
     let mean = theirs::huber_log_likelihood(ys(), fitted.iter().copied());
     let (degree, score) = (fit.degree(), fit.model_score(method));
     Ok((Losses { degree, losses, total, score }, mean))
+}
+
+/// The scores behind a report: `CurveFit::new_auto` for the degree, `covariance` for its refusal, and `scores`,
+/// of which the least is taken here. polyfit counts no pivot tests.
+pub fn scores_by_degree(samples: &[Sample], settings: Settings) -> Result<Scores, u8> {
+    let degree = weighted(samples, || match settings.criterion {
+        Criterion::Aic => chosen_degree(&Aic, samples, settings),
+        Criterion::Bic => chosen_degree(&Bic, samples, settings),
+    })?;
+    let scores = scores(samples, settings.bound, settings.criterion);
+    let lower = |least: f64, score: &f64| if *score < least { *score } else { least };
+    let least = scores.iter().flatten().fold(f64::INFINITY, lower);
+    Ok(Scores { degree, bound: scores.len() - 1, scores, least, tests: 0 })
+}
+
+fn chosen_degree(
+    method: &impl ModelScoreProvider<MonomialBasis<f64>, f64>,
+    samples: &[Sample],
+    settings: Settings,
+) -> Result<usize, u8> {
+    let data = data_of(samples);
+    let fit = Fit::new_auto(data.as_slice(), bound_of(settings.bound), method)
+        .map_err(|e| number_of(&e, 0))?;
+    covariance_of(&fit)?;
+    Ok(fit.degree())
 }
 
 fn band_of(band: &theirs::ConfidenceBand<f64>) -> Band {

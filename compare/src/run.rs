@@ -3,8 +3,8 @@
 //! and all of it on a book that is carried over from two columns to three. Ends at the first difference.
 
 use journal::{Answer, Buffers, Call, Judge, Memory, Port, Side};
-use judge::book::{answer_of, answer_of_split};
-use judge::fit::{Losses, Report, Settings};
+use judge::book::{answer_of, answer_of_scores, answer_of_split, ScoresAnswer};
+use judge::fit::{Losses, Report, Scores, Settings};
 use judge::ledger::Ledger;
 use judge::numbers::bits;
 use judge::refusals;
@@ -175,6 +175,10 @@ impl LedgerState {
                 let losses = ledger.losses(lengths, *settings);
                 return check_losses("ledger", losses, answer, memory);
             }
+            Call::Scores(settings) => {
+                let scores = ledger.scores(lengths, *settings);
+                return check_told_scores("ledger", scores, answer, memory);
+            }
             _ => return Ok(()),
         };
         let expected = result.map_or_else(Answer::Refused, Answer::Book);
@@ -214,8 +218,9 @@ fn check_parsed(call: &Call, answer: &Answer, count: usize, memory: &Memory) -> 
 }
 
 pub fn is_reading(call: &Call) -> bool {
-    let settled = matches!(call, Call::Report(_) | Call::Split { .. } | Call::Losses(_));
-    settled || matches!(call, Call::Fit { .. } | Call::Validate { .. } | Call::Band { .. })
+    let settled = matches!(call, Call::Report(_) | Call::Split { .. });
+    let told = matches!(call, Call::Losses(_) | Call::Scores(_));
+    settled || told || matches!(call, Call::Fit { .. } | Call::Validate { .. } | Call::Band { .. })
 }
 
 /// Not refused, or refused by 10, 11, 12 or 16.
@@ -246,6 +251,19 @@ pub fn same_answer(a: &Answer, b: &Answer) -> bool {
             Answer::Losses { degree, total, score },
             Answer::Losses { degree: degree2, total: total2, score: score2 },
         ) => degree == degree2 && same_number(*total, *total2) && same_number(*score, *score2),
+        (
+            Answer::Scores { degree, bound, solved, tests, least },
+            Answer::Scores {
+                degree: degree2,
+                bound: bound2,
+                solved: solved2,
+                tests: tests2,
+                least: least2,
+            },
+        ) => {
+            (degree, bound, solved, tests) == (degree2, bound2, solved2, tests2)
+                && same_number(*least, *least2)
+        }
         (Answer::Samples(a), Answer::Samples(b)) => {
             let same = |(a, b): (&Sample, &Sample)| {
                 same_number(a.x, b.x) && same_number(a.y, b.y) && same_number(a.weight, b.weight)
@@ -298,6 +316,34 @@ fn check_losses(
         return Err(format!("judge answers {answer:?}, {name} {expected:?}"));
     }
     let difference = first_difference("losses", &memory.losses[..losses.len()], &losses);
+    difference.map_or(Ok(()), |text| Err(format!("judge and {name}: {text}")))
+}
+
+/// Scores as answered and written, against those that were worked out.
+fn check_told_scores(
+    name: &str,
+    scores: Result<Scores, u8>,
+    answer: &Answer,
+    memory: &Memory,
+) -> Result<(), String> {
+    let expected = match scores.as_ref().map(answer_of_scores) {
+        Ok(ScoresAnswer { degree, bound, solved, least, tests }) => {
+            Answer::Scores { degree, bound, solved, tests, least }
+        }
+        Err(number) => Answer::Refused(*number),
+    };
+    if !same_answer(answer, &expected) {
+        return Err(format!("judge answers {answer:?}, {name} {expected:?}"));
+    }
+    let Ok(scores) = scores else { return Ok(()) };
+    let of = |degree: usize| scores.scores.get(degree).copied().flatten();
+    let marks: Vec<u8> = (0..TERMS).map(|degree| u8::from(of(degree).is_some())).collect();
+    if memory.solved[..TERMS] != marks {
+        let ours = &memory.solved[..TERMS];
+        return Err(format!("solved degrees: judge {ours:?}, {name} {marks:?}"));
+    }
+    let values: Vec<f64> = (0..TERMS).map(|degree| of(degree).unwrap_or(0.0)).collect();
+    let difference = first_difference("scores", &memory.scores[..TERMS], &values);
     difference.map_or(Ok(()), |text| Err(format!("judge and {name}: {text}")))
 }
 
@@ -440,6 +486,13 @@ fn check_reference(
             check_split("polyfit", reference::split(breaks, *limit), answer, memory)
         }
         Call::Losses(settings) => check_reference_losses(samples, *settings, answer, memory),
+        Call::Scores(settings) => {
+            // polyfit has no pivot tests: those that are answered.
+            let counted = if let Answer::Scores { tests, .. } = answer { *tests } else { 0 };
+            let scores = reference::scores_by_degree(samples, *settings);
+            let scores = scores.map(|scores| Scores { tests: counted, ..scores });
+            check_told_scores("polyfit", scores, answer, memory)
+        }
         Call::Band { x, degree, confidence, tolerance } => {
             let band = reference::band(samples, (*x, *degree), *confidence, *tolerance);
             let expected = match band {
@@ -512,6 +565,10 @@ fn check_writes(
             expected.after[..TERMS].copy_from_slice(&after.after[..TERMS]);
         }
         Answer::Losses { .. } => expected.losses[..count].copy_from_slice(&after.losses[..count]),
+        Answer::Scores { .. } => {
+            expected.solved[..TERMS].copy_from_slice(&after.solved[..TERMS]);
+            expected.scores[..TERMS].copy_from_slice(&after.scores[..TERMS]);
+        }
     }
     match difference(&expected, after) {
         Some(difference) => Err(format!("written outside the call's places: {difference}")),

@@ -106,6 +106,7 @@ fn simpler_calls(call: &Call) -> Vec<Call> {
             simpler_settings(*settings).map(|settings| Call::Split { limit, settings }).collect()
         }
         Call::Losses(settings) => simpler_settings(*settings).map(Call::Losses).collect(),
+        Call::Scores(settings) => simpler_settings(*settings).map(Call::Scores).collect(),
         _ => Vec::new(),
     }
 }

@@ -35,6 +35,8 @@ fn again<'a>(lent: &'a mut Lent<'_>) -> Lent<'a> {
         before: lent.before,
         after: lent.after,
         losses: lent.losses,
+        solved: lent.solved,
+        scores: lent.scores,
     }
 }
 
@@ -130,6 +132,39 @@ fn last_loss_not_written() {
         answer
     });
     assert!(list.steps.len() <= 3, "{list:?}");
+}
+
+#[test]
+fn chosen_score_for_the_least() {
+    let list = found(|_, _, lent, _, answer| match answer {
+        Answer::Scores { degree, bound, solved, tests, .. } => {
+            Answer::Scores { degree, bound, solved, tests, least: lent.scores[degree] }
+        }
+        _ => answer,
+    });
+    assert!(list.steps.len() <= 8, "{list:?}");
+}
+
+#[test]
+fn byte_past_the_bound_left() {
+    let list = found(|_, _, lent, _, answer| {
+        if let Answer::Scores { bound: 0..=14, .. } = answer {
+            lent.solved[15] = 1;
+        }
+        answer
+    });
+    assert!(list.steps.len() <= 3, "{list:?}");
+}
+
+#[test]
+fn tests_of_the_chosen_degree_alone() {
+    let list = found(|_, _, _, _, answer| match answer {
+        Answer::Scores { degree, bound, solved, least, .. } => {
+            Answer::Scores { degree, bound, solved, tests: degree + 1, least }
+        }
+        _ => answer,
+    });
+    assert!(list.steps.len() <= 4, "{list:?}");
 }
 
 #[test]
@@ -498,11 +533,12 @@ fn missing_in(name: &str, asked: impl Fn(&str) -> bool) -> Vec<String> {
 #[test]
 fn texts_are_judged() {
     missing_in("edges.calls", |_| false);
-    // Every refusal of every call but lines, splits, windows and losses, and every pair in order. A text has no
+    // Every refusal of every call but lines, splits, windows, losses and scores, and every pair in order. A text has no
     // reader. 15 is met with the weights.
     let refusal = |key: &str| {
         let refusal = key.contains(" before ") || key.contains(": refused by ");
-        let elsewhere = ["reader", "add_lines", "add_window", "split", "losses", "length"];
+        let elsewhere =
+            ["reader", "add_lines", "add_window", "split", "losses", "scores", "length"];
         let elsewhere = elsewhere.iter().any(|call| key.starts_with(call));
         refusal && !elsewhere && !key.contains("by polyfit")
     };
@@ -532,6 +568,10 @@ fn texts_are_judged() {
     // No list has a 12 of the samples' own sums.
     let missing = missing_in("losses.calls", |key| {
         key.starts_with("losses") && key != "losses by polyfit: refused by 12"
+    });
+    assert!(missing.is_empty(), "{missing:?}");
+    let missing = missing_in("scores.calls", |key| {
+        key.starts_with("scores") && key != "scores by polyfit: refused by 12"
     });
     assert!(missing.is_empty(), "{missing:?}");
     // Every call and refusal, by polyfit too, every setting and event; the pairs are the season's.
@@ -570,5 +610,5 @@ fn texts_with_a_carry() {
 
 #[test]
 fn fixed_list_is_as_made() {
-    assert!(text::write(137, 3000).as_bytes() == file("fixed.calls"));
+    assert!(text::write(110, 3000).as_bytes() == file("fixed.calls"));
 }

@@ -44,7 +44,7 @@ fn written(call: &Call) -> Call {
         | Call::Withdraw { index: number }
         | Call::Fit { degree: number }
         | Call::Band { degree: number, .. } => *number = GREATEST.min(*number),
-        Call::Report(settings) | Call::Losses(settings) => {
+        Call::Report(settings) | Call::Losses(settings) | Call::Scores(settings) => {
             settings.bound = written_bound(settings.bound)
         }
         Call::Split { limit, settings } => {
@@ -141,6 +141,10 @@ impl Writer {
                 self.show(Name::Scratch, rows);
             }
             Answer::Losses { .. } if self.random.one_in(2) => self.show(Name::Losses, rows),
+            Answer::Scores { .. } if self.random.one_in(2) => {
+                self.show(Name::Solved, TERMS + 1);
+                self.show(Name::Scores, TERMS + 1);
+            }
             Answer::Refused(_) if self.random.one_in(6) => {
                 self.show(Name::Scratch, rows);
                 self.show(Name::Errors, TERMS + 1);

@@ -166,7 +166,7 @@ pub fn spoil(random: &mut Random, samples: &mut [Sample]) {
 }
 
 /// Calls that read a fit.
-const READING: [&str; 6] = ["fit", "report", "split", "losses", "validate", "band"];
+const READING: [&str; 7] = ["fit", "report", "split", "losses", "scores", "validate", "band"];
 
 /// Calls that take a frame.
 const FRAMED: [&str; 2] = ["add_frame", "reader"];

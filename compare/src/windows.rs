@@ -26,7 +26,7 @@ const EVENTS: [&str; 10] = [
 ];
 
 /// Calls on a book from which samples went: answered, and refused by 5.
-const ANSWERED: [&str; 11] = [
+const ANSWERED: [&str; 12] = [
     "add_window",
     "correct",
     "withdraw",
@@ -36,6 +36,7 @@ const ANSWERED: [&str; 11] = [
     "report",
     "split",
     "losses",
+    "scores",
     "validate",
     "band",
 ];

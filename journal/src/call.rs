@@ -33,6 +33,7 @@ pub enum Call {
         settings: Settings,
     },
     Losses(Settings),
+    Scores(Settings),
     Validate {
         folds: usize,
         bound: DegreeBound,
@@ -71,6 +72,13 @@ pub enum Answer {
         total: f64,
         score: f64,
     },
+    Scores {
+        degree: usize,
+        bound: usize,
+        solved: usize,
+        tests: usize,
+        least: f64,
+    },
     Band {
         value: f64,
         lower: f64,
@@ -95,6 +103,9 @@ impl fmt::Display for Answer {
             }
             Answer::Losses { degree, total, score } => {
                 write!(f, "losses {degree} {} {}", float_field(*total), float_field(*score))
+            }
+            Answer::Scores { degree, bound, solved, tests, least } => {
+                write!(f, "scores {degree} {bound} {solved} {tests} {}", float_field(*least))
             }
             Answer::Band { value, lower, upper } => {
                 let [value, lower, upper] = [*value, *lower, *upper].map(float_field);

@@ -3,7 +3,7 @@
 use judge::refusals::{Lengths, MOST_SAMPLES};
 use judge::sums::{PLACES, TERMS};
 
-/// The names of the memory; pruned and outliers hold bytes.
+/// The names of the memory; pruned, outliers and solved hold bytes.
 #[derive(Debug, Clone, Copy, PartialEq, Eq)]
 pub enum Name {
     Xs,
@@ -20,10 +20,12 @@ pub enum Name {
     Outliers,
     Before,
     After,
+    Solved,
+    Scores,
 }
 
 /// All names, with their words.
-pub const NAMES: [(Name, &str); 14] = [
+pub const NAMES: [(Name, &str); 16] = [
     (Name::Xs, "xs"),
     (Name::Ys, "ys"),
     (Name::Ws, "ws"),
@@ -38,6 +40,8 @@ pub const NAMES: [(Name, &str); 14] = [
     (Name::Outliers, "outliers"),
     (Name::Before, "before"),
     (Name::After, "after"),
+    (Name::Solved, "solved"),
+    (Name::Scores, "scores"),
 ];
 
 /// What a text lends before its first line.
@@ -56,6 +60,8 @@ pub const LENT: Lengths = Lengths {
     before: TERMS,
     after: TERMS,
     losses: MOST_SAMPLES,
+    solved: TERMS,
+    scores: TERMS,
 };
 
 /// Everything that can be lent, whole.
@@ -75,6 +81,8 @@ pub struct Memory {
     pub before: Vec<f64>,
     pub after: Vec<f64>,
     pub losses: Vec<f64>,
+    pub solved: Vec<u8>,
+    pub scores: Vec<f64>,
 }
 
 /// What one call is lent.
@@ -93,6 +101,8 @@ pub struct Lent<'a> {
     pub before: &'a mut [f64],
     pub after: &'a mut [f64],
     pub losses: &'a mut [f64],
+    pub solved: &'a mut [u8],
+    pub scores: &'a mut [f64],
 }
 
 /// The places of one memory.
@@ -107,7 +117,7 @@ impl Name {
     }
 
     pub fn holds_bytes(self) -> bool {
-        matches!(self, Name::Pruned | Name::Outliers)
+        matches!(self, Name::Pruned | Name::Outliers | Name::Solved)
     }
 
     /// Its length among those of all.
@@ -127,6 +137,8 @@ impl Name {
             Name::Outliers => &mut lengths.outlier,
             Name::Before => &mut lengths.before,
             Name::After => &mut lengths.after,
+            Name::Solved => &mut lengths.solved,
+            Name::Scores => &mut lengths.scores,
         }
     }
 }
@@ -151,6 +163,8 @@ impl Memory {
             before: floats(),
             after: floats(),
             losses: floats(),
+            solved: bytes(),
+            scores: floats(),
         }
     }
 
@@ -171,6 +185,8 @@ impl Memory {
             before: &mut self.before[..lengths.before],
             after: &mut self.after[..lengths.after],
             losses: &mut self.losses[..lengths.losses],
+            solved: &mut self.solved[..lengths.solved],
+            scores: &mut self.scores[..lengths.scores],
         }
     }
 
@@ -190,6 +206,8 @@ impl Memory {
             Name::Outliers => Places::Bytes(&self.outlier),
             Name::Before => Places::Floats(&self.before),
             Name::After => Places::Floats(&self.after),
+            Name::Solved => Places::Bytes(&self.solved),
+            Name::Scores => Places::Floats(&self.scores),
         }
     }
 
@@ -208,7 +226,8 @@ impl Memory {
             Name::Before => &mut self.before,
             Name::After => &mut self.after,
             Name::Losses => &mut self.losses,
-            Name::Pruned | Name::Outliers => return None,
+            Name::Scores => &mut self.scores,
+            Name::Pruned | Name::Outliers | Name::Solved => return None,
         })
     }
 }

@@ -241,6 +241,29 @@ fn losses_into(places: usize, count: usize, lent: &mut Lent, settings: Settings)
     answer
 }
 
+/// Scores with so many places for the least. They write one and none past it; refused ones write none.
+fn scores_into(places: usize, count: usize, lent: &mut Lent, settings: Settings) -> Answer {
+    let mut least = [UNWRITTEN; 2];
+    let (words, values) = settings_lists(settings, count);
+    let packed = book_read!(
+        sys::stakebook_scores,
+        lent,
+        (count, words.as_ptr(), words.len(), values.as_ptr(), values.len()),
+        (solved, scores),
+        (least.as_mut_ptr(), places)
+    );
+    let answer = read(packed, |packed| Answer::Scores {
+        degree: sys::degree(packed),
+        bound: sys::bound(packed),
+        solved: sys::solved(packed),
+        tests: sys::tests(packed),
+        least: least[0],
+    });
+    let written = usize::from(matches!(answer, Answer::Scores { .. }));
+    assert!(least[written..].iter().all(|&number| number == UNWRITTEN), "{least:?}");
+    answer
+}
+
 fn bits_of(places: &[f64]) -> Vec<u64> {
     places.iter().map(|number| number.to_bits()).collect()
 }
@@ -352,6 +375,17 @@ impl Calls for Port {
         assert!(short == Answer::Refused(1) && same, "one place for losses: {short:?}");
         // More places than two are as good.
         losses_into(2 + count % 2, count, &mut lent, settings)
+    }
+
+    /// Without a place for the least it is refused by 1, and nothing is written.
+    fn scores(&self, count: usize, mut lent: Lent, settings: Settings) -> Answer {
+        let places =
+            |lent: &Lent| (bits_of(lent.scratch), lent.solved.to_vec(), bits_of(lent.scores));
+        let before = places(&lent);
+        let short = scores_into(0, count, &mut lent, settings);
+        let same = places(&lent) == before;
+        assert!(short == Answer::Refused(1) && same, "no place for the least: {short:?}");
+        scores_into(1 + count % 2, count, &mut lent, settings)
     }
 
     fn validate(

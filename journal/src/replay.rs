@@ -88,6 +88,8 @@ impl Buffers {
             before: &mut [],
             after: &mut [],
             losses: &mut [],
+            solved: &mut [],
+            scores: &mut [],
         }
     }
 

@@ -107,6 +107,7 @@ fn call(word: &[u8], fields: &mut Fields) -> Read<Call> {
         b"report" => Call::Report(fields.settings()?),
         b"split" => Call::Split { limit: fields.number()?, settings: fields.settings()? },
         b"losses" => Call::Losses(fields.settings()?),
+        b"scores" => Call::Scores(fields.settings()?),
         b"validate" => Call::Validate {
             folds: fields.number()?,
             bound: fields.bound()?,
@@ -435,6 +436,7 @@ impl fmt::Display for Call {
                 write!(f, "split {limit} {}", settings_fields(*settings))
             }
             Call::Losses(settings) => write!(f, "losses {}", settings_fields(*settings)),
+            Call::Scores(settings) => write!(f, "scores {}", settings_fields(*settings)),
             Call::Validate { folds, bound, criterion } => {
                 let criterion = criterion_field(*criterion);
                 write!(f, "validate {folds} {} {criterion}", bound_fields(*bound))
@@ -579,6 +581,14 @@ mod tests {
             ("loss", "field 1: not a call"),
             ("lent losses 4200", "fits"),
             (&format!("put losses 4199 {ONE}"), "fits"),
+            (&format!("scores relaxed 0 aic p95 {ONE} none {ONE}"), "fits"),
+            (&format!("scores relaxed 0 aic p95 {ONE} none {ONE} sign"), "field 9: not a name"),
+            ("scores", "field 2: missing"),
+            ("score", "field 1: not a call"),
+            ("lent solved 15", "fits"),
+            ("show solved 0 17", "fits"),
+            (&format!("put scores 16 {ONE}"), "fits"),
+            (&format!("put solved 0 {ONE}"), "field 2: not a name"),
             ("validate 3 custom 2 bic", "fits"),
             ("validate 3 custom 2 bic 0", "field 6: one too many"),
         ];
@@ -653,6 +663,8 @@ mod tests {
             format!("split 999999999 custom 3 bic custom {ONE} variance {ONE} size"),
             format!("losses custom 7 bic p999 0000000000000000 measurement {ONE}"),
             format!("losses custom 7 bic p999 0000000000000000 measurement {ONE} size"),
+            format!("scores custom 7 bic p999 0000000000000000 measurement {ONE}"),
+            format!("scores custom 7 bic p999 0000000000000000 measurement {ONE} size"),
             "validate 10 aggressive 0 aic".to_string(),
             format!("band {ONE} 2 custom {ONE} none 0000000000000000"),
         ];

@@ -25,6 +25,7 @@ pub trait Calls {
     fn report(&self, count: usize, lent: Lent, settings: Settings) -> Answer;
     fn split(&self, count: usize, lent: Lent, settings: Settings, limit: usize) -> Answer;
     fn losses(&self, count: usize, lent: Lent, settings: Settings) -> Answer;
+    fn scores(&self, count: usize, lent: Lent, settings: Settings) -> Answer;
     fn validate(
         &self,
         count: usize,
@@ -69,6 +70,7 @@ impl<T: Calls> Side for T {
             Call::Report(settings) => self.report(count, lent, *settings),
             Call::Split { limit, settings } => self.split(count, lent, *settings, *limit),
             Call::Losses(settings) => self.losses(count, lent, *settings),
+            Call::Scores(settings) => self.scores(count, lent, *settings),
             Call::Validate { folds, bound, criterion } => {
                 self.validate(count, lent, *folds, *bound, *criterion)
             }
@@ -173,6 +175,19 @@ impl Calls for Judge {
         let memory = memory!(lent);
         let result = book::losses(count, &memory, settings, lent.scratch, lent.losses);
         answer(result, |a| Answer::Losses { degree: a.degree, total: a.total, score: a.score })
+    }
+
+    fn scores(&self, count: usize, lent: Lent, settings: Settings) -> Answer {
+        let memory = memory!(lent);
+        let (solved, scores) = (lent.solved, lent.scores);
+        let result = book::scores(count, &memory, settings, lent.scratch, solved, scores);
+        answer(result, |a| Answer::Scores {
+            degree: a.degree,
+            bound: a.bound,
+            solved: a.solved,
+            tests: a.tests,
+            least: a.least,
+        })
     }
 
     fn validate(

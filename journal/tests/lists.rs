@@ -1,6 +1,6 @@
 //! The lists of tests/ at the top of the repository: their answers are the judge's and the proved
-//! library's, and the lists of edges, of lines, of weights, of splits, of windows and of losses meet the
-//! edges that their comments name.
+//! library's, and the lists of edges, of lines, of weights, of splits, of windows, of losses and of scores meet
+//! the edges that their comments name.
 
 use std::path::PathBuf;
 use std::process::Command;
@@ -29,7 +29,9 @@ fn printed(side: &dyn Side, name: &str) -> String {
 }
 
 fn check_answers(side: &dyn Side) {
-    for name in ["edges", "season", "lines", "weights", "split", "windows", "losses", "fixed"] {
+    for name in
+        ["edges", "season", "lines", "weights", "split", "windows", "losses", "scores", "fixed"]
+    {
         let answers = String::from_utf8(file(&format!("{name}.answers"))).unwrap();
         let printed = printed(side, name);
         for (number, (kept, new)) in answers.lines().zip(printed.lines()).enumerate() {
@@ -51,7 +53,7 @@ fn answers_are_the_librarys() {
 
 #[test]
 fn lists_are_as_made() {
-    for name in ["edges", "season", "lines", "weights", "split", "windows", "losses"] {
+    for name in ["edges", "season", "lines", "weights", "split", "windows", "losses", "scores"] {
         let made = Command::new(env!("CARGO_BIN_EXE_lists")).arg(name).output().unwrap();
         assert!(made.stdout == file(&format!("{name}.calls")), "{name}.calls");
     }
@@ -96,7 +98,7 @@ impl Edge {
 
     /// What was shown of a memory, time after time.
     fn shown(&self, name: &str) -> Vec<Vec<u64>> {
-        let radix = if matches!(name, "pruned" | "outliers") { 10 } else { 16 };
+        let radix = if matches!(name, "pruned" | "outliers" | "solved") { 10 } else { 16 };
         let number = |field: &str| u64::from_str_radix(field, radix).unwrap();
         let fields = |line: &str| line.split(' ').skip(1).map(number).collect();
         let shows = self.of("show").into_iter().filter(|line| line.split(' ').next() == Some(name));
@@ -924,17 +926,17 @@ fn the_shortest_of_three_columns() {
 #[test]
 fn weights_in_the_column() {
     let reads = weights("reads: a weight below");
-    for call in ["fit", "report", "losses", "band"] {
+    for call in ["fit", "report", "losses", "scores", "band"] {
         assert_eq!(numbers(&reads.of(call)), [4, 4, 1, 1].repeat(3), "{call}");
     }
     // By both criteria.
     assert_eq!(numbers(&reads.of("validate")), [4, 4, 4, 4, 1, 1, 1, 1].repeat(3));
     let nobodys = weights("reads: at the count");
-    for call in ["fit", "report", "losses", "validate", "band"] {
+    for call in ["fit", "report", "losses", "scores", "validate", "band"] {
         assert!(nobodys.of(call).iter().all(|answer| !answer.starts_with("refused")), "{call}");
     }
     let read = weights("as they are: weights of 0");
-    for call in ["report", "losses", "validate", "band", "correct", "withdraw", "fit"] {
+    for call in ["report", "losses", "scores", "validate", "band", "correct", "withdraw", "fit"] {
         assert!(read.of(call).iter().all(|answer| !answer.starts_with("refused")), "{call}");
     }
     for (ws, weight) in read.shown("ws").iter().zip([0.0f64, -0.0, -0.25]) {
@@ -1229,6 +1231,160 @@ fn fields_of_losses() {
     ];
     assert_eq!(messages, expected);
     assert_eq!(answered(&part).len(), 3);
+}
+
+/// A part of the list of scores.
+fn scores(comment: &str) -> Edge {
+    part("scores.calls", comment)
+}
+
+/// Degree, bound, solved degrees and tests of the scores that were told, and the least.
+fn told(edge: &Edge) -> Vec<([usize; 4], f64)> {
+    let of = |answer: &&str| {
+        let fields: Vec<&str> = answer.strip_prefix("scores ")?.split(' ').collect();
+        let numbers = [0, 1, 2, 3].map(|at| fields[at].parse().unwrap());
+        Some((numbers, f64::from_bits(u64::from_str_radix(fields[4], 16).unwrap())))
+    };
+    edge.of("scores").iter().filter_map(of).collect()
+}
+
+#[test]
+fn scores_of_a_choice() {
+    for comment in ["season: ", "by hand: ", "unsolved: ", "chosen: ", "sums: ", "bounds: "] {
+        let edge = scores(comment);
+        let (answers, reports) = (told(&edge), edge.of("report"));
+        let (marks, values) = (edge.shown("solved"), edge.shown("scores"));
+        assert!(answers.len() == reports.len() && !answers.is_empty());
+        for (i, ([degree, bound, solved, _], least)) in answers.into_iter().enumerate() {
+            // The report's choice.
+            assert!(reports[i].starts_with(&format!("report {degree} {solved} ")), "{comment}");
+            assert_eq!(marks[i][..TERMS].iter().sum::<u64>(), solved as u64);
+            let values = floats(&values[i][..TERMS]);
+            let of = |degree: &usize| marks[i][*degree] == 1;
+            let told: Vec<usize> = (0..=bound).filter(of).collect();
+            let lowest = told.iter().map(|degree| values[*degree]).fold(f64::INFINITY, f64::min);
+            assert_eq!(lowest.to_bits(), least.to_bits(), "{comment}");
+            let near = |degree: &&usize| values[**degree] - least <= 2.0;
+            assert_eq!(told.iter().find(near), Some(&degree), "{comment}");
+            for other in (0..TERMS).filter(|other| !told.contains(other)) {
+                assert_eq!((marks[i][other], values[other].to_bits()), (0, 0), "{comment}");
+            }
+        }
+    }
+    // The score of the losses.
+    let season = scores("season: a pit");
+    let (chosen, losses) = (told(&season), answered(&season));
+    for (i, ([degree, ..], _)) in chosen.into_iter().enumerate() {
+        assert_eq!(season.shown("scores")[i][degree], losses[i].2.to_bits());
+    }
+}
+
+#[test]
+fn scores_by_hand() {
+    let four = scores("by hand: 0, 0, 4 and 8");
+    let linear = |size: f64| HUBER_CONST * (size - 0.5 * HUBER_CONST);
+    let mean = (((linear(3.0) + linear(3.0)) + 0.5) + linear(5.0)) / 4.0;
+    let least: Vec<f64> = told(&four).iter().map(|answer| answer.1).collect();
+    assert!(told(&four).iter().all(|answer| answer.0 == [0, 1, 1, 3]));
+    assert!((least[0] - (4.0 * mean.ln() + 2.0)).abs() < 1e-12);
+    assert!((least[1] - (4.0 * mean.ln() + 4f64.ln())).abs() < 1e-12);
+    assert_eq!(four.shown("scores")[0][TERMS], 716f64.to_bits());
+    assert_eq!(four.shown("scratch")[0], bits_of(&[0.0, 0.0, 0.0, 0.0, 504.0]));
+    let line = scores("by hand: x = y");
+    assert!(told(&line).iter().all(|answer| answer.0 == [1, 1, 2, 3]));
+    // 5 / 2 is below 4 and 5 above 3: 2 × 2 × 3 / 2 is added.
+    let floor = 5.0 * f64::EPSILON.ln();
+    assert!((told(&line)[0].1 - (floor + 4.0 + 6.0)).abs() < 1e-12);
+    assert!((told(&line)[1].1 - (floor + 2.0 * 5f64.ln())).abs() < 1e-12);
+}
+
+#[test]
+fn scores_of_unsolved_degrees() {
+    let overflow = scores("unsolved: degree 0");
+    assert_eq!(
+        (told(&overflow)[0].0, &overflow.shown("solved")[0][..2]),
+        ([1, 1, 1, 3], &[0, 1][..])
+    );
+    let years = scores("unsolved: from some degree");
+    let [_, bound, solved, tests] = told(&years)[0].0;
+    assert!((bound, solved < 9, tests < 45) == (8, true, true), "{solved} {tests}");
+    let sums = folded_afresh(&years.samples());
+    let compared = |k| judge::solve::pivots_compared(&sums, k);
+    assert_eq!((1..=9).map(compared).sum::<usize>(), tests);
+    let past = scores("unsolved: past the bound");
+    let ones =
+        |at: usize| past.shown("solved")[at][..TERMS].iter().filter(|mark| **mark == 1).count();
+    assert_eq!((ones(0), ones(1), ones(2)), (8, 3, 1));
+    let sixteen = scores("unsolved: sixteen");
+    assert_eq!((told(&sixteen)[0].0[1], told(&sixteen)[1].0), (15, [0, 0, 1, 1]));
+}
+
+#[test]
+fn scores_beside_the_least() {
+    let edge = scores("chosen: degree 0, though");
+    let (([degree, ..], least), values) = (told(&edge)[0], floats(&edge.shown("scores")[0]));
+    assert_eq!((degree, least), (0, values[1]));
+    assert!(values[0] > least && values[0] - least <= 2.0);
+    let edge = scores("chosen: T11");
+    let values = floats(&edge.shown("scores")[0]);
+    assert_eq!((told(&edge)[0].0[0], values[0] - told(&edge)[0].1), (0, 2.0));
+}
+
+#[test]
+fn scores_are_refused_as_a_report_is() {
+    let same = scores("settings: confidence");
+    let answers = same.of("scores");
+    assert!(answers.len() == 4 && answers.iter().all(|answer| *answer == answers[0]));
+    assert_eq!(numbers(&scores("settings: and are judged").of("scores")), [4; 3]);
+    let short = scores("short: each memory");
+    assert_eq!(numbers(&short.of("scores")), [1, 1, 1, 4, 0, 0].repeat(5));
+    let unwritten: Vec<f64> = (0..=16).map(|i| 700.0 + f64::from(i)).collect();
+    assert!(short.shown("scores").iter().step_by(2).all(|shown| *shown == bits_of(&unwritten)));
+    let unjudged = scores("short: what only a report writes");
+    assert_eq!(
+        (numbers(&unjudged.of("report")), numbers(&unjudged.of("scores"))),
+        (vec![1], vec![0])
+    );
+    assert_eq!(numbers(&scores("short: no samples").of("scores")), [1; 3]);
+    let early = scores("early: ");
+    assert_eq!(numbers(&early.of("scores")), [7, 4, 8, 4, 4, 4, 4, 4, 4, 4]);
+    assert_eq!(
+        (early.shown("scores")[0][0], early.shown("scratch")[0][0]),
+        (700f64.to_bits(), 500f64.to_bits())
+    );
+    for (comment, number, n) in
+        [("late: 11, where", 11, 2), ("late: 11 with", 11, 3), ("late: 12", 12, 3)]
+    {
+        let late = scores(comment);
+        assert_eq!(
+            (numbers(&late.of("report")), numbers(&late.of("scores"))),
+            (vec![number], vec![number])
+        );
+        assert_eq!(late.shown("scores")[0], bits_of(&unwritten));
+        assert!(late.shown("scratch")[0][..n].iter().all(|place| *place == 0));
+        assert_eq!(late.shown("scratch")[0][n], (500.0 + n as f64).to_bits());
+    }
+}
+
+#[test]
+fn fields_of_scores() {
+    let part = scores("fields: ");
+    let messages: Vec<&str> =
+        part.0.iter().filter_map(|(_, printed)| Some(printed.split_once(": ")?.1)).collect();
+    let expected = [
+        "field 2: missing",
+        "field 2: not a name",
+        "field 8: missing",
+        "field 9: not a name",
+        "field 9: not a name",
+        "field 10: one too many",
+        "field 1: not a call",
+        "field 3: too large",
+        "field 3: too large",
+        "field 2: not a name",
+    ];
+    assert_eq!(messages, expected);
+    assert_eq!(told(&part).len(), 3);
 }
 
 #[test]

@@ -11,7 +11,7 @@ use crate::edges::inverse_fails;
 use crate::list::{at_whole_x, by_size, samples_of, up_to, List, AIC_1, NAN};
 
 /// Depth in m and density in kg/m³; one is far off.
-const PIT: [(f64, f64); 8] = [
+pub const PIT: [(f64, f64); 8] = [
     (0.1, 212.0),
     (0.3, 240.5),
     (0.5, 251.0),
@@ -64,7 +64,7 @@ pub fn losses() -> String {
     list.text
 }
 
-fn with_bic(settings: Settings) -> Settings {
+pub fn with_bic(settings: Settings) -> Settings {
     Settings { criterion: Criterion::Bic, ..settings }
 }
 

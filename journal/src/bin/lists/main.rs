@@ -7,11 +7,13 @@
 //! `lists split`: a list broken in two, document 02's E8.
 //! `lists windows`: window books, document 02's E11.
 //! `lists losses`: losses line by line, document 02's E12.
+//! `lists scores`: scores by degree.
 
 mod edges;
 mod lines;
 mod list;
 mod losses;
+mod scores;
 mod season;
 mod split;
 mod weights;
@@ -28,8 +30,9 @@ fn main() -> ExitCode {
         Some("split") => split::split(),
         Some("windows") => windows::windows(),
         Some("losses") => losses::losses(),
+        Some("scores") => scores::scores(),
         _ => {
-            eprintln!("lists edges, season, lines, weights, split, windows, or losses");
+            eprintln!("lists edges, season, lines, weights, split, windows, losses, or scores");
             return ExitCode::FAILURE;
         }
     };

@@ -541,6 +541,8 @@ fn reads(list: &mut List) {
             list.report(up_to(20));
             list.losses(AIC_1);
             list.losses(up_to(20));
+            list.scores(AIC_1);
+            list.scores(up_to(20));
             list.validate(2, 1);
             list.validate(1, 1);
             list.band(1.0, 1);
@@ -554,6 +556,7 @@ fn reads(list: &mut List) {
     list.fit(1);
     list.report(AIC_1);
     list.losses(AIC_1);
+    list.scores(AIC_1);
     list.validate(3, 1);
     list.band(1.0, 1);
 }
@@ -566,6 +569,7 @@ fn read_as_they_are(list: &mut List) {
         list.put(Name::Ws, 2, weight);
         list.whole_report(up_to(2), 6);
         list.losses(up_to(2));
+        list.scores(up_to(2));
         list.validate(3, 1);
         list.band(1.0, 1);
         list.call(Call::Correct { index: 0, y: 211.0 });

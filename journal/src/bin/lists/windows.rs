@@ -87,6 +87,7 @@ fn season(list: &mut List) {
     list.whole_report(up_to(2), 5);
     list.split(up_to(1), 99);
     list.losses(up_to(2));
+    list.scores(up_to(2));
     list.validate(5, 1);
     list.band(6.5, 1);
 }
