@@ -495,6 +495,11 @@ class Nesting(html.parser.HTMLParser):
 
 
 class Files(unittest.TestCase):
+    def write(self, path):
+        """The file alone is looked at here, and not what is on the page."""
+        with mock.patch.object(page, "render", return_value="<p>page</p>"):
+            page.write(None, path)
+
     def test_a_write_that_fails_leaves_what_was_there(self):
         with tempfile.TemporaryDirectory() as folder:
             path = os.path.join(folder, "page.html")
@@ -502,7 +507,7 @@ class Files(unittest.TestCase):
                 file.write("old")
             with mock.patch("os.fsync", side_effect=OSError(28, "No space left on device")):
                 with self.assertRaisesRegex(OSError, "No space left"):
-                    page.write(rich(), path)
+                    self.write(path)
             self.assertEqual(os.listdir(folder), ["page.html"])
             with open(path) as file:
                 self.assertEqual(file.read(), "old")
@@ -512,13 +517,13 @@ class Files(unittest.TestCase):
             path, link = os.path.join(folder, "page.html"), os.path.join(folder, "link.html")
             mask = os.umask(0o027)
             try:
-                page.write(rich(), path)
+                self.write(path)
                 self.assertEqual(os.stat(path).st_mode & 0o777, 0o640)
             finally:
                 os.umask(mask)
             os.chmod(path, 0o604)
             os.symlink(path, link)
-            page.write(rich(), link)
+            self.write(link)
             self.assertTrue(os.path.islink(link))
             self.assertEqual(os.stat(path).st_mode & 0o777, 0o604)
             self.assertEqual(sorted(os.listdir(folder)), ["link.html", "page.html"])
@@ -528,8 +533,8 @@ class Files(unittest.TestCase):
             path = os.path.join(folder, "pipe.html")
             os.mkfifo(path)
             reader = subprocess.Popen(["cat", path], stdout=subprocess.PIPE)
-            page.write(rich(), path)
-            self.assertEqual(reader.communicate()[0].decode(), page.render(rich()))
+            self.write(path)
+            self.assertEqual(reader.communicate()[0], b"<p>page</p>")
             self.assertTrue(stat.S_ISFIFO(os.stat(path).st_mode))
             self.assertEqual(os.listdir(folder), ["pipe.html"])
 
