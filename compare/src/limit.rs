@@ -6,11 +6,12 @@ use journal::{Answer, Call, Lent, Memory, Port, Side};
 use judge::refusals::{Lengths, MOST_SAMPLES};
 use judge::statistics::T_TABLE;
 use judge::sums::{folded_afresh, PLACES, TERMS};
+use judge::Sample;
 
 use crate::arguments;
 use crate::memory;
 use crate::random::Random;
-use crate::samples::Source;
+use crate::samples::{at_some_pivot_edge, Source};
 
 /// Whether it was compiled.
 pub const THERE: bool = cfg!(limit);
@@ -160,6 +161,17 @@ fn count(random: &mut Random) -> usize {
     }
 }
 
+/// Of every kind, now and then such that the degree is solved and its inverse fails.
+fn samples(random: &mut Random) -> Vec<Sample> {
+    if random.one_in(20) {
+        if let Some((samples, _)) = at_some_pivot_edge(random) {
+            return samples;
+        }
+    }
+    let n = count(random);
+    Source::new(random, n).take(random, n)
+}
+
 /// As long as the calls need, now and then one of them a place too short.
 fn lengths(random: &mut Random, n: usize) -> Lengths {
     let capacity = (n + random.below(3)).min(MOST_SAMPLES);
@@ -219,8 +231,8 @@ pub fn verify(lists: u64, seed: u64) -> Result<Compared, String> {
     let mut compared = Compared::default();
     for list in 0..lists {
         let random = &mut Random::new(seed ^ list.wrapping_mul(0x9E37_79B9_7F4A_7C15));
-        let n = count(random);
-        let samples = Source::new(random, n).take(random, n);
+        let samples = samples(random);
+        let n = samples.len();
         let lengths = lengths(random, n);
         let mut memory = memory::filled_for(random.next(), &lengths);
         for (at, sample) in samples.iter().enumerate() {

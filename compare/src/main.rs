@@ -30,6 +30,7 @@ mod split;
 #[cfg(test)]
 mod tests;
 mod text;
+mod timing;
 mod two_column;
 mod weights;
 mod windows;
@@ -189,7 +190,7 @@ fn main() -> ExitCode {
     let sides = further_sides();
     let sides: Vec<&dyn Side> = sides.iter().map(AsRef::as_ref).collect();
     if options.bench {
-        bench::run(sides.first().copied().unwrap_or(&journal::Judge));
+        bench::run();
         return ExitCode::SUCCESS;
     }
     if let Some(books) = options.limit {
