@@ -2,4 +2,5 @@ pub mod Covariance
 pub mod Marks
 pub mod MarkLaws
 pub mod Bands
+pub mod BandsFrom
 pub mod Pruning

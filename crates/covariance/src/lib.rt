@@ -8,13 +8,16 @@ use statistics::Tolerance;
 ghost use mathlib.Core.Path.{_≡_};
 ghost use mathlib.Core.List.{_++_};
 ghost use Prim.Native.Nat.{_≤_, _<_};
-ghost use lib.ListN.{length, drop};
+ghost use lib.Ieee.{nan};
+ghost use lib.ListN.{length, getD, drop};
 ghost use Rattle.basis.specs.Sizes.{maxTerms};
+ghost use Rattle.loops.specs.Places.{each, table};
 ghost use Rattle.value.specs.Absolute.{absF};
 ghost use Rattle.monomial.specs.Terms.{termsAt};
-ghost use Rattle.monomial.specs.Rows.{rowsAt};
+ghost use Rattle.monomial.specs.Rows.{fitted, rowsAt};
 ghost use Rattle.covariance.specs.Covariance.{covarianceOf, errorsOf, columnOf, predictionVariance};
 ghost use Rattle.covariance.specs.Marks.{mark as markF, ones};
+ghost use Rattle.covariance.specs.BandsFrom.{bandFrom, outlierFrom};
 ghost use Rattle.covariance.specs.Bands.{widened, widthOf, bandOf, bandAt, outlies as outliesF, lowersOf, uppersOf, outliersOf};
 ghost use Rattle.covariance.specs.Pruning.{tested as testedF, prunes as prunesF, prunedBytes};
 
@@ -198,7 +201,61 @@ pub fn put_pruned(
     count
 }
 
-// The first n places become lower, upper and the outlier byte of each sample. Answers how many are outliers.
+// The first n places become value and prediction variance at each x and z.
+fn put_values(
+    basis: Basis,
+    k: CoefficientCount,
+    c: &[f64; TERMS],
+    covariance: &[f64; MATRIX],
+    xs: &[f64],
+    zs: &[f64],
+    n: usize,
+    values: &mut [f64],
+    variances: &mut [f64],
+)
+    requires { ⌜ (k .0 ≤ maxTerms) × (n ≤ length (now xs)) × (n ≤ length (now zs)) × (n ≤ length (now values)) × (n ≤ length (now variances)) ⌝ }
+    ensures { λ _. ⌜ now (values .exit) ≡ each (λ i _. fitted (k .0) (now (c .entry)) (termsAt basis (getD (now (xs .entry)) i nan) (getD (now (zs .entry)) i nan))) n (now (values .entry)) ⌝ }
+    ensures { λ _. ⌜ now (variances .exit) ≡ each (λ i _. predictionVariance (k .0) (termsAt basis (getD (now (xs .entry)) i nan) (getD (now (zs .entry)) i nan)) (now (covariance .entry))) n (now (variances .entry)) ⌝ }
+{
+    for i in 0..n {
+        let terms = monomial::terms_at(basis, xs[i], zs[i]);
+        values[i] = monomial::fitted(k, c, &terms);
+        variances[i] = prediction_variance(k, &terms, covariance);
+    }
+}
+
+// The band at each of the first n places, from the value and the prediction variance that stand there: they become lower and upper. Answers how many y's are
+// outliers, and marks them.
+fn put_edges(
+    tolerance: Tolerance,
+    z: f64,
+    sd: f64,
+    ys: &[f64],
+    n: usize,
+    lower: &mut [f64],
+    upper: &mut [f64],
+    outlier: &mut [u8],
+) -> usize
+    requires { ⌜ (n ≤ length (now ys)) × (n ≤ length (now lower)) × (n ≤ length (now upper)) × (n ≤ length (now outlier)) ⌝ }
+    ensures { λ r. ⌜ r ≡ ones (table (outlierFrom tolerance z sd (now (lower .entry)) (now (upper .entry)) (now (ys .entry))) n) ⌝ }
+    ensures { λ _. ⌜ now (lower .exit) ≡ each (λ i _. bandFrom tolerance z sd (now (lower .entry)) (now (upper .entry)) i .lower) n (now (lower .entry)) ⌝ }
+    ensures { λ _. ⌜ now (upper .exit) ≡ each (λ i _. bandFrom tolerance z sd (now (lower .entry)) (now (upper .entry)) i .upper) n (now (upper .entry)) ⌝ }
+    ensures { λ _. ⌜ now (outlier .exit) ≡ each (λ i _. outlierFrom tolerance z sd (now (lower .entry)) (now (upper .entry)) (now (ys .entry)) i) n (now (outlier .entry)) ⌝ }
+{
+    let mut count: usize = 0;
+    for i in 0..n {
+        let band = confidence_band(tolerance, z, sd, lower[i], upper[i]);
+        let b = mark(outlies(band, ys[i]));
+        lower[i] = band.lower;
+        upper[i] = band.upper;
+        outlier[i] = b;
+        count = count + b as usize;
+    }
+    count
+}
+
+// The first n places become lower, upper and the outlier byte of each sample. Answers how many are outliers. All values come before all roots:
+// apart, the two loops are quicker.
 pub fn put_bands(
     basis: Basis,
     k: CoefficientCount,
@@ -221,14 +278,6 @@ pub fn put_bands(
     ensures uppers { λ _. ⌜ now (upper .exit) ≡ uppersOf (k .0) (now (c .entry)) (now (covariance .entry)) tolerance z sd (rowsAt basis n (now (xs .entry)) (now (zs .entry)) (now (ys .entry))) ++ drop n (now (upper .entry)) ⌝ }
     ensures bytes { λ _. ⌜ now (outlier .exit) ≡ outliersOf (k .0) (now (c .entry)) (now (covariance .entry)) tolerance z sd (rowsAt basis n (now (xs .entry)) (now (zs .entry)) (now (ys .entry))) ++ drop n (now (outlier .entry)) ⌝ }
 {
-    let mut count: usize = 0;
-    for i in 0..n {
-        let band = band_at(basis, k, c, covariance, tolerance, z, sd, xs[i], zs[i]);
-        let b = mark(outlies(band, ys[i]));
-        lower[i] = band.lower;
-        upper[i] = band.upper;
-        outlier[i] = b;
-        count = count + b as usize;
-    }
-    count
+    put_values(basis, k, c, covariance, xs, zs, n, &mut *lower, &mut *upper);
+    put_edges(tolerance, z, sd, ys, n, lower, upper, outlier)
 }

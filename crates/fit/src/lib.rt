@@ -19,6 +19,7 @@ ghost use Rattle.statistics.specs.Losses.{losses};
 ghost use Rattle.basis.specs.Counts.{countOf};
 ghost use Rattle.monomial.specs.Terms.{termsAt};
 ghost use Rattle.monomial.specs.Rows.{rowsAt};
+ghost use Rattle.solve.specs.Solve.{solve};
 ghost use Rattle.score.specs.Score.{scoreOf};
 ghost use Rattle.fit.specs.Residuals.{residual as residualF, residuals};
 ghost use Rattle.fit.specs.Solved.{scoredBy, pivotTests};
@@ -64,6 +65,38 @@ pub struct Solution {
     pub c: [f64; TERMS],
 }
 
+// Of the k coefficients that were solved from the sums: whether their residuals are finite. Where they are solved, the first n places of scratch hold the
+// sizes of the residuals.
+fn judged(
+    basis: Basis,
+    xs: &[f64],
+    zs: &[f64],
+    ys: &[f64],
+    n: usize,
+    sums: &[f64],
+    k: CoefficientCount,
+    held: usize,
+    c: [f64; TERMS],
+    scratch: &mut [f64],
+) -> Solution
+    requires { ⌜ (n ≤ length (now xs)) × (n ≤ length (now zs)) × (n ≤ length (now ys)) × (n ≤ length (now scratch)) × (k .0 ≤ maxTerms) × (record { held = held; c = c } ≡ solve (now sums) (k .0)) ⌝ }
+    ensures { λ r. ⌜ Attempted (now (sums .entry)) (rowsAt basis n (now (xs .entry)) (now (zs .entry)) (now (ys .entry))) (k .0) n (now (scratch .entry)) (now (scratch .exit)) r ⌝ }
+{
+    if held < k.0 {
+        return Solution {
+            solved: false,
+            tests: held + 1,
+            c,
+        };
+    }
+    let all = sizes(basis, xs, zs, ys, n, k, &c, &mut *scratch);
+    Solution {
+        solved: all,
+        tests: k.0,
+        c,
+    }
+}
+
 // Solves k coefficients from the sums. Where it is solved, the first n places of scratch hold the sizes of the residuals.
 pub fn attempt(
     basis: Basis,
@@ -80,19 +113,7 @@ pub fn attempt(
 {
     let s = solve::solve(sums, k);
     let c = s.c;
-    if s.held < k.0 {
-        return Solution {
-            solved: false,
-            tests: s.held + 1,
-            c,
-        };
-    }
-    let all = sizes(basis, xs, zs, ys, n, k, &c, &mut *scratch);
-    Solution {
-        solved: all,
-        tests: k.0,
-        c,
-    }
+    judged(basis, xs, zs, ys, n, sums, k, s.held, c, scratch)
 }
 
 // The score of k coefficients, whose residuals are the first n numbers, or their sizes.
@@ -111,8 +132,8 @@ pub struct Tried {
     pub tests: usize,
 }
 
-// Solves k coefficients and scores them on the same n samples.
-pub fn trial(
+// Scores the k coefficients that were solved from the sums on the same n samples.
+fn trial(
     basis: Basis,
     xs: &[f64],
     zs: &[f64],
@@ -120,15 +141,17 @@ pub fn trial(
     n: usize,
     sums: &[f64],
     k: CoefficientCount,
+    held: usize,
+    c: [f64; TERMS],
     criterion: Criterion,
     scratch: &mut [f64],
 ) -> Tried
-    requires { ⌜ (n ≤ length (now xs)) × (n ≤ length (now zs)) × (n ≤ length (now ys)) × (n ≤ length (now scratch)) × (sumPlaces ≤ length (now sums)) × (k .0 ≤ maxTerms) ⌝ }
+    requires { ⌜ (n ≤ length (now xs)) × (n ≤ length (now zs)) × (n ≤ length (now ys)) × (n ≤ length (now scratch)) × (k .0 ≤ maxTerms) × (record { held = held; c = c } ≡ solve (now sums) (k .0)) ⌝ }
     ensures scored { λ r. ⌜ record { solved = r .solved; score = r .score } ≡ scoredBy criterion (now (sums .entry)) (rowsAt basis n (now (xs .entry)) (now (zs .entry)) (now (ys .entry))) (rowsAt basis n (now (xs .entry)) (now (zs .entry)) (now (ys .entry))) (k .0) ⌝ }
     ensures tests { λ r. ⌜ r .tests ≡ pivotTests (now (sums .entry)) (k .0) ⌝ }
     ensures within { λ _. ⌜ Within n (now (scratch .entry)) (now (scratch .exit)) ⌝ }
 {
-    let a = attempt(basis, xs, zs, ys, n, sums, k, &mut *scratch);
+    let a = judged(basis, xs, zs, ys, n, sums, k, held, c, &mut *scratch);
     if !a.solved {
         return Tried {
             solved: false,
@@ -156,7 +179,7 @@ pub struct Choice {
     pub scores: [f64; TERMS],
 }
 
-// The choice among the degrees 0 to the bound. Only scores are kept; `attempt` solves the chosen degree again.
+// The choice among the degrees 0 to the bound, all from one elimination. Only scores are kept; `attempt` solves the chosen degree again.
 pub fn choose(
     basis: Basis,
     xs: &[f64],
@@ -173,12 +196,30 @@ pub fn choose(
     ensures within { λ _. ⌜ Within n (now (scratch .entry)) (now (scratch .exit)) ⌝ }
 {
     let b = bound.0 + 1;
+    let most = bound.k(basis);
+    let e = solve::eliminated(sums, most);
+    let m = e.m;
+    let g = e.b;
     let mut solved = [false; TERMS];
     let mut score = [0.0; TERMS];
     let mut tests = 0;
     for d in 0..b {
         let k = Degree(d).k(basis);
-        let t = trial(basis, xs, zs, ys, n, sums, k, criterion, &mut *scratch);
+        let s = solve::solution(e.held, &m, &g, k);
+        let c = s.c;
+        let t = trial(
+            basis,
+            xs,
+            zs,
+            ys,
+            n,
+            sums,
+            k,
+            s.held,
+            c,
+            criterion,
+            &mut *scratch,
+        );
         solved[d] = t.solved;
         score[d] = t.score;
         tests = tests + t.tests;

@@ -1,14 +1,14 @@
 -- Laws of Loop.antt.
 use mathlib.Core.Path.{_≡_, refl, sym, ap, _∙_}
 use mathlib.Core.Bool.{Bool, true, false}
-use Prim.Native.Nat.{ℕ, zero, suc, _+_, _-_, _≤_, _<_}
+use Prim.Native.Nat.{ℕ, zero, suc, _+_, _-_, _≤_, _<_, min}
 use mathlib.Core.Option.{Option, none, some}
 use mathlib.Core.Logic.{_⊎_, inl, inr}
 use lib.Dec.{leb}
 use borrow.Author.Tests.{leb-true, leb-false}
 use native.Mathlib.Omega.{arith}
 use Rattle.loops.specs.Cases.{never}
-use Rattle.loops.specs.Loop.{turns, from, tries, while, seeks, seek, First, Together}
+use Rattle.loops.specs.Loop.{turns, from, tries, while, seeks, seek, First, Together, Longer}
 
 -- one turn
 pub again : {S : Type 0} (step : ℕ → S → S) (i b : ℕ) (s : S) → i < b → from step (i + 1) b (step i s) ≡ from step i b s
@@ -233,3 +233,60 @@ pub while-all : {S : Type 0} (ok : ℕ → S → Bool) (step : ℕ → S → S) 
     → while ok step i b s .at ≡ b
 unfolding while
 while-all ok step i b s k h = omega (arith, tries-all ok step (b - i) i (ok i s) s (λ l. h i s (omega arith) (omega arith)) (λ j u a l. h j u a (omega arith)))
+
+-- ---- a loop with more turns beside one with fewer
+
+module _ {S U : Type 0} (R : S → U → Type 0) (f : ℕ → S → S) (g : ℕ → U → U) where
+  turns-longer : (n total i : ℕ) (s : S) (u : U) → n ≤ total
+      → ((j : ℕ) (v : S) (w : U) → i ≤ j → j < i + n → R v w → R (f j v) (g j w))
+      → ((j : ℕ) (v : S) (w : U) → i + n ≤ j → j < i + total → R v w → R (f j v) w) → R s u → R (turns f i total s) (turns g i n u)
+  unfolding turns
+  turns-longer zero zero i s u l both more r = r
+  turns-longer zero (suc total) i s u l both more r =
+      turns-longer zero total (i + 1) (f i s) u (omega arith) (λ j v w a b. absurd (omega arith)) (λ j v w a b. more j v w (omega arith) (omega arith)) (more i s u (omega arith) (omega arith) r)
+  turns-longer (suc n) zero i s u l both more r = absurd (omega arith)
+  turns-longer (suc n) (suc total) i s u l both more r =
+      turns-longer n total (i + 1) (f i s) (g i u) (omega arith) (λ j v w a b. both j v w (omega arith) (omega arith)) (λ j v w a b. more j v w (omega arith) (omega arith)) (both i s u (omega arith) (omega arith) r)
+
+  pub from-longer : (i k b : ℕ) (s : S) (u : U) → i ≤ k → k ≤ b
+      → ((j : ℕ) (v : S) (w : U) → i ≤ j → j < k → R v w → R (f j v) (g j w))
+      → ((j : ℕ) (v : S) (w : U) → k ≤ j → j < b → R v w → R (f j v) w) → R s u → R (from f i b s) (from g i k u)
+  unfolding from
+  from-longer i k b s u h l both more r =
+      turns-longer (k - i) (b - i) i s u (omega arith) (λ j v w a q. both j v w a (omega arith)) (λ j v w a q. more j v w (omega arith) (omega arith)) r
+
+tries-at-least : {S : Type 0} (ok : ℕ → S → Bool) (step : ℕ → S → S) (n i : ℕ) (t : Bool) (s : S) → i ≤ tries ok step n i t s .at
+unfolding tries
+tries-at-least ok step zero i t s = omega arith
+tries-at-least ok step (suc n) i false s = omega arith
+tries-at-least ok step (suc n) i true s = omega (arith, tries-at-least ok step n (i + 1) (ok (i + 1) (step i s)) (step i s))
+
+module _ {S U : Type 0} (R : S → U → Type 0) (ok : ℕ → S → Bool) (ok′ : ℕ → U → Bool) (f : ℕ → S → S) (g : ℕ → U → U) where
+  tries-longer : (n total i : ℕ) (t t′ : Bool) (s : S) (u : U) → n ≤ total → (0 < n → t ≡ t′)
+      → ((j : ℕ) (v : S) (w : U) → i ≤ j → j < i + n → R v w → (ok j v ≡ ok′ j w) × R (f j v) (g j w))
+      → ((j : ℕ) (v : S) (w : U) → i + n ≤ j → j < i + total → R v w → R (f j v) w) → R s u → Longer R (i + n) (tries ok f total i t s) (tries ok′ g n i t′ u)
+  unfolding tries
+  tries-longer zero total i t t′ s u l q both more r =
+      record {
+        stop = omega (arith, tries-at-least ok f total i t s);
+        related = λ h. tries-keeps (λ (v : S). R v u) ok f total i t s (λ j v a b. more j v u (omega arith) b) r;
+      }
+  tries-longer (suc n) zero i t t′ s u l q both more r = absurd (omega arith)
+  tries-longer (suc n) (suc total) i false false s u l q both more r = record { stop = omega arith; related = λ h. absurd (omega arith) }
+  tries-longer (suc n) (suc total) i false true s u l q both more r = absurd (let e = q (omega arith) in let z : _≡_ {A = ℕ} 0 1 = cc in omega arith)
+  tries-longer (suc n) (suc total) i true false s u l q both more r = absurd (let e = q (omega arith) in let z : _≡_ {A = ℕ} 0 1 = cc in omega arith)
+  tries-longer (suc n) (suc total) i true true s u l q both more r =
+      let r′ = both i s u (omega arith) (omega arith) r .1 in
+      let e : i + suc n ≡ i + 1 + n = omega arith in
+      rw e
+      (tries-longer n total (i + 1) (ok (i + 1) (f i s)) (ok′ (i + 1) (g i u)) (f i s) (g i u) (omega arith) (λ h. both (i + 1) (f i s) (g i u) (omega arith) (omega arith) r′ .0)
+      (λ j v w a b. both j v w (omega arith) (omega arith)) (λ j v w a b. more j v w (omega arith) (omega arith)) r′)
+
+  pub while-longer : (k b : ℕ) (s : S) (u : U) → k ≤ b
+      → ((j : ℕ) (v : S) (w : U) → j < k → R v w → (ok j v ≡ ok′ j w) × R (f j v) (g j w))
+      → ((j : ℕ) (v : S) (w : U) → k ≤ j → j < b → R v w → R (f j v) w) → R s u → Longer R k (while ok f 0 b s) (while ok′ g 0 k u)
+  unfolding while
+  while-longer k b s u l both more r =
+      let e : 0 + (k - 0) ≡ k = omega arith in
+      rw e at
+      (tries-longer (k - 0) (b - 0) 0 (ok 0 s) (ok′ 0 u) s u (omega arith) (λ h. both 0 s u (omega arith) r .0) (λ j v w a q. both j v w (omega arith)) (λ j v w a q. more j v w (omega arith) (omega arith)) r)

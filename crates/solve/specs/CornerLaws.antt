@@ -19,7 +19,7 @@ use Rattle.solve.specs.Corner.{SameCells, SameSystem, firstRows}
 
 -- ---- two matrices that agree in the corner
 
-set-cell : (k r c : ℕ) (m n : List Float) (v w : Float) → k ≤ 16 → r < k → c < k → SameCells k m n → v ≡ w → SameCells k (set m (16 * r + c) v) (set n (16 * r + c) w)
+pub set-cell : (k r c : ℕ) (m n : List Float) (v w : Float) → k ≤ 16 → r < k → c < k → SameCells k m n → v ≡ w → SameCells k (set m (16 * r + c) v) (set n (16 * r + c) w)
 set-cell k r c m n v w h hr hc q e =
     record {
       long = omega (arith, length-set m (16 * r + c) v, q .long);

@@ -74,7 +74,7 @@ module _ (k : ℕ) (h : k ≤ 16) (b : List Float) where
   unfolding clearBelow
   below-within p s w = from-keeps (λ (u : System). Within k b (u .b)) (clearRow k p) (p + 1) k s (λ r u i l o. row-within p r u l o) w
 
-  eliminate-within : (start : List Float) (s : System) → Within k b (s .b) → Within k b (eliminate start k s .state .b)
+  pub eliminate-within : (start : List Float) (s : System) → Within k b (s .b) → Within k b (eliminate start k s .state .b)
   unfolding eliminate
   eliminate-within start s w = while-keeps (λ (u : System). Within k b (u .b)) (pivotHolds start) (clearBelow k) 0 k s (λ p u i l o. below-within p u o) w
 

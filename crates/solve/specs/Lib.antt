@@ -4,3 +4,5 @@ pub mod SolveLaws
 pub mod Corner
 pub mod CornerLaws
 pub mod Laws
+pub mod Nested
+pub mod NestedLaws

@@ -9,6 +9,7 @@ ghost use lib.ListN.{length};
 ghost use Rattle.basis.specs.Sizes.{matrixPlaces, maxTerms, sumPlaces};
 ghost use Rattle.solve.specs.Solve.{eliminate as eliminateF, back, matrixOf, rightOf, solve as solveF, ridge as ridgeF, putColumn, inverse as inverseF};
 ghost use Rattle.solve.specs.Corner.{firstRows};
+ghost use Rattle.solve.specs.Nested.{stopped, elimination, front as frontF, solutionOf};
 
 // 2 to the power −48.
 const PIVOT_RATIO: f64 = f64::from_bits(0x3CF0_0000_0000_0000);
@@ -124,6 +125,53 @@ pub fn solve(sums: &[f64], k: CoefficientCount) -> Solved
     }
     back_substitution(k, &m, &mut b);
     Solved { held, c: b }
+}
+
+// An elimination: how many pivots held, and M and b then.
+pub struct Elimination {
+    pub held: usize,
+    pub m: [f64; MATRIX],
+    pub b: [f64; TERMS],
+}
+
+// Eliminates for k coefficients, from the corner of A and from g. It serves all smaller counts too.
+pub fn eliminated(sums: &[f64], k: CoefficientCount) -> Elimination
+    requires { ⌜ (sumPlaces ≤ length (now sums)) × (k .0 ≤ maxTerms) ⌝ }
+    ensures { λ r. ⌜ stopped (r .held) (r .m) (r .b) ≡ elimination (now (sums .entry)) (k .0) ⌝ }
+{
+    let mut m = first_rows(sums, k);
+    let mut b = right_of(sums, k);
+    let held = eliminate(sums, k, &mut m, &mut b);
+    Elimination { held, m, b }
+}
+
+// The first k places of b, then +0.
+fn front(k: CoefficientCount, b: &[f64; TERMS]) -> [f64; TERMS]
+    requires { ⌜ k .0 ≤ maxTerms ⌝ }
+    ensures { λ r. ⌜ r ≡ frontF (k .0) (now (b .entry)) ⌝ }
+{
+    let n = k.0;
+    let mut c = [0.0; TERMS];
+    for i in 0..n {
+        c[i] = b[i];
+    }
+    c
+}
+
+// The k coefficients, from an elimination of at least as many.
+pub fn solution(held: usize, m: &[f64; MATRIX], b: &[f64; TERMS], k: CoefficientCount) -> Solved
+    requires { ⌜ k .0 ≤ maxTerms ⌝ }
+    ensures { λ r. ⌜ r ≡ solutionOf (k .0) (stopped held (now (m .entry)) (now (b .entry))) ⌝ }
+{
+    if held < k.0 {
+        return Solved {
+            held,
+            c: [0.0; TERMS],
+        };
+    }
+    let mut c = front(k, b);
+    back_substitution(k, m, &mut c);
+    Solved { held: k.0, c }
 }
 
 // Adds 2⁻⁵² to each diagonal place of the corner.

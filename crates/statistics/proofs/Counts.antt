@@ -3,7 +3,7 @@ use mathlib.Core.Path.{_≡_, refl, sym, ap, subst, _∙_}
 use mathlib.Core.Bool.{Bool, true, false, not, _&&_}
 use mathlib.Core.List.{List, [], _∷_, _++_, map, map-append}
 use mathlib.Core.Logic.{_⊎_, inl, inr}
-use Prim.Native.Nat.{ℕ, suc, _+_, _≤_, _<_, zero-le}
+use Prim.Native.Nat.{ℕ, suc, _+_, _-_, _≤_, _<_, zero-le}
 use native.Mathlib.Nat.{le-refl, le-trans, zero-add, add-comm}
 use native.Mathlib.Numerals.{add-one}
 use native.Mathlib.Omega.{arith}
@@ -21,7 +21,7 @@ use Rattle.loops.specs.FoldLaws.{fold-map-again}
 use Rattle.value.specs.Absolute.{absF}
 use Rattle.value.specs.Keys.{bits-le, plain-fits}
 use Rattle.statistics.specs.Medians.{sort}
-use Rattle.statistics.specs.Counting.{Plain, distances, one, count, upto, under, AtPlace, Narrowed, nearer, farther, leastFrom, greatestUnder}
+use Rattle.statistics.specs.Counting.{Plain, distances, one, count, upto, under, AtPlace, Middles, Narrowed, nearer, farther, leastFrom, greatestUnder}
 use Rattle.statistics.proofs.Sorting.{place, all-sort, length-sort}
 
 -- ---- counts along a list
@@ -31,7 +31,7 @@ unfolding count
 count-snoc p [] x = add-comm (one (p x)) 0
 count-snoc p (y ∷ ys) x = let h = count-snoc p ys x in omega arith
 
-count-again : (p : Float → Bool) (f : Float → Float) (l : List Float) (d : Float) (i : ℕ) → i < length l
+pub count-again : (p : Float → Bool) (f : Float → Float) (l : List Float) (d : Float) (i : ℕ) → i < length l
     → count p (map f (take (i + 1) l)) ≡ count p (map f (take i l)) + one (p (f (getD l i d)))
 count-again p f l d i h =
     ap (λ m. count p (map f m)) (ap (λ k. take k l) (add-one i) ∙ take-suc l i d h) ∙ ap (count p) (map-append f (take i l) (getD l i d ∷ []))
@@ -62,7 +62,7 @@ one-mono true true f = omega arith
 one-mono true false f = absurd (f tt)
 one-mono false b f = zero-le
 
-count-mono : (p q : Float → Bool) (l : List Float) → ((x : Float) → T (p x) → T (q x)) → count p l ≤ count q l
+pub count-mono : (p q : Float → Bool) (l : List Float) → ((x : Float) → T (p x) → T (q x)) → count p l ≤ count q l
 unfolding count
 count-mono p q [] f = zero-le
 count-mono p q (x ∷ xs) f = let a = one-mono (p x) (q x) (f x) in let b = count-mono p q xs f in omega arith
@@ -276,18 +276,43 @@ placed l a m b p h =
     ∙ ofBits-toBits binary64 (getD (sort l) m nan)
     (plain-fits (getD (sort l) m nan) (all-at Plain (sort l) m nan (all-sort Plain l a) (rw (← length-sort l) at h)))
 
--- a range cut down: what stands at place m is the least from the bits on where m are under them, and else the bits' double
-module _ (l : List Float) (a : All Plain l) (m bits below : ℕ) (h : m < length l) (p : Narrowed l m bits below) where
-  pub least-stands : below ≡ m → AtPlace l m (leastFrom bits l)
-  least-stands e = least-place l a m bits (let s = p .small in omega arith) (sym (p .is) ∙ e) h
+-- the place before has the same bits, where fewer are under them
+place-before : (l : List Float) (m b : ℕ) → AtPlace l m b → count (under b) l < m → AtPlace l (m - 1) b
+place-before l m b p h = let q = p .reached in record { small = p .small; below = omega arith; reached = omega arith }
 
-  pub bits-stand : (below ≡ m → ⊥) → AtPlace l m bits
-  bits-stand n = record { small = p .small; below = rw (p .is) at (p .most); reached = past (p .reached) }
+-- where m are under b, the greatest under b and the least from b on stand before place m and at it
+pub edges-stand : (l : List Float) → All Plain l → (m b : ℕ) → m < length l → b ≤ 0x7FF0_0000_0000_0000 → count (under b) l ≡ m → Middles l m (greatestUnder b l) (leastFrom b l)
+edges-stand l a m b h s e =
+    record {
+      upper = least-place l a m b (omega arith) e h;
+      lower = λ p. greatest-place l (m - 1) b s (let z : m ≡ m - 1 + 1 = omega arith in e ∙ z);
+    }
+
+-- what a range cut down to `few` is, where fewer than m are under it
+module _ (l : List Float) (m few lo hi below : ℕ) (p : Narrowed l m few lo hi below) (n : below ≡ m → ⊥) where
+  -- a single number, and then that one stands at both places
+  pub single-stands : lo ≡ hi → Middles l m lo lo
+  single-stands e =
+      let q = p .is in
+      let t = p .most in
+      let s = p .small in
+      let at : AtPlace l m lo = record { small = omega arith; below = omega arith; reached = rw e (p .reached) } in
+      record { upper = at; lower = λ _. place-before l m lo at (omega (arith, n)) }
+
+  -- or no more than so many
+  pub few-left : (lo ≡ hi → ⊥) → count (upto hi) l ≤ below + few
+  few-left o = left (p .stops)
     where
-      past : (below ≡ m) ⊎ (m < count (upto bits) l) → m < count (upto bits) l
-      past (inl e) = absurd (n e)
-      past (inr q) = q
+      left : (below ≡ m) ⊎ ((lo ≡ hi) ⊎ (count (upto hi) l ≤ below + few)) → count (upto hi) l ≤ below + few
+      left (inl e) = absurd (n e)
+      left (inr (inl e)) = absurd (o e)
+      left (inr (inr h)) = h
 
--- and so does the place before, where fewer are under the bits
-pub place-before : (l : List Float) (m b : ℕ) → AtPlace l (m + 1) b → count (under b) l ≤ m → AtPlace l m b
-place-before l m b p h = let q = p .reached in record { small = p .small; below = h; reached = omega arith }
+-- cut down to none it is a single one
+pub none-left : (l : List Float) (m lo hi below : ℕ) → Narrowed l m 0 lo hi below → (below ≡ m → ⊥) → lo ≡ hi
+none-left l m lo hi below p n = left (p .stops)
+  where
+    left : (below ≡ m) ⊎ ((lo ≡ hi) ⊎ (count (upto hi) l ≤ below + 0)) → lo ≡ hi
+    left (inl e) = absurd (n e)
+    left (inr (inl e)) = e
+    left (inr (inr h)) = absurd (let q = p .most in let r = p .reached in omega arith)

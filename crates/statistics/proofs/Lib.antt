@@ -3,3 +3,4 @@ pub mod Roots
 pub mod Sorting
 pub mod Counts
 pub mod Deviations
+pub mod Kept

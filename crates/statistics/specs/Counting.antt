@@ -4,7 +4,7 @@ use mathlib.Core.Bool.{Bool, true, false, cond, not, _&&_}
 use mathlib.Core.Path.{_≡_}
 use mathlib.Core.List.{List, [], _∷_, map}
 use mathlib.Core.Logic.{_⊎_}
-use Prim.Native.Nat.{ℕ, _+_, _≤_, _<_}
+use Prim.Native.Nat.{ℕ, _+_, _-_, _≤_, _<_}
 use lib.Dec.{T, leb, ltb}
 use lib.Ieee.{Float, binary64, sub, toBits}
 use Rattle.loops.specs.Fold.{fold}
@@ -42,12 +42,28 @@ pub record AtPlace (l : List Float) (m b : ℕ) : Type 0 where
   pub below : count (under b) l ≤ m
   pub reached : m < count (upto b) l
 
--- A range cut down to where place m is looked for: `below` are under the bits, and they are m, or more than m are up to the bits.
-pub record Narrowed (l : List Float) (m bits below : ℕ) : Type 0 where
-  pub small : bits ≤ 0x7FF0_0000_0000_0000
-  pub is : below ≡ count (under bits) l
+-- low and high stand at place m and at the one before it, if there is one
+pub record Middles (l : List Float) (m low high : ℕ) : Type 0 where
+  pub upper : AtPlace l m high
+  pub lower : 0 < m → AtPlace l (m - 1) low
+
+-- A range from lo to hi that place m is looked for in, cut down: `below` are under lo, and they are m, or lo is hi, or no more than `few` lie in it.
+pub record Narrowed (l : List Float) (m few lo hi below : ℕ) : Type 0 where
+  pub ordered : lo ≤ hi
+  pub small : hi ≤ 0x7FF0_0000_0000_0000
+  pub is : below ≡ count (under lo) l
   pub most : below ≤ m
-  pub reached : (below ≡ m) ⊎ (m < count (upto bits) l)
+  pub reached : m < count (upto hi) l
+  pub stops : (below ≡ m) ⊎ ((lo ≡ hi) ⊎ (count (upto hi) l ≤ below + few))
+
+-- whether a double's bits lie from lo to hi
+abbrev pub between : ℕ → ℕ → Float → Bool
+between lo hi x = leb lo (toBits binary64 x) && leb (toBits binary64 x) hi
+
+-- those of a list that pass a test, in their order
+unfoldable pub keep : (Float → Bool) → List Float → List Float
+keep p [] = []
+keep p (x ∷ xs) = let r = keep p xs in cond (p x) (x ∷ r) r
 
 -- of k and v: k where it is b or above, and below v
 unfoldable pub nearer : ℕ → ℕ → ℕ → ℕ

@@ -2,13 +2,14 @@
 // The numbers are the deviations ||x| − d| of the sizes of the first n of a from d. They are worked out anew in each pass, and not stored.
 ghost use mathlib.Core.Path.{_≡_};
 ghost use Prim.Native.Nat.{_+_, _≤_, _<_};
+ghost use mathlib.Core.Bool.{_&&_};
 ghost use lib.Dec.{leb};
-ghost use lib.ListN.{length, getD, take};
-ghost use lib.Ieee.{nan, binary64, sub, toBits};
+ghost use lib.ListN.{length, take};
+ghost use lib.Ieee.{binary64, sub, toBits};
 ghost use Rattle.loops.specs.All.{All};
 ghost use Rattle.value.specs.Absolute.{absF};
-ghost use Rattle.statistics.specs.Medians.{anyNan, sort, midpoint as midpointF, medianOf};
-ghost use Rattle.statistics.specs.Counting.{Plain, distances, one, count, upto, under, Narrowed, nearer as nearerF, farther as fartherF, leastFrom};
+ghost use Rattle.statistics.specs.Medians.{anyNan, midpoint as midpointF, medianOf};
+ghost use Rattle.statistics.specs.Counting.{Plain, distances, one, count, upto, under, between, keep, Middles, Narrowed, nearer as nearerF, farther as fartherF};
 
 // The bits of ||x| − d|.
 fn key(x: f64, d: f64) -> u64
@@ -61,18 +62,6 @@ fn farther(b: u64, k: u64, v: u64) -> u64
 {
     if (k < b) & (v < k) {
         return k;
-    }
-    v
-}
-
-// The least bits that are b or above.
-fn least_from(a: &[f64], n: usize, d: f64, b: u64) -> u64
-    requires { ⌜ (n ≤ length (now a)) × All Plain (distances d (take n (now a))) ⌝ }
-    ensures { λ r. ⌜ r ≡ leastFrom b (distances d (take n (now (a .entry)))) ⌝ }
-{
-    let mut v: u64 = 0x7FF0_0000_0000_0000;
-    for i in 0..n {
-        v = nearer(b, key(a[i], d), v);
     }
     v
 }
@@ -134,17 +123,18 @@ fn cut(first: u64, turn: u64, lo: u64, hi: u64, below: usize, upto: usize, m: us
     within(by_rank(lo, hi, below, upto, m), lo, hi)
 }
 
-// Where a place is looked for: bits, and how many are under them.
-struct Place {
-    bits: u64,
+// A range that a place is looked for in: bits from lo to hi, and how many are under lo.
+struct Range {
+    lo: u64,
+    hi: u64,
     below: usize,
 }
 
 // Looks for place m, from 0. Its bits lie from lo to hi; `below` are under lo, `upto` up to hi. The range is cut until m are under lo, so that the least
-// from lo on stands at place m, or until lo is hi, which stands there itself.
-fn narrow(a: &[f64], n: usize, d: f64, m: usize) -> Place
+// from lo on stands at place m, or until lo is hi, which stands there itself, or until no more than `few` lie in it.
+fn narrow(a: &[f64], n: usize, d: f64, m: usize, few: usize) -> Range
     requires { ⌜ (n ≤ length (now a)) × All Plain (distances d (take n (now a))) × (m < n) ⌝ }
-    ensures { λ r. ⌜ Narrowed (distances d (take n (now (a .entry)))) m (r .bits) (r .below) ⌝ }
+    ensures { λ r. ⌜ Narrowed (distances d (take n (now (a .entry)))) m few (r .lo) (r .hi) (r .below) ⌝ }
 {
     let first = sampled(a, n, d);
     let mut lo: u64 = 0;
@@ -154,7 +144,10 @@ fn narrow(a: &[f64], n: usize, d: f64, m: usize) -> Place
     let mut turn: u64 = 0;
     while lo < hi {
         if below == m {
-            return Place { bits: lo, below };
+            return Range { lo, hi, below };
+        }
+        if upto - below <= few {
+            return Range { lo, hi, below };
         }
         let mid = cut(first, turn, lo, hi, below, upto, m);
         let found = count_upto(a, n, d, mid);
@@ -167,19 +160,106 @@ fn narrow(a: &[f64], n: usize, d: f64, m: usize) -> Place
             below = found;
         }
     }
-    Place { bits: lo, below }
+    Range { lo, hi, below }
 }
 
-// The number at place m.
-fn select(a: &[f64], n: usize, d: f64, m: usize) -> f64
-    requires { ⌜ (n ≤ length (now a)) × All Plain (distances d (take n (now a))) × (m < n) ⌝ }
-    ensures { λ r. ⌜ r ≡ getD (sort (distances d (take n (now (a .entry))))) m nan ⌝ }
+// The bits of two numbers next to each other in order.
+struct Pair {
+    low: u64,
+    high: u64,
+}
+
+// The greatest bits under b and the least that are not, where m are under b.
+fn edges(a: &[f64], n: usize, d: f64, m: usize, b: u64) -> Pair
+    requires { ⌜ (n ≤ length (now a)) × All Plain (distances d (take n (now a))) × (m < n) × (b ≤ 0x7FF0_0000_0000_0000) × (count (under b) (distances d (take n (now a))) ≡ m) ⌝ }
+    ensures { λ r. ⌜ Middles (distances d (take n (now (a .entry)))) m (r .low) (r .high) ⌝ }
 {
-    let c = narrow(a, n, d, m);
-    if c.below == m {
-        return f64::from_bits(least_from(a, n, d, c.bits));
+    let mut low: u64 = 0;
+    let mut high: u64 = 0x7FF0_0000_0000_0000;
+    for i in 0..n {
+        let k = key(a[i], d);
+        low = farther(b, k, low);
+        high = nearer(b, k, high);
     }
-    f64::from_bits(c.bits)
+    Pair { low, high }
+}
+
+// The numbers at place m and before it. Where more than m are up to the bits at place m, and fewer than m under them, both are the same.
+fn middles(a: &[f64], n: usize, d: f64, m: usize) -> Pair
+    requires { ⌜ (n ≤ length (now a)) × All Plain (distances d (take n (now a))) × (m < n) ⌝ }
+    ensures { λ r. ⌜ Middles (distances d (take n (now (a .entry)))) m (r .low) (r .high) ⌝ }
+{
+    let r = narrow(a, n, d, m, 0);
+    if r.below == m {
+        return edges(a, n, d, m, r.lo);
+    }
+    Pair {
+        low: r.lo,
+        high: r.lo,
+    }
+}
+
+// 1 where k lies from lo to hi, else 0.
+fn lies(k: u64, lo: u64, hi: u64) -> usize
+    ensures { λ r. ⌜ (r ≡ one (leb lo k && leb k hi)) × (r ≤ 1) ⌝ }
+{
+    if (lo <= k) & (k <= hi) {
+        return 1;
+    }
+    0
+}
+
+// Copies the numbers whose bits lie from lo to hi, and answers how many they are. Each number is written, and the next one over it where it does not lie
+// there, which needs no branch, and a place more.
+fn gather(a: &[f64], n: usize, d: f64, lo: u64, hi: u64, out: &mut [f64]) -> usize
+    requires { ⌜ (n ≤ length (now a)) × All Plain (distances d (take n (now a))) × (count (between lo hi) (distances d (take n (now a))) < length (now out)) ⌝ }
+    ensures { λ r. ⌜ r ≡ count (between lo hi) (distances d (take n (now (a .entry)))) ⌝ }
+    ensures { λ r. ⌜ take r (now (out .exit)) ≡ keep (between lo hi) (distances d (take n (now (a .entry)))) ⌝ }
+{
+    let mut c: usize = 0;
+    for i in 0..n {
+        let k = key(a[i], d);
+        out[c] = f64::from_bits(k);
+        c = c + lies(k, lo, hi);
+    }
+    c
+}
+
+// So many are copied.
+const FEW: usize = 512;
+
+// The same of many numbers: once few lie in the range, the others are not read any more.
+fn middles_of_many(a: &[f64], n: usize, d: f64, m: usize) -> Pair
+    requires { ⌜ (n ≤ length (now a)) × All Plain (distances d (take n (now a))) × (m < n) ⌝ }
+    ensures { λ r. ⌜ Middles (distances d (take n (now (a .entry)))) m (r .low) (r .high) ⌝ }
+{
+    let r = narrow(a, n, d, m, FEW);
+    if r.below == m {
+        return edges(a, n, d, m, r.lo);
+    }
+    if r.lo == r.hi {
+        return Pair {
+            low: r.lo,
+            high: r.lo,
+        };
+    }
+    let mut few = [0.0; FEW + 1];
+    let c = gather(a, n, d, r.lo, r.hi, &mut few);
+    middles(&few, c, 0.0, m - r.below)
+}
+
+// The copying pays above so many numbers.
+const MANY: usize = 2048;
+
+// The same.
+fn middles_from(a: &[f64], n: usize, d: f64, m: usize) -> Pair
+    requires { ⌜ (n ≤ length (now a)) × All Plain (distances d (take n (now a))) × (m < n) ⌝ }
+    ensures { λ r. ⌜ Middles (distances d (take n (now (a .entry)))) m (r .low) (r .high) ⌝ }
+{
+    if n <= MANY {
+        return middles(a, n, d, m);
+    }
+    middles_of_many(a, n, d, m)
 }
 
 // The midpoint of the two middle values. Halves are added only where the sum is infinite, since those of the least doubles are lost.
@@ -191,35 +271,6 @@ fn midpoint(low: f64, high: f64) -> f64
         return low / 2.0 + high / 2.0;
     }
     sum / 2.0
-}
-
-// The midpoint of the greatest number whose bits are under b and the least one whose bits are not, at places m and m + 1.
-fn midpoint_at(a: &[f64], n: usize, d: f64, m: usize, b: u64) -> f64
-    requires { ⌜ (n ≤ length (now a)) × All Plain (distances d (take n (now a))) × (m + 1 < n) × (b ≤ 0x7FF0_0000_0000_0000) × (count (under b) (distances d (take n (now a))) ≡ m + 1) ⌝ }
-    ensures { λ r. ⌜ r ≡ midpointF (getD (sort (distances d (take n (now (a .entry))))) m nan) (getD (sort (distances d (take n (now (a .entry))))) (m + 1) nan) ⌝ }
-{
-    let mut low: u64 = 0;
-    let mut high: u64 = 0x7FF0_0000_0000_0000;
-    for i in 0..n {
-        let k = key(a[i], d);
-        low = farther(b, k, low);
-        high = nearer(b, k, high);
-    }
-    midpoint(f64::from_bits(low), f64::from_bits(high))
-}
-
-// The midpoint of the numbers at places m and m + 1. Where more than m + 1 are up to the bits at place m + 1, and no more than m under them, both are
-// the same.
-fn select_midpoint(a: &[f64], n: usize, d: f64, m: usize) -> f64
-    requires { ⌜ (n ≤ length (now a)) × All Plain (distances d (take n (now a))) × (m + 1 < n) ⌝ }
-    ensures { λ r. ⌜ r ≡ midpointF (getD (sort (distances d (take n (now (a .entry))))) m nan) (getD (sort (distances d (take n (now (a .entry))))) (m + 1) nan) ⌝ }
-{
-    let c = narrow(a, n, d, m + 1);
-    if c.below == m + 1 {
-        return midpoint_at(a, n, d, m, c.bits);
-    }
-    let both = f64::from_bits(c.bits);
-    midpoint(both, both)
 }
 
 // Whether one of the first n of a is a NaN.
@@ -270,8 +321,10 @@ pub fn median_from(a: &[f64], n: usize, d: f64) -> f64
     if any_nan(a, n, d) {
         return 0.0 / 0.0;
     }
+    let p = middles_from(a, n, d, n / 2);
+    let high = f64::from_bits(p.high);
     if n % 2 == 1 {
-        return select(a, n, d, n / 2);
+        return high;
     }
-    select_midpoint(a, n, d, n / 2 - 1)
+    midpoint(f64::from_bits(p.low), high)
 }

@@ -31,6 +31,7 @@ use Rattle.frame.specs.PlainLaws.{plain-sound, plain-neither, plain-number, pla
 use Rattle.loops.specs.Digits.{number}
 use Rattle.book.specs.Refusals as weighted
 use Rattle.book.specs.RefusalLaws.{correct-room, withdraw-room}
+use Rattle.lent.specs.Gaps.{withoutAt}
 use Rattle.book.specs.Calls as book
 use Rattle.ledger.specs.Ledger as whole
 use Rattle.two_column.specs.Pairs.{Pair, pairOf, pairRows, atWeightOne, Columns, lengths, pairsOf, withPair, withNewY}
@@ -67,8 +68,8 @@ drop-same zero m a h = let e : m ≡ m - 0 = omega arith in ap (λ j. replicate 
 drop-same (suc k) zero a h = absurd (omega arith)
 drop-same (suc k) (suc m) a h = let e : m - k ≡ suc m - suc k = omega arith in drop-same k m a (omega arith) ∙ ap (λ j. replicate j a) e
 
-without-same : (i n m : ℕ) (a : Float) → i < n → n ≤ m → book.withoutAt i n (replicate m a) ≡ replicate m a
-unfolding book.withoutAt
+without-same : (i n m : ℕ) (a : Float) → i < n → n ≤ m → withoutAt i n (replicate m a) ≡ replicate m a
+unfolding withoutAt
 without-same i n m a h g =
     let k = n - 1 - i in
     let whole : i + k + (m - (i + k)) ≡ m = omega arith in
@@ -257,7 +258,7 @@ module _ (n : ℕ) (c : Columns) (sums : List Float) where
       let s = ap (λ d. sumsOf (weightedRows (samplesOf (n - 1) d))) new ∙ sums-at-columns (n - 1) (withoutPair i n c) (omega (arith, r .0 .most)) in
       λ j. record { answer = book.bookOf (n - 1); columns = new j; sums = s j ++ drop 272 sums })
     where
-      left : i < n → n ≤ places → (λ k. book.withoutAt i n (withOnes c k)) ≡ withOnes (withoutPair i n c)
+      left : i < n → n ≤ places → (λ k. withoutAt i n (withOnes c k)) ≡ withOnes (withoutPair i n c)
       left h g = fun-ext (elim [ ofX ↦ refl | ofY ↦ refl | ofW ↦ without-same i n places oneF h g ])
 
 -- many adds

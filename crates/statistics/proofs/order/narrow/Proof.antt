@@ -12,11 +12,11 @@ use Rattle.statistics.proofs.order.narrow.Statement.{statement}
 use Rattle.statistics.proofs.order.narrow.Tie as tie
 
 abbrev Inv-loop : tie.InvT-loop
-Inv-loop a n d m first lo₀ hi₀ below₀ upto₀ turn₀ lo hi below upto turn =
-    (lo ≤ hi) × (hi ≤ 0x7FF0_0000_0000_0000) × (below ≡ count (under lo) (distances d (take n a))) × (below ≤ m) × (m < count (bitsUpto hi) (distances d (take n a)))
+Inv-loop a n d m few first lo₀ hi₀ below₀ upto₀ turn₀ lo hi below upto turn =
+    (lo ≤ hi) × (hi ≤ 0x7FF0_0000_0000_0000) × (below ≡ count (under lo) (distances d (take n a))) × (below ≤ m) × (m < upto) × (upto ≡ count (bitsUpto hi) (distances d (take n a)))
 
 abbrev μ-loop : tie.MeasureT-loop
-μ-loop a n d m first lo₀ hi₀ below₀ upto₀ turn₀ lo hi below upto turn = hi - lo
+μ-loop a n d m few first lo₀ hi₀ below₀ upto₀ turn₀ lo hi below upto turn = hi - lo
 
 sampled-requires : tie.Need-sampled-requires Inv-loop μ-loop
 sampled-requires c κs = let p = c .before .pre in (p .0, p .1, omega arith)
@@ -26,30 +26,36 @@ loop-holds c =
     let s = c .before .before in
     let l = distances (s .args .d) (take (s .args .n) (s .args .a .now)) in
     let e = length-distances (s .args .d) (s .args .n) (s .args .a .now) (s .pre .0) in
-    (omega arith, omega arith, sym (under-zero l), omega arith, rw (upto-all l (s .pre .1), e) (s .pre .2))
+    (omega arith, omega arith, sym (under-zero l), omega arith, s .pre .2, sym (upto-all l (s .pre .1) ∙ e))
 
 returns : tie.Need-returns Inv-loop μ-loop
 returns c =
-    let at-loop = c .before .before .loop in
-    record { small = omega arith; is = at-loop .inv .2; most = at-loop .inv .3; reached = inl (c .if1 .taken) }
-
-loop-again : tie.Need-loop-again Inv-loop μ-loop
-loop-again c =
-    let at-loop = c .before .before .before .before .before .loop in
-    (omega arith, omega arith, at-loop .inv .2, at-loop .inv .3, rw (c .before .count-upto .ensures) at (c .if2 .taken))
-
-loop-again-2 : tie.Need-loop-again-2 Inv-loop μ-loop
-loop-again-2 c =
-    let at-loop = c .before .before .before .before .before .loop in
-    let s = c .before .before .before .before .before .before .before .before in
-    let l = distances (s .args .d) (take (s .args .n) (s .args .a .now)) in
-    (omega arith, at-loop .inv .1, c .before .count-upto .ensures ∙ sym (under-next (c .before .before .cut .result) l), c .if2 .left, at-loop .inv .4)
+    let i = c .before .before .loop .inv in
+    record { ordered = i .0; small = i .1; is = i .2; most = i .3; reached = rw (i .5) at (i .4); stops = inl (c .if1 .taken) }
 
 returns-2 : tie.Need-returns-2 Inv-loop μ-loop
 returns-2 c =
-    let at-loop = c .before .loop in
-    let z : at-loop .lo ≡ at-loop .hi = omega arith in
-    record { small = omega arith; is = at-loop .inv .2; most = at-loop .inv .3; reached = inr (rw z (at-loop .inv .4)) }
+    let i = c .before .before .before .loop .inv in
+    let q = i .5 in
+    let t = c .if2 .taken in
+    record { ordered = i .0; small = i .1; is = i .2; most = i .3; reached = rw (i .5) at (i .4); stops = inr (inr (omega (arith, q, t))) }
+
+loop-again : tie.Need-loop-again Inv-loop μ-loop
+loop-again c =
+    let i = c .before .before .before .before .before .before .loop .inv in
+    (omega arith, omega arith, i .2, i .3, c .if3 .taken, c .before .count-upto .ensures)
+
+loop-again-2 : tie.Need-loop-again-2 Inv-loop μ-loop
+loop-again-2 c =
+    let i = c .before .before .before .before .before .before .loop .inv in
+    let s = c .before .before .before .before .before .before .before .before .before in
+    let l = distances (s .args .d) (take (s .args .n) (s .args .a .now)) in
+    (omega arith, i .1, c .before .count-upto .ensures ∙ sym (under-next (c .before .before .cut .result) l), c .if3 .left, i .4, i .5)
+
+returns-3 : tie.Need-returns-3 Inv-loop μ-loop
+returns-3 c =
+    let i = c .before .loop .inv in
+    record { ordered = i .0; small = i .1; is = i .2; most = i .3; reached = rw (i .5) at (i .4); stops = inr (inl (omega arith)) }
 
 pub narrow-spec : {M : Type 1} → statement M
 narrow-spec =
@@ -60,12 +66,14 @@ narrow-spec =
     sampled-requires
     loop-holds
     returns
+    (λ c. search needs)
+    returns-2
     (λ c κs. search needs)
-    (λ c κs. let s = c .before .before .before .before .before .before in (s .pre .0, s .pre .1, omega arith))
+    (λ c κs. let s = c .before .before .before .before .before .before .before in (s .pre .0, s .pre .1, omega arith))
     (λ c. search needs)
     (λ c. search needs)
     loop-again
     (λ c. search needs)
     (λ c. search needs)
     loop-again-2
-    returns-2)
+    returns-3)

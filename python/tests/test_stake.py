@@ -1,0 +1,863 @@
+"""The command `stake`, run as a program, over the library that is found (STAKEBOOK_LIBRARY, or `make`'s in the checkout).
+
+    python3 python/tests/test_stake.py
+    python3 python/tests/test_stake.py --guide      writes the answers of the session in docs/STAKE.md anew
+
+A report's numbers are compared with the judge's (tests/season.answers), words of refusals with include/refusals.txt.
+
+The command always runs in a process of its own, with its own output and exit status. Whole seasons, the guide's session and what a terminal sees are run from the
+script; the many short calls of other tests are forked, which spares each of them the start of Python.
+"""
+
+import contextlib
+import io
+import json
+import os
+import pty
+import re
+import resource
+import shlex
+import shutil
+import signal
+import struct
+import subprocess
+import sys
+import tempfile
+import textwrap
+import threading
+import time
+import traceback
+import unittest
+from pathlib import Path
+from unittest import mock
+
+ROOT = Path(__file__).resolve().parents[2]
+sys.path.insert(0, str(ROOT / "python"))
+
+from stakebook import Book, _library, command
+from stakebook.season import Season
+
+STAKE = str(ROOT / "bin" / "stake")
+LIBRARY = _library.library().path
+WORDS = dict(line.split("\t") for line in (ROOT / "include" / "refusals.txt").read_text(encoding="utf-8").splitlines())
+GUIDE = ROOT / "docs" / "STAKE.md"
+EPOCH = "1773478800"
+WRITE, FSYNC = os.write, os.fsync
+
+
+def environment(**more):
+    return {**os.environ, "STAKEBOOK_LIBRARY": LIBRARY, "SOURCE_DATE_EPOCH": EPOCH, "PYTHONPATH": "", **more}
+
+
+def forked(words, folder, prepare=None, terminal=None):
+    """The command in a process of its own that begins where this one is, with all modules loaded. Standard error may be a terminal."""
+    with tempfile.TemporaryFile() as out, tempfile.TemporaryFile() as err:
+        child = os.fork()
+        if not child:
+            status = 70
+            try:
+                os.dup2(out.fileno(), 1)
+                os.dup2(err.fileno() if terminal is None else terminal, 2)
+                sys.stdout, sys.stderr = open(1, "w", encoding="utf-8", closefd=False), open(2, "w", encoding="utf-8", closefd=False)
+                os.chdir(folder)
+                os.environ["SOURCE_DATE_EPOCH"] = EPOCH
+                if prepare is not None:
+                    prepare()
+                try:
+                    status = command.main(list(words))
+                except SystemExit as error:
+                    status = error.code
+            except BaseException:
+                traceback.print_exc()
+            finally:
+                sys.stdout.flush()
+                sys.stderr.flush()
+                os._exit(status)
+        end = time.monotonic() + 60
+        while True:
+            done, how = os.waitpid(child, os.WNOHANG)
+            if done:
+                break
+            if time.monotonic() > end:
+                os.kill(child, signal.SIGKILL)
+            time.sleep(0.001)
+        out.seek(0)
+        err.seek(0)
+        status = os.WEXITSTATUS(how) if os.WIFEXITED(how) else -os.WTERMSIG(how)
+        return subprocess.CompletedProcess(words, status, out.read(), err.read())
+
+
+def started(words, folder, **more):
+    """The script."""
+    return subprocess.run([sys.executable, STAKE, *words], stdout=subprocess.PIPE, stderr=subprocess.PIPE, env=environment(**more), cwd=folder, timeout=60)
+
+
+def double(bits):
+    return struct.unpack(">d", bytes.fromhex(bits))[0]
+
+
+class Command(unittest.TestCase):
+    def setUp(self):
+        folder = tempfile.TemporaryDirectory()
+        self.addCleanup(folder.cleanup)
+        self.folder = folder.name
+        self.season = os.path.join(folder.name, "s.stake")
+
+    def file(self, name, text):
+        path = os.path.join(self.folder, name)
+        with open(path, "wb") as file:
+            file.write(text if isinstance(text, bytes) else text.encode())
+        return path
+
+    def data(self):
+        with open(self.season, "rb") as file:
+            return file.read()
+
+    #: Whether calls are forked, or run from the script.
+    forks = True
+
+    def run_stake(self, *words, status=0, prepare=None):
+        done = forked(words, self.folder, prepare) if self.forks else started(words, self.folder)
+        self.assertEqual(done.returncode, status, (words, done.stdout, done.stderr))
+        self.assertNotIn(b"Traceback", done.stderr)
+        return done
+
+    def stake(self, *words, **options):
+        """What it printed."""
+        done = self.run_stake(*words, **options)
+        self.assertEqual(done.stderr, b"", words)
+        return done.stdout.decode()
+
+    def fails(self, *words, status=1, **options):
+        """What it said on standard error."""
+        done = self.run_stake(*words, status=status, **options)
+        self.assertEqual(done.stdout, b"", words)
+        return done.stderr.decode()
+
+    def json(self, *words):
+        return json.loads(self.stake(*words, "--json"), parse_constant=self.fail)
+
+    def made(self, *rows, **settings):
+        """A season with these readings, made without the command."""
+        season = Season.create(self.season, command.SettingsText(**settings))
+        if rows:
+            from stakebook.season import NewRow
+
+            season.add_rows([NewRow(*row) for row in rows])
+        return season
+
+
+def judged(name, until):
+    """Calls of a list of tests/ with the judge's answers, up to a call."""
+    answers = iter((ROOT / "tests" / f"{name}.answers").read_text().splitlines())
+    pairs = []
+    for call in (ROOT / "tests" / f"{name}.calls").read_text().splitlines():
+        if call and not call.startswith("#"):
+            pairs.append((call, next(answers)))
+            if call == until:
+                return pairs
+    raise AssertionError(until)
+
+
+class WholeSeason(Command):
+    forks = False
+
+    def test_from_a_table_to_a_report_with_the_judges_numbers(self):
+        pairs = judged("season", "show sums 0 272")
+        adds = [tuple(map(double, call.split()[1:3])) for call, _ in pairs if call.startswith("add ")]
+        (frame,) = [bytes.fromhex(call.split()[1]) for call, _ in pairs if call.startswith("frame ")]
+        logged = list(struct.iter_unpack(">2d", frame[3:]))
+        lines = ["\ufeffname;Tiefe [m];Dichte;note"] + [f"P{i};{x!r};{y!r};".replace(".", ",") for i, (x, y) in enumerate(adds)]
+        lines.insert(3, "PX;NA;230,5;lost")
+        self.file("march.csv", "\r\n".join(lines) + "\r\n")
+        self.file("logger.tsv", "when\tx\ty\n" + "".join(f"t\t{x!r}\t{y!r}\n" for x, y in logged))
+
+        reports = [(call, [answer for _, answer in pairs[i : i + 7]]) for i, (call, _) in enumerate(pairs) if call.startswith("report ")]
+        self.assertIn("a new season", self.stake("new", "s.stake", "--bound", "1", "--criterion", "aic", "--pruning", "positive"))
+        said = self.stake("import", "s.stake", "march.csv")
+        self.assertIn("6 readings saved from march.csv, r1 to r6", said)
+        self.assertIn("x 'Tiefe [m]', y 'Dichte', weight 1 (semicolon, decimal comma)", said)
+        self.assertIn("1 line left out, where a number is missing: 4", said)
+        self.compare(reports[0], self.json("report", "s.stake"))
+        self.assertIn("5 readings saved from logger.tsv, r7 to r11", self.stake("import", "s.stake", "logger.tsv"))
+        self.stake("settings", "s.stake", "--bound", "3")
+        self.compare(reports[1], self.json("report", "s.stake"))
+        self.assertIn("r4 saved: y 278, was 287", self.stake("correct", "s.stake", "r4", "278", "--note", "mistyped"))
+        self.compare(reports[2], self.json("report", "s.stake"))
+        self.assertIn("r5 withdrawn and saved; 10 readings", self.stake("withdraw", "s.stake", "r5"))
+
+        # the book is the judge's too, to the last bit of the sums
+        book = Season.open(self.season).book
+        shown = {answer.split()[0]: list(map(double, answer.split()[1:])) for _, answer in pairs[-3:]}
+        self.assertEqual((book.xs, book.ys, book.sums), (shown["xs"][:10], shown["ys"][:10], shown["sums"]))
+
+        listed = self.stake("list", "s.stake")
+        self.assertRegex(listed, r"r4 +P3 +0\.7 +278 +1 +corrected, y was 287(\.0)? +march\.csv:6")
+        self.assertRegex(listed, r"r5 +P4 +0\.9 +290\.0 +1 +withdrawn +march\.csv:7")
+        self.assertIn("10 readings, 1 withdrawn", listed)
+        self.assertIn("import of 5 readings (r7 to r11) from logger.tsv", self.stake("list", "s.stake", "--history"))
+
+        text = self.stake("report", "s.stake", "--at", "1", "--bound", "2")
+        self.assertIn("10 readings, 1 withdrawn; degrees up to 2, AIC, P95, no tolerance, only positive terms pruned", text)
+        self.assertIn("x is 'Tiefe [m]', y is 'Dichte'", text)
+        self.assertIn("8 degrees of freedom: 10 readings less 2 coefficients", text)
+
+        found = self.stake("check", "s.stake")
+        self.assertIn("none damaged", found)
+        self.assertEqual(found.count("10 x's, y's and weights and 272 sums are the same, bit for bit"), 2)
+
+    def test_the_session_of_the_guide(self):
+        for words, expected, printed in guide_session(self.folder):
+            self.assertEqual(printed, expected, words)
+
+    def compare(self, report, printed):
+        """A report's JSON with what the judge printed: report, coefficients, errors, pruned, lower, upper, outliers."""
+        (call, answers), told = report, printed["report"]
+        self.assertEqual(told["settings"]["bound"], int(call.split()[2]))
+        _, degree, solved, outliers, pruned = map(int, answers[0].replace("report", "0").split())
+        self.assertEqual((told["degree"], told["solved"], sum(told["outliers"]), sum(told["pruned"])), (degree, solved, outliers, pruned))
+        shown = {answer.split()[0]: answer.split()[1:] for answer in answers[1:]}
+        n, k = told["n"], degree + 1
+        for name, count in (("coefficients", k), ("errors", k), ("lower", n), ("upper", n)):
+            self.assertEqual(told[name], list(map(double, shown[name][:count])), name)
+        self.assertEqual(told["outliers"], [mark == "1" for mark in shown["outliers"][:n]])
+        outside = [name for name, mark in zip(printed["readings"], shown["outliers"]) if mark == "1"]
+        self.assertEqual(printed["outside"], outside)
+        self.assertEqual(told["df"], n - k)
+        self.assertEqual(printed["scores"]["degree"], degree)
+        self.assertEqual(printed["scores"]["solved"], solved)
+
+
+class Seasons(Command):
+    def test_what_a_report_says(self):
+        # a parabola with noise; r6 lies far off
+        ys = [1.0, 2.1, 4.9, 10.2, 16.9, 46.0, 37.1, 50.0, 64.9, 82.1]
+        self.made(*[(str(x), str(y)) for x, y in enumerate(ys)], bound="3")
+        told = self.json("report", "s.stake")
+        scores = told["scores"]
+        rows = {row["degree"]: row["score"] for row in scores["degrees"]}
+        self.assertEqual(sorted(rows), [0, 1, 2, 3])
+        self.assertEqual(scores["least"], min(rows.values()))
+        self.assertEqual(scores["within"], [degree for degree in sorted(rows) if rows[degree] - scores["least"] <= 2])
+        self.assertEqual(scores["degree"], scores["within"][0])
+        self.assertEqual(told["report"]["degree"], scores["degree"])
+        text = self.stake("report", "s.stake")
+        self.assertIn(f"Degree {scores['degree']}: the lowest whose BIC is at most 2 above the least of the degrees 0 to 3.", text)
+        for degree, score in rows.items():
+            cells = [re.escape(format(value, ".6g")) for value in (score, score - scores["least"])]
+            self.assertRegex(text, rf"\n  {degree} +{cells[0]} +{cells[1]}\b")
+        self.assertRegex(text, rf"\n  {scores['degree']} .*chosen\n")
+        for name, c, e, t, pruned in zip(("1", "x", "x^2", "x^3"), *[told["report"][key] for key in ("coefficients", "errors", "t", "pruned")]):
+            self.assertEqual(t, abs(c) / e)
+            mark = " +pruned" if pruned else ""
+            self.assertRegex(text, rf"\n  {re.escape(name)} +{re.escape(f'{c:.6g}')} +{re.escape(f'{e:.6g}')} +{re.escape(f'{t:.6g}')}{mark}\n")
+        self.assertIn("is where the curve itself lies, not where single readings do", text)
+        self.assertIn("r6", told["outside"])
+        self.assertRegex(text.replace("\n", " "), rf"Outside it lies? {len(told['outside'])} of 10 readings: {', '.join(told['outside'])}\.")
+        self.assertEqual(len(told["warnings"]), 1)
+        self.assertIn("Take care:\n- ", text)
+        self.assertIn("mean curve", " ".join(text.split()))
+
+    def test_where_numbers_can_mislead(self):
+        self.made(*[(str(x), str(x * 3)) for x in range(8)])
+        (first, *_) = self.json("report", "s.stake")["warnings"]
+        self.assertIn("The bound 'relaxed' allows degree 0 alone at 8 readings", first)
+        os.unlink(self.season)
+        # the header: years 2000 to 2020 leave every degree from 3 on unsolved; less their middle, none
+        ys = [(year - 2010) ** 2 + (year * 7919 % 13) for year in range(2000, 2021)]
+        self.made(*[(str(year), str(y)) for year, y in zip(range(2000, 2021), ys)], bound="5")
+        told = self.json("report", "s.stake")
+        self.assertIn("Of the degrees 0 to 5, 3 could not be solved (3, 4, 5): x lies far from 0 beside its spread. Subtract the middle", told["warnings"][0])
+        self.assertIn("unsolved", self.stake("scores", "s.stake"))
+        os.unlink(self.season)
+        self.made(*[(str(year - 2010), str(y)) for year, y in zip(range(2000, 2021), ys)], bound="5")
+        self.assertNotIn("solved", str(self.json("report", "s.stake")["warnings"]))
+
+    def test_the_break_in_two_and_validation(self):
+        self.made(*[(str(x), y) for x, y in enumerate("0 1.1 1.9 3.05 2.95 2.1 0.9 0.02".split())], bound="1", criterion="aic")
+        told = self.json("report", "s.stake", "--split", "--folds", "4", "--at", "0,5", "--at", "7")
+        # include/stakebook.h has the break, its total and its tests
+        self.assertEqual([told["split"][key] for key in ("at", "total", "tests")], [3, -113.35496093152223, 30])
+        self.assertEqual([band["x"] for band in told["bands"]], [0.5, 7.0])
+        self.assertEqual(told["validation"]["folds"], 4)
+        self.assertIn("One side of the break has 3 readings", told["warnings"][-1])
+        text = self.stake("report", "s.stake", "--split", "--folds", "4", "--at", "0,5")
+        self.assertIn("The list breaks between r3 and r4 (total -113.355, 30 pivot tests)", text)
+        self.assertIn("8 readings in 4 folds", text)
+        self.assertRegex(text, r"\nat x .*\n0\.5 ")
+
+    def test_settings_are_shown_changed_and_taken_back(self):
+        self.stake("new", "s.stake", "--confidence", "p99", "--tolerance", "absolute=2,5")
+        first = self.json("settings", "s.stake")
+        self.assertEqual(first, {"bound": "relaxed", "criterion": "bic", "confidence": "P99", "tolerance": ["absolute", 2.5], "pruning": "size"})
+        before = self.data()
+        self.stake("settings", "s.stake", "--bound", "relaxed")
+        self.assertEqual(self.data(), before)
+        self.stake("settings", "s.stake", "--bound", "4", "--confidence", "1,96", "--tolerance", "none", "--criterion", "aic", "--pruning", "positive")
+        self.assertEqual(self.json("settings", "s.stake"), {"bound": 4, "criterion": "aic", "confidence": 1.96, "tolerance": None, "pruning": "positive"})
+        self.assertIn(b"settings bound 4 criterion aic confidence 1.96 tolerance none pruning positive", self.data())
+        self.stake("undo", "s.stake")
+        self.assertEqual(self.json("settings", "s.stake"), first)
+
+    def test_numbers_below_zero_and_exact_ones(self):
+        self.stake("new", "s.stake")
+        self.stake("add", "s.stake", "-0,5", "-212.5")
+        self.stake("add", "s.stake", "-0x1.8p+1", "-0", "--weight", "0x1p-1")
+        self.stake("correct", "s.stake", "r1", "-1,25")
+        listed = self.json("list", "s.stake")["readings"]
+        self.assertEqual([(r["x_text"], r["y_text"], r["weight_text"], r["x"], r["y"]) for r in listed], [("-0.5", "-1.25", "1", -0.5, -1.25), ("-0x1.8p+1", "-0", "0x1p-1", -3.0, 0.0)])
+
+    def test_a_note_does_not_move_the_cursor(self):
+        self.made()
+        self.stake("add", "s.stake", "1", "2", "--note", "a\x1b[2J\nb\u202e", "--source", "Föhn")
+        listed = self.stake("list", "s.stake")
+        self.assertIn("Föhn    a\\x1b[2J\\nb\\u202e\n", listed)
+        self.assertEqual(self.json("list", "s.stake")["readings"][0]["note"], "a\x1b[2J\nb\u202e")
+
+    def test_what_a_list_has_for_programs(self):
+        self.made(("1", "2"), ("3", "4", "2"))
+        self.stake("correct", "s.stake", "r1", "5", "--note", "n", "--source", "s")
+        self.stake("undo", "s.stake")
+        told = self.json("list", "s.stake")
+        self.assertEqual(
+            told["readings"][1],
+            dict(name="r2", called=None, x_text="3", y_text="4", weight_text="2", x=3.0, y=4.0, weight=2.0, state="stands", index=1, was=[], source=None, note=None, line=5),
+        )
+        self.assertEqual([(c["line"], c["lines"], c["call"], c["undone"]) for c in told["history"]], [(2, 1, "new", False), (3, 3, "import", False), (6, 1, "correct", True), (7, 1, "undo", False)])
+        self.assertEqual([told["history"][2][key] for key in ("name", "text", "note", "source")], ["r1", "correct r1: y 5, was 2", "n", "s"])
+
+
+def guide_blocks():
+    text = GUIDE.read_text(encoding="utf-8")
+    begin = text.index("```console\n") + len("```console\n")
+    end = text.index("```", begin)
+    return text[:begin], text[begin:end], text[end:]
+
+
+def guide_session(folder):
+    """Each command of the guide's session, what the guide says that it prints, and what it prints."""
+    for part in re.split(r"^\$ ", guide_blocks()[1], flags=re.M)[1:]:
+        words, _, expected = part.partition("\n")
+        split = shlex.split(words)
+        if split[0] == "cat":
+            Path(folder, split[1]).write_text(expected, encoding="utf-8")
+            printed = expected
+        else:
+            done = subprocess.run([sys.executable, STAKE, *split[1:]], stdout=subprocess.PIPE, stderr=subprocess.STDOUT, env=environment(), cwd=folder, timeout=60)
+            printed = done.stdout.decode()
+        yield words, expected, printed
+
+
+def write_guide():
+    before, _, after = guide_blocks()
+    with tempfile.TemporaryDirectory() as folder:
+        session = "".join(f"$ {words}\n{printed}" for words, _, printed in guide_session(folder))
+    GUIDE.write_text(before + session + after, encoding="utf-8")
+
+
+class Refusals(Command):
+    """Each refusal that the command can reach: all but 1 (it always lends enough), 2 and 3 (it gives no frames) and 4 (it reads no number that is not
+    finite; test_season.py has that of Python programs). Words are those of include/refusals.txt."""
+
+    def refused(self, number, *words, where="", made=True):
+        before = self.data() if made else None
+        said = self.fails(*words)
+        self.assertIn(f"{where}refused by {number}: {WORDS[str(number)]}", said)
+        self.assertTrue(said.endswith("stake: the season is unchanged\n" if made else "stake: no season was made\n"), said)
+        self.assertEqual(len(said.splitlines()), 2, said)
+        if made:
+            self.assertEqual(self.data(), before)
+        else:
+            self.assertFalse(os.path.exists(self.season))
+
+    def test_5_more_readings_than_a_book_holds(self):
+        self.stake("new", "s.stake")
+        self.file("many.csv", "x,y\n" + "".join(f"{i},{i}\n" for i in range(4097)))
+        self.refused(5, "import", "s.stake", "many.csv", where="many.csv:4098: ")
+        self.file("all.csv", "x,y\n" + "".join(f"{i},{i}\n" for i in range(4096)))
+        self.assertIn("4,096 readings saved from all.csv, r1 to r4096", self.stake("import", "s.stake", "all.csv"))
+        self.refused(5, "add", "s.stake", "1", "2")
+
+    def test_6_a_name_that_is_not_in_the_book(self):
+        self.made(("1", "2"), ("3", "4"))
+        self.refused(6, "correct", "s.stake", "r3", "1")
+        self.assertIn("there is no reading r3; the last one is r2", self.fails("withdraw", "s.stake", "r3"))
+        self.stake("withdraw", "s.stake", "r1")
+        self.assertIn("r1 was withdrawn on line 6", self.fails("correct", "s.stake", "r1", "1"))
+        self.stake("add", "s.stake", "1", "1")
+        self.stake("undo", "s.stake")
+        self.assertIn("r3 was taken back by an undo", self.fails("withdraw", "s.stake", "r3"))
+
+    def test_7_too_few_readings(self):
+        self.stake("new", "s.stake", "--bound", "1")
+        for words in (("report",), ("scores",)):
+            self.refused(7, *words, "s.stake")
+        self.stake("add", "s.stake", "1", "2")
+        self.stake("add", "s.stake", "2", "3")
+        self.refused(7, "report", "s.stake", "--split")
+        self.refused(7, "report", "s.stake", "--folds", "1")
+        self.refused(7, "report", "s.stake", "--folds", "3")
+
+    def test_8_a_bound_above_15(self):
+        self.refused(8, "new", "s.stake", "--bound", "16", made=False)
+        self.made(*[(str(i), str(i % 7)) for i in range(136)], bound="15")
+        self.refused(8, "settings", "s.stake", "--bound", "16")
+        self.refused(8, "report", "s.stake", "--bound", "aggressive")
+        self.refused(8, "scores", "s.stake", "--bound", "aggressive")
+
+    def test_9_a_band_outside_the_readings(self):
+        self.made(("1", "2"), ("3", "4"), ("5", "7"), bound="1")
+        self.refused(9, "report", "s.stake", "--at", "5,1")
+
+    def test_10_the_degree_that_validation_chose_is_unsolved(self):
+        # tests/season.calls, "refused by 10"
+        self.made(("0", "0"), ("1", "1"), ("2", "4"), ("3", "9"), ("4", "16"), ("1000000000", "0"), bound="2", criterion="aic")
+        self.refused(10, "report", "s.stake", "--folds", "2")
+
+    def test_11_no_degree_is_chosen(self):
+        # tests/season.calls, "refused by 11"
+        self.made(*[("0", "0x1.fffffffffffffp+1023")] * 4, bound="1", criterion="aic")
+        self.refused(11, "report", "s.stake")
+        self.refused(11, "scores", "s.stake")
+
+    def test_12_no_error_can_be_worked_out(self):
+        # tests/fixed.calls has 15 readings for which the judge refuses a report up to degree 14 by 12
+        calls = (ROOT / "tests" / "fixed.calls").read_text().splitlines()
+        (frame,) = [bytes.fromhex(call.split()[1]) for call in calls if call.startswith("frame 00F101BFD67BA3634610D0")]
+        self.made(*[(x.hex(), y.hex()) for x, y in struct.iter_unpack(">2d", frame[3:])], bound="14", criterion="aic")
+        self.refused(12, "report", "s.stake")
+
+    def test_13_and_14_numbers_that_are_none(self):
+        self.stake("new", "s.stake")
+        self.stake("add", "s.stake", "1", "2")
+        self.refused(13, "add", "s.stake", "1", "4l2", where="'4l2': ")
+        self.refused(13, "add", "s.stake", "-1e3", "2", where="'-1e3': ")
+        self.refused(14, "add", "s.stake", "1", "1234567890123456", where="'1234567890123456': ")
+        self.refused(13, "add", "s.stake", "1", "2", "--weight", "1/2")
+        self.refused(13, "correct", "s.stake", "r1", "+3")
+        self.refused(13, "report", "s.stake", "--at", "")
+        self.refused(13, "settings", "s.stake", "--tolerance", "absolute=x")
+        self.refused(14, "settings", "s.stake", "--confidence", "1.00000000000000000000001")
+        self.file("bad.csv", "x;y\n1;2\n3;4.5.6\n")
+        self.refused(13, "import", "s.stake", "bad.csv", where="bad.csv:3: column 'y': '4.5.6': ")
+        self.file("bad.csv", "x;y\n1;2\n1234567890123456;4\n")
+        self.refused(14, "import", "s.stake", "bad.csv", where="bad.csv:3: column 'x': '1234567890123456': ")
+
+    def test_15_a_weight_that_is_not_above_zero(self):
+        self.stake("new", "s.stake")
+        self.refused(15, "add", "s.stake", "1", "2", "--weight", "0")
+        self.refused(15, "add", "s.stake", "1", "2", "--weight", "-0,5")
+        self.file("bad.csv", "x;y;w\n1;2;1\n1;2;NA\n1;2;0\n3;4;1\n")
+        self.refused(15, "import", "s.stake", "bad.csv", "--weight", "w", where="bad.csv:4: ")
+
+    def test_16_a_limit_that_is_too_low(self):
+        self.made(*[(str(x), y) for x, y in enumerate("0 1.1 1.9 3.05 2.95 2.1 0.9 0.02".split())], bound="1", criterion="aic")
+        self.refused(16, "report", "s.stake", "--split", "--limit", "29")
+        self.stake("report", "s.stake", "--split", "--limit", "30")
+
+    def test_a_refusal_for_programs(self):
+        self.stake("new", "s.stake")
+        for words in (("report",), ("scores",)):
+            done = self.run_stake(*words, "s.stake", "--json", status=1)
+            self.assertEqual(json.loads(done.stdout), {"refused": {"number": 7, "words": WORDS["7"]}})
+
+
+class Wrong(Command):
+    def test_usage(self):
+        self.made(("1", "2"))
+        before = self.data()
+        for words in (
+            (),
+            ("erase", "s.stake"),
+            ("add", "s.stake", "1"),
+            ("add", "s.stake", "1", "2", "3"),
+            ("add", "s.stake", "1", "2", "--wei", "3"),
+            ("correct", "s.stake", "1", "2"),
+            ("withdraw", "s.stake", "r0"),
+            ("withdraw", "s.stake", "R1"),
+            ("new", "t.stake", "--bound", "many"),
+            ("new", "t.stake", "--bound", "-1"),
+            ("new", "t.stake", "--confidence", "P96"),
+            ("new", "t.stake", "--tolerance", "absolute"),
+            ("new", "t.stake", "--criterion", "cp"),
+            ("report", "s.stake", "--folds", "two"),
+            ("export", "s.stake", "--format", "xls"),
+            ("export", "s.stake", "--output", "s.stake"),
+            ("page", "s.stake", "s.stake"),
+        ):
+            with self.subTest(words=words):
+                said = self.fails(*words, status=2)
+                self.assertIn("usage: stake", said)
+        self.assertEqual(self.data(), before)
+        self.assertEqual(os.listdir(self.folder), ["s.stake"])
+
+    def test_help(self):
+        text = self.stake("--help")
+        for name in "new settings import add correct withdraw undo list report scores plot page export check".split():
+            self.assertRegex(text, rf"\n    {name} ")
+        self.assertIn("--leave-out", self.stake("check", "--help"))
+
+    def test_files_that_can_not_be_read(self):
+        self.file("table.csv", "x,y\n1,2\n")
+        self.file("cut.stake", b"stake season 1 2b18")
+        self.file("crlf.stake", b"")
+        for words, text in (
+            (("list", "none.stake"), "none.stake: No such file or directory"),
+            (("report", "."), ".: it is not a file"),
+            (("report", "table.csv"), "table.csv: it is no season"),
+            (("list", "cut.stake"), "cut.stake: the season was cut off while it was made"),
+            (("check", "table.csv"), "table.csv: it is no season"),
+            (("new", "table.csv"), "table.csv: it is there already, and is left as it is"),
+            (("new", "none/s.stake"), "none/s.stake: No such file or directory"),
+        ):
+            with self.subTest(words=words):
+                self.assertEqual(self.fails(*words).splitlines()[0][: 7 + len(text)], f"stake: {text}")
+        self.made(("1", "2"))
+        for words, text in (
+            (("import", "s.stake", "none.csv"), "none.csv: No such file or directory"),
+            (("import", "s.stake", "s.stake"), "s.stake:1: there is no tab, semicolon or comma"),
+            (("import", "table.csv", "table.csv"), "table.csv: it is no season"),
+        ):
+            with self.subTest(words=words):
+                said = self.fails(*words)
+                self.assertIn(f"stake: {text}", said)
+                self.assertIn("stake: the season is unchanged\n", said)
+        self.file("empty.csv", "x;y\nNA;1\n2;\n")
+        self.assertIn("empty.csv: there are no readings in it; 2 lines left out, where a number is missing: 2 to 3", self.fails("import", "s.stake", "empty.csv"))
+
+    def test_damage(self):
+        self.made(("1", "2"), ("3", "4"))
+        self.stake("add", "s.stake", "5", "6")
+        whole = self.data()
+        self.file("s.stake", whole.replace(b"row r1 1 2", b"row r1 1 3"))
+        said = self.fails("list", "s.stake")
+        self.assertIn("s.stake: line 4 is damaged: it does not match its check; `stake check` says more", said)
+        self.assertIn("the season is unchanged", self.fails("add", "s.stake", "1", "2"))
+        found = self.run_stake("check", "s.stake", status=1).stdout.decode()
+        self.assertIn("  line 4: it does not match its check\n", found)
+        self.assertIn("stake check s.stake --leave-out 4\n", found)
+        self.assertEqual(json.loads(self.run_stake("check", "s.stake", "--json", status=1).stdout)["damaged"], [{"line": 4, "why": "it does not match its check"}])
+        self.assertIn("the damaged lines are 4", self.fails("check", "s.stake", "--leave-out", "5"))
+        self.assertIn("line 4 left out, as a later line says", self.stake("check", "s.stake", "--leave-out", "4"))
+        self.assertEqual([r["name"] for r in self.json("list", "s.stake")["readings"]], ["r2", "r3"])
+
+    def test_a_torn_tail_is_told_until_a_line_tells_of_it(self):
+        self.made(("1", "2"), ("3", "4"))
+        whole = self.data()
+        self.file("s.stake", whole + b"6 add r3 5")
+        done = self.run_stake("list", "s.stake")
+        self.assertEqual(done.stderr, b"stake: s.stake: line 6 left out: it is cut off. Everything before stands\n")
+        self.assertIn(b"2 readings", done.stdout)
+        self.assertIn("line 6 left out: it is cut off. Everything before stands, and the next call will say so in the file", self.stake("check", "s.stake"))
+        self.assertIn(b"r3 saved", self.run_stake("add", "s.stake", "7", "8").stdout)
+        self.assertIn("line 6 left out", self.stake("list", "s.stake", "--history"))
+        self.assertTrue(self.data().startswith(whole + b"6 add r3 5"))
+        self.assertIn("line 6 left out, as a later line says", self.stake("check", "s.stake"))
+
+    def test_no_library(self):
+        for library in ("/nowhere/libstakebook.so", STAKE):
+            done = started(["new", "s.stake"], self.folder, STAKEBOOK_LIBRARY=library)
+            self.assertEqual(done.returncode, 1)
+            self.assertRegex(done.stderr.decode(), rf"\Astake: the library {library} can't be loaded: .*\n\Z")
+
+    def test_where_it_can_not_say_what_it_has_to_say(self):
+        self.made(("1", "2"))
+        with open("/dev/full", "wb") as full:
+            done = subprocess.run([sys.executable, STAKE, "list", "s.stake"], stdout=full, stderr=subprocess.PIPE, env=environment(), cwd=self.folder)
+        self.assertEqual((done.returncode, done.stderr), (1, b"stake: standard output: No space left on device\n"))
+        ours, theirs = os.pipe()
+        os.close(ours)
+        done = subprocess.run([sys.executable, STAKE, "list", "s.stake"], stdout=theirs, stderr=subprocess.PIPE, env=environment(), cwd=self.folder)
+        os.close(theirs)
+        self.assertEqual((done.returncode, done.stderr), (1, b""))
+
+    def test_a_terminal_without_the_letters(self):
+        self.made()
+        Season.open(self.season).add("1", "2", note="Föhn 🏔")
+        done = started(["list", "s.stake"], self.folder, PYTHONIOENCODING="latin-1")
+        self.assertEqual(done.returncode, 0)
+        self.assertIn("Föhn \\U0001f3d4".encode("latin-1"), done.stdout)
+
+    def test_an_interrupt(self):
+        self.made(("1", "2"))
+        said = io.StringIO()
+        with mock.patch.object(command.Season, "undo", side_effect=KeyboardInterrupt), contextlib.redirect_stderr(said):
+            self.assertEqual(command.main(["undo", self.season]), 130)
+        self.assertIn("interrupted; `stake list` says whether the call was saved", said.getvalue())
+
+
+class Files(Command):
+    def test_exports(self):
+        self.made(("0.10", "212", "2"), ("0.30", "240.5"), bound="1")
+        self.assertEqual(self.stake("export", "s.stake"), "reading,x,y,weight,name,source,note\nr1,0.10,212,2,,,\nr2,0.30,240.5,1,,,\n")
+        self.assertIn("out.csv written: 2 readings", self.stake("export", "s.stake", "--output", "out.csv"))
+        self.assertEqual(Path(self.folder, "out.csv").read_text(), self.stake("export", "s.stake"))
+        frame = self.run_stake("export", "s.stake", "--format", "frame").stdout
+        self.assertEqual(frame[:3], bytes([0, 49, 2]))
+        self.assertEqual(struct.unpack(">6d", frame[3:]), (0.1, 212.0, 2.0, 0.3, 240.5, 1.0))
+        self.assertIn("none/out.csv: No such file", self.fails("export", "s.stake", "--output", "none/out.csv"))
+        self.assertEqual(sorted(os.listdir(self.folder)), ["out.csv", "s.stake"])
+
+    def test_the_journal_answers_alike(self):
+        self.made(*[(str(x), str(y)) for x, y in zip(range(12), (5, 1, 4, 4, 9, 3, 8, 6, 7, 2, 2, 9))], bound="2")
+        self.stake("correct", "s.stake", "r4", "0,25")
+        self.stake("withdraw", "s.stake", "r7")
+        self.stake("add", "s.stake", "5,5", "1", "--weight", "2,5")
+        calls = self.stake("export", "s.stake", "--format", "calls")
+        told = self.json("report", "s.stake")["report"]
+        # read as docs/JOURNAL.md has it
+        book = Book()
+        for word, *fields in map(str.split, calls.splitlines()):
+            if word == "add":
+                book.add(*map(double, fields))
+            elif word == "correct":
+                book.correct(int(fields[0]), double(fields[1]))
+            elif word == "withdraw":
+                book.withdraw(int(fields[0]))
+            elif word == "report":
+                self.assertEqual(" ".join(fields), "custom 2 bic p95 0000000000000000 none 0000000000000000 size")
+        self.assertEqual(book.bits(), Season.open(self.season).book.bits())
+        # and by the program itself where it is built
+        for journal in (ROOT / "target-rust/release/journal", ROOT / "target/release/journal"):
+            for flag in ([], ["--judge"]) if journal.exists() else ():
+                answers = subprocess.run([str(journal), *flag], input=calls.encode(), stdout=subprocess.PIPE, timeout=60).stdout.decode().splitlines()
+                self.assertEqual(answers[:1] + answers[-8:-7], ["book 0", "book 12"])
+                k = told["degree"] + 1
+                self.assertEqual(answers[-7], f"report {told['degree']} {told['solved']} {sum(told['outliers'])} {sum(told['pruned'])}")
+                shown = {answer.split()[0]: answer.split()[1:] for answer in answers[-6:]}
+                for name, count in (("coefficients", k), ("errors", k), ("lower", 12), ("upper", 12)):
+                    self.assertEqual(told[name], list(map(double, shown[name][:count])), (flag, name))
+                self.assertEqual(told["outliers"], [mark == "1" for mark in shown["outliers"]])
+
+    def test_pictures_and_pages(self):
+        import matplotlib.pyplot  # once here, and not in each process that is forked
+
+        self.made(*[(str(x), str(y)) for x, y in enumerate((5, 1, 4, 4, 9, 3))], bound="1")
+        self.assertEqual(self.stake("plot", "s.stake", "s.svg"), "s.svg written\n")
+        self.assertEqual(self.stake("page", "s.stake", "s.html"), "s.html written\n")
+        self.assertIn(b"<svg", Path(self.folder, "s.svg").read_bytes())
+        self.assertIn(b"<html", Path(self.folder, "s.html").read_bytes())
+        self.assertIn(".gif", self.fails("plot", "s.stake", "s.gif", status=2))
+        for words in (("plot", "s.stake", "none/s.svg"), ("page", "s.stake", "none/s.html")):
+            self.assertIn(f"stake: {words[2]}: No such file or directory", self.fails(*words))
+
+    def test_pictures_without_matplotlib(self):
+        self.made(("1", "2"), ("2", "4"), ("3", "7"), bound="1")
+        os.mkdir(os.path.join(self.folder, "without"))
+        self.file("without/matplotlib.py", "raise ModuleNotFoundError('no', name='matplotlib')\n")
+        for words in (("plot", "s.stake", "s.svg"), ("page", "s.stake", "s.html")):
+            done = started(words, self.folder, PYTHONPATH=os.path.join(self.folder, "without"))
+            self.assertEqual((done.returncode, done.stderr.decode()), (1, "stake: matplotlib is missing: install the Debian package python3-matplotlib\n"))
+
+    def test_the_script_itself(self):
+        done = subprocess.run([STAKE, "new", "s.stake"], stdout=subprocess.PIPE, env=environment(), cwd=self.folder)
+        self.assertEqual(done.returncode, 0)
+        module = subprocess.run([sys.executable, "-m", "stakebook", "list", "s.stake"], stdout=subprocess.PIPE, env=environment(PYTHONPATH=str(ROOT / "python")), cwd=self.folder)
+        self.assertEqual((module.returncode, module.stdout.splitlines()[-1]), (0, b"0 readings"))
+        # installed, by a link from another folder
+        os.makedirs(os.path.join(self.folder, "usr/bin"))
+        os.makedirs(os.path.join(self.folder, "usr/lib/python3/dist-packages"))
+        shutil.copy(STAKE, os.path.join(self.folder, "usr/bin/stake"))
+        os.symlink(ROOT / "python" / "stakebook", os.path.join(self.folder, "usr/lib/python3/dist-packages/stakebook"))
+        os.symlink("usr/bin/stake", os.path.join(self.folder, "linked"))
+        done = subprocess.run([sys.executable, "./linked", "list", "s.stake"], stdout=subprocess.PIPE, env=environment(), cwd=self.folder)
+        self.assertEqual((done.returncode, done.stdout.splitlines()[-1]), (0, b"0 readings"))
+
+
+class Saving(Command):
+    def test_a_kill_in_the_middle_of_a_write(self):
+        for part in (1, 17, -1):
+            self.made(("1", "2"), ("3", "4"))
+            before = self.data()
+
+            def half(descriptor, data):
+                WRITE(descriptor, bytes(data)[:part])
+                os.kill(os.getpid(), signal.SIGKILL)
+
+            done = self.run_stake("add", "s.stake", "5", "6", status=-signal.SIGKILL, prepare=lambda: setattr(os, "write", half))
+            self.assertEqual(done.stdout, b"")
+            self.assertTrue(self.data().startswith(before) and len(self.data()) > len(before))
+            said = self.run_stake("list", "s.stake", "--json")
+            self.assertIn(b"line 6 left out: it is cut off", said.stderr)
+            self.assertEqual([r["name"] for r in json.loads(said.stdout)["readings"]], ["r1", "r2"])
+            self.assertIn(b"r3 saved", self.run_stake("add", "s.stake", "7", "8").stdout)
+            self.assertEqual([(r["name"], r["y"]) for r in self.json("list", "s.stake")["readings"]], [("r1", 2.0), ("r2", 4.0), ("r3", 8.0)])
+            os.unlink(self.season)
+
+    def test_a_kill_between_two_writes(self):
+        # a write that was short, and the rest never comes: the block of an import is left out whole
+        self.made(("1", "2"))
+        self.file("more.csv", "x,y\n" + "".join(f"{i},{i}\n" for i in range(50)))
+        written = []
+
+        def short(descriptor, data):
+            if written:
+                os.kill(os.getpid(), signal.SIGKILL)
+            written.append(WRITE(descriptor, bytes(data)[:700]))
+            return written[0]
+
+        done = self.run_stake("import", "s.stake", "more.csv", status=-signal.SIGKILL, prepare=lambda: setattr(os, "write", short))
+        self.assertEqual(done.stdout, b"")
+        said = self.run_stake("list", "s.stake")
+        self.assertRegex(said.stderr.decode(), r"lines 5 to \d+ left out: its import has \d+ of its 50 rows")
+        self.assertIn(b"1 reading\n", said.stdout)
+        self.assertIn(b"50 readings saved from more.csv, r2 to r51", self.run_stake("import", "s.stake", "more.csv").stdout)
+        self.assertTrue(self.json("check", "s.stake")["good"])
+
+    def test_what_was_synced_is_there_though_nothing_was_said(self):
+        self.made(("1", "2"))
+
+        def last(descriptor):
+            FSYNC(descriptor)
+            os.kill(os.getpid(), signal.SIGKILL)
+
+        done = self.run_stake("add", "s.stake", "5", "6", status=-signal.SIGKILL, prepare=lambda: setattr(os, "fsync", last))
+        self.assertEqual(done.stdout, b"")
+        self.assertEqual([r["name"] for r in self.json("list", "s.stake")["readings"]], ["r1", "r2"])
+
+    def test_two_writers_at_once(self):
+        self.made()
+        code = """
+            for i in range(50):
+                if command.main(["add", "s.stake", str(i), sys.argv[1]]):
+                    sys.exit(1)
+            """
+        text = f"import sys\nsys.path.insert(0, {str(ROOT / 'python')!r})\nfrom stakebook import command\n" + textwrap.dedent(code)
+        writers = [subprocess.Popen([sys.executable, "-c", text, y], stdout=subprocess.PIPE, stderr=subprocess.PIPE, env=environment(), cwd=self.folder) for y in "12"]
+        said = [writer.communicate(timeout=60) for writer in writers]
+        self.assertEqual([(writer.returncode, err) for writer, (_, err) in zip(writers, said)], [(0, b"")] * 2)
+        season = Season.open(self.season)
+        self.assertEqual([r.name for r in season.readings], [f"r{i}" for i in range(1, 101)])
+        for y, (out, _) in zip("12", said):
+            mine = [r for r in season.readings if r.y_text == y]
+            self.assertEqual([r.x_text for r in mine], [str(i) for i in range(50)])
+            # and each was told the name that its reading has
+            self.assertEqual(re.findall(r": (r\d+) saved", out.decode()), [r.name for r in mine])
+        self.assertTrue(self.json("check", "s.stake")["good"])
+
+    def test_a_file_that_can_not_grow(self):
+        self.made(("1", "2"), ("3", "4"))
+        before = self.data()
+
+        def limit():
+            resource.setrlimit(resource.RLIMIT_FSIZE, (len(before) + 20, resource.RLIM_INFINITY))
+
+        for _ in range(2):
+            done = self.run_stake("add", "s.stake", "5", "6", status=1, prepare=limit)
+            self.assertEqual(done.stdout, b"")
+            self.assertIn(b"s.stake: File too large: nothing was saved. What was written of it is left out, and the season is unchanged\n", done.stderr)
+            self.assertEqual(len(self.data()), len(before) + 20)
+        self.assertIn(b"r3 saved", self.run_stake("add", "s.stake", "7", "8").stdout)
+        self.assertTrue(self.data().startswith(before))
+        self.assertEqual([(r["name"], r["y"]) for r in self.json("list", "s.stake")["readings"]], [("r1", 2.0), ("r2", 4.0), ("r3", 8.0)])
+
+        def none():
+            resource.setrlimit(resource.RLIMIT_FSIZE, (100, resource.RLIM_INFINITY))
+
+        said = self.fails("new", "t.stake", prepare=none)
+        self.assertEqual(said, "stake: t.stake: File too large: no season was made\n")
+        self.assertEqual(os.listdir(self.folder), ["s.stake"])
+
+    def test_a_full_disk(self):
+        disk = os.path.join(self.folder, "disk")
+        os.mkdir(disk)
+        # a small file system where one may be mounted, else a limit: the words of the system differ, and nothing else
+        mounted = subprocess.run(["mount", "-t", "tmpfs", "-o", "size=64k", "tmpfs", disk], stdout=subprocess.PIPE, stderr=subprocess.PIPE).returncode == 0
+        prepare, full = None, "No space left on device"
+        try:
+            season = Season.create(os.path.join(disk, "s.stake"))
+            season.add("1", "2")
+            if mounted:
+                with contextlib.suppress(OSError), open(os.path.join(disk, "rest"), "wb", buffering=0) as rest:
+                    while True:
+                        rest.write(b"x" * 512)
+            else:
+                prepare, full = (lambda: resource.setrlimit(resource.RLIMIT_FSIZE, (4096, resource.RLIM_INFINITY))), "File too large"
+            self.file("more.csv", "x,y,note\n" + "".join(f"{i},{i},{'n' * 90}\n" for i in range(100)))
+            before = Path(season.path).read_bytes()
+            said = self.fails("import", "disk/s.stake", "more.csv", prepare=prepare)
+            self.assertIn(f"disk/s.stake: {full}: nothing was saved. What was written of it is left out, and the season is unchanged\n", said)
+            if mounted:
+                self.assertEqual(self.fails("new", "disk/t.stake"), f"stake: disk/t.stake: {full}: no season was made\n")
+            data = Path(season.path).read_bytes()
+            self.assertTrue(data.startswith(before) and len(data) > len(before))
+            with contextlib.suppress(FileNotFoundError):
+                os.unlink(os.path.join(disk, "rest"))
+            done = self.run_stake("import", "disk/s.stake", "more.csv")
+            self.assertIn(b"100 readings saved from more.csv, r2 to r101", done.stdout)
+            self.assertEqual(Season.open(season.path).book.count, 101)
+            self.assertTrue(Path(season.path).read_bytes().startswith(data))
+        finally:
+            if mounted:
+                subprocess.run(["umount", disk], check=True)
+
+
+class Terminal(Command):
+    def on_terminal(self, *words, prepare=None):
+        """What goes to a terminal on standard error, and to a file on standard output."""
+        ours, theirs = pty.openpty()
+        seen = []
+
+        def read():
+            # a terminal that nobody has open any more is an error to read
+            with contextlib.suppress(OSError):
+                while True:
+                    seen.append(os.read(ours, 4096))
+
+        done = forked(words, self.folder, prepare, theirs)
+        os.close(theirs)
+        read()
+        os.close(ours)
+        self.assertEqual(done.returncode, 0)
+        return b"".join(seen).decode(), done.stdout.decode()
+
+    def test_progress_on_a_terminal_and_none_in_a_pipe(self):
+        self.made(*[(str(i), str(i * 7919 % 101)) for i in range(1000)], bound="3")
+
+        def at_once():
+            command._Progress._AFTER = 0.0
+
+        words = ("report", "s.stake", "--split")
+        seen, out = self.on_terminal(*words, prepare=at_once)
+        self.assertRegex(seen, r"\rstake: looking for the break \.\. \d+\.\d s")
+        # the line is wiped away
+        self.assertTrue(seen.endswith("\r") and seen.split("\r")[-2].strip() == "", seen)
+        self.assertEqual(out, self.stake(*words, prepare=at_once))
+        self.file("more.csv", "x,y\n" + "".join(f"{i},{i}\n" for i in range(3000)))
+        seen, out = self.on_terminal("import", "s.stake", "more.csv", prepare=at_once)
+        self.assertRegex(seen, r"importing more\.csv")
+
+    def test_what_is_quick_shows_nothing(self):
+        self.made(("1", "2"))
+        self.assertEqual(self.on_terminal("settings", "s.stake", prepare=lambda: setattr(command._Progress, "_AFTER", 30.0))[0], "")
+        # so does what is not: a third of a second
+        self.assertEqual(command._Progress._AFTER, 0.3)
+
+    def test_a_frame_is_not_for_a_terminal(self):
+        self.made(("1", "2"))
+        ours, theirs = pty.openpty()
+        done = subprocess.run([sys.executable, STAKE, "export", "s.stake", "--format", "frame"], stdout=theirs, stderr=subprocess.PIPE, env=environment(), cwd=self.folder)
+        os.close(theirs)
+        os.close(ours)
+        self.assertEqual(done.returncode, 2)
+        self.assertIn(b"give --output FILE", done.stderr)
+
+    def test_waiting_for_another_writer_is_said(self):
+        import fcntl
+
+        self.made(("1", "2"))
+        with open(self.season, "rb") as file:
+            fcntl.flock(file, fcntl.LOCK_EX)
+            release = threading.Timer(0.7, fcntl.flock, (file, fcntl.LOCK_UN))
+            release.start()
+            seen, out = self.on_terminal("list", "s.stake")
+            release.join()
+        self.assertIn("waiting for another program that has the season", seen)
+        self.assertIn("1 reading", out)
+
+
+if __name__ == "__main__":
+    if sys.argv[1:] == ["--guide"]:
+        write_guide()
+    else:
+        unittest.main()
