@@ -4,7 +4,7 @@
 use journal::port;
 use journal::{Answer, Call, Lent, Memory, Port, Side};
 use judge::refusals::{Lengths, MOST_SAMPLES};
-use judge::statistics::T_TABLE;
+use judge::statistics::{t_score, with_t, LEVELS, T_TABLE};
 use judge::sums::{folded_afresh, PLACES, TERMS};
 use judge::Sample;
 
@@ -141,6 +141,24 @@ pub fn make(_: &Call, _: usize, _: Lent) -> Option<Answer> {
     None
 }
 
+/// The limit where it has the call and the port elsewhere, so that the comparison's own lists of calls, with their edges, try the limit too.
+pub struct Limited;
+
+impl Side for Limited {
+    fn name(&self) -> &'static str {
+        "limit"
+    }
+
+    fn make(&self, call: &Call, count: usize, lent: Lent) -> Answer {
+        match call {
+            Call::Report(_) | Call::Withdraw { .. } | Call::Validate { .. } => {
+                make(call, count, lent).unwrap_or(Answer::Refused(0))
+            }
+            _ => Port.make(call, count, lent),
+        }
+    }
+}
+
 /// What was compared.
 #[derive(Default)]
 pub struct Compared {
@@ -161,12 +179,25 @@ fn count(random: &mut Random) -> usize {
     }
 }
 
-/// Of every kind, now and then such that the degree is solved and its inverse fails.
+/// Of every kind; now and then such that the degree is solved and its inverse fails, that a term stands at the edge of Student's t around the
+/// table's last row, or that two middle residuals add up to more than the greatest double.
 fn samples(random: &mut Random) -> Vec<Sample> {
-    if random.one_in(20) {
-        if let Some((samples, _)) = at_some_pivot_edge(random) {
-            return samples;
+    match random.below(60) {
+        0..=2 => {
+            if let Some((samples, _)) = at_some_pivot_edge(random) {
+                return samples;
+            }
         }
+        3..=5 => {
+            let (df, level) = (random.between(28, 32), random.pick(&LEVELS));
+            return with_t(df, random.within(0.97, 1.03) * t_score(level, df));
+        }
+        6 | 7 => {
+            let (most, pairs) = (f64::MAX * random.within(0.4, 1.0), random.between(1, 3));
+            let pair = [Sample::unweighted(0.0, most), Sample::unweighted(0.0, -most)];
+            return pair.repeat(pairs);
+        }
+        _ => {}
     }
     let n = count(random);
     Source::new(random, n).take(random, n)

@@ -157,22 +157,28 @@ fn run_journal(path: &str, sides: &[&dyn Side]) -> ExitCode {
     }
 }
 
-/// Holds the limit against the port.
+/// Holds the limit against the port on so many books, long ones too, and against judge and polyfit on as many lists.
 fn verify_limit(books: u64, seed: u64) -> ExitCode {
     if !limit::THERE {
         eprintln!("the limit was not compiled: there was no g++");
         return ExitCode::FAILURE;
     }
     match limit::verify(books, seed) {
-        Ok(compared) => {
-            println!("{}", compared.line());
-            ExitCode::SUCCESS
-        }
+        Ok(compared) => println!("{}", compared.line()),
         Err(what) => {
             println!("DIFFERENCE: {what}");
-            ExitCode::FAILURE
+            return ExitCode::FAILURE;
         }
     }
+    for number in 0..books {
+        let (list, mut coverage) = (generate::list(seed, number), Coverage::default());
+        if let Err(difference) = run(&list, &[&limit::Limited], &mut coverage) {
+            println!("seed {seed}, list {number}, step {}: {}", difference.step, difference.what);
+            return ExitCode::FAILURE;
+        }
+    }
+    println!("{books} lists with the limit's calls for the port's: no difference");
+    ExitCode::SUCCESS
 }
 
 fn main() -> ExitCode {
