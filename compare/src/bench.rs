@@ -1,36 +1,78 @@
-//! The benchmark: the same calls on the same samples by every side, in one run, as a table.
+//! The benchmark: the same calls on the same samples by every side, in one run, as the tables of docs/BENCHMARKS.md.
 //!
-//! Each time is the best of many calls. Ratios come first: the further side (the port) by the judge, which is a
-//! plain transcription, and polyfit and GSL by the port. Where a side has no such call, its places are empty.
+//! Before a call is timed, port, judge and limit must have answered it alike. Where a side has no such call, its places are empty.
 
 use std::mem::ManuallyDrop;
 use std::ptr;
-use std::time::{Duration, Instant};
 
-use journal::{Answer, Call, Judge, Lent, Memory, Side};
+use journal::port::losses_into;
+use journal::{Answer, Call, Judge, Lent, Memory, Port, Side};
 use judge::fit::{Criterion, PruningRule, Settings};
 use judge::statistics::{Confidence, DegreeBound, Tolerance};
 use judge::Sample;
 
 use crate::gsl;
+use crate::limit;
+use crate::random::Random;
 use crate::reference;
+use crate::samples::wild;
+use crate::timing::{self, Timed};
 
 const COUNTS: [usize; 4] = [10, 100, 1_000, 4_096];
 const BOUNDS: [usize; 3] = [3, 8, 15];
 const FOLDS: usize = 10;
 
-/// How long a call is repeated.
-const SPAN: Duration = Duration::from_millis(300);
+/// What is asked of a report and of a validation at 4,096 beside the limit, and of polyfit and GSL beside the port.
+const REPORT_AIM: f64 = 2.2;
+const VALIDATION_AIM: f64 = 4.0;
+const OTHERS_AIM: f64 = 5.0;
 
-/// x even in [−1, 1], y a smooth curve with a small ripple, the weight 1, 2 or 3.
-fn samples(count: usize) -> Vec<Sample> {
-    let at = |i: usize| {
-        let x = -1.0 + 2.0 * i as f64 / (count - 1) as f64;
-        let ripple = ((i * 7919) % 101) as f64 / 101.0 - 0.5;
-        let y = 350.0 + 120.0 * x - 40.0 * x * x + 9.0 * x * x * x + ripple;
-        Sample { x, y, weight: (1 + i % 3) as f64 }
-    };
-    (0..count).map(at).collect()
+/// The kinds of samples; every weight is 1, so that all sides have the same curve to find.
+#[derive(Clone, Copy, PartialEq)]
+enum Input {
+    Ripple,
+    Constant,
+    Wild,
+    Years,
+}
+
+const INPUTS: [Input; 4] = [Input::Ripple, Input::Constant, Input::Wild, Input::Years];
+
+impl Input {
+    fn title(self) -> &'static str {
+        match self {
+            Input::Ripple => "Even x with a ripple",
+            Input::Constant => "Constant y",
+            Input::Wild => "Wild magnitudes",
+            Input::Years => "Years as x",
+        }
+    }
+
+    fn samples(self, count: usize) -> Vec<Sample> {
+        let random = &mut Random::new(25);
+        let mut at = |i: usize| {
+            let even = 2.0 * i as f64 / (count - 1) as f64 - 1.0;
+            let ripple = ((i * 7919) % 101) as f64 / 101.0 - 0.5;
+            let cubic = 350.0 + 120.0 * even - 40.0 * even * even + 9.0 * even * even * even;
+            match self {
+                Input::Ripple => (even, cubic + ripple),
+                Input::Constant => (even, 350.0),
+                Input::Wild => (wild(random), wild(random)),
+                Input::Years => (2010.0 + 10.0 * even, cubic + ripple),
+            }
+        };
+        (0..count).map(&mut at).map(|(x, y)| Sample::unweighted(x, y)).collect()
+    }
+}
+
+fn settings(degree: usize) -> Settings {
+    Settings {
+        bound: DegreeBound::Custom(degree),
+        criterion: Criterion::Aic,
+        confidence: Confidence::P95,
+        tolerance: Tolerance::None,
+        pruning: PruningRule::Positive,
+    }
 }
 
 fn memory_of(samples: &[Sample]) -> Memory {
@@ -83,99 +125,322 @@ fn black_box<T>(value: T) -> T {
     unsafe { ptr::read_volatile(&*value) }
 }
 
-/// The best time of a call, in milliseconds.
-fn best(mut call: impl FnMut()) -> f64 {
-    let (start, mut best) = (Instant::now(), f64::INFINITY);
-    while start.elapsed() < SPAN {
-        let begun = Instant::now();
-        call();
-        best = best.min(begun.elapsed().as_secs_f64() * 1e3);
+/// The sides, in the order of the columns.
+const SIDES: [&str; 5] = ["port", "plain", "polyfit", "GSL", "limit"];
+const PORT: usize = 0;
+const POLYFIT: usize = 2;
+const GSL: usize = 3;
+const LIMIT: usize = 4;
+
+/// A call of a row: what it is called and, for a table, of how many samples it is made.
+struct Row {
+    name: String,
+    call: Call,
+    count: usize,
+}
+
+impl Row {
+    fn new(name: impl Into<String>, call: Call, count: usize) -> Self {
+        Self { name: name.into(), call, count }
     }
-    best
 }
 
-fn by_side(side: &dyn Side, call: &Call, count: usize, samples: &[Sample]) -> f64 {
-    answered(side, call, count, samples).0
-}
-
-/// The best time, and what was answered last.
-fn answered(side: &dyn Side, call: &Call, count: usize, samples: &[Sample]) -> (f64, Answer) {
-    let (mut memory, mut answer) = (memory_of(samples), Answer::Book(count));
-    let time = best(|| answer = black_box(side.make(call, count, lent(&mut memory))));
-    (time, answer)
-}
-
-/// polyfit's time, where it has such a call.
-fn by_reference(call: &Call, samples: &[Sample]) -> Option<f64> {
+/// The port's call alone: of losses, without the checks that the comparison makes around it.
+fn by_port(call: &Call, count: usize, mut lent: Lent) -> Answer {
     match *call {
-        Call::Fit { degree } => Some(best(|| drop(black_box(reference::fit(samples, degree))))),
-        Call::Report(settings) => {
-            Some(best(|| drop(black_box(reference::report(samples, settings)))))
+        Call::Losses(settings) => losses_into(2, count, &mut lent, settings),
+        _ => Port.make(call, count, lent),
+    }
+}
+
+/// What port, judge and limit answer alike. Of a long split the port is asked alone: the judge takes many seconds.
+fn answer(row: &Row, samples: &[Sample]) -> Answer {
+    let fresh = || memory_of(samples);
+    let port = by_port(&row.call, row.count, lent(&mut fresh()));
+    if matches!(row.call, Call::Split { .. }) && row.count > 1_000 {
+        return port;
+    }
+    let plain = Judge.make(&row.call, row.count, lent(&mut fresh()));
+    assert_eq!(port, plain, "{}: port and plain", row.name);
+    if let Some(limit) = limit::make(&row.call, row.count, lent(&mut fresh())) {
+        assert_eq!(port, limit, "{}: port and limit", row.name);
+    }
+    port
+}
+
+/// What times polyfit, where it has such a call.
+fn by_reference<'a>(call: &'a Call, samples: &'a [Sample]) -> Option<Timed<'a>> {
+    let data: Vec<(f64, f64)> = samples.iter().map(|sample| (sample.x, sample.y)).collect();
+    Some(match *call {
+        Call::Fit { degree } => {
+            Box::new(move || drop(black_box(reference::bare_fit(&data, degree))))
         }
-        Call::Split { limit, settings } => Some(best(|| {
+        Call::Report(settings) => {
+            Box::new(move || drop(black_box(reference::bare_report(&data, settings))))
+        }
+        Call::Validate { folds, bound, .. } => {
+            Box::new(move || drop(black_box(reference::bare_validate(&data, folds, bound))))
+        }
+        Call::Split { limit, settings } => Box::new(move || {
             let breaks = reference::breaks(samples, settings);
             drop(black_box(reference::split(breaks, limit)));
-        })),
+        }),
         Call::Losses(settings) => {
-            Some(best(|| drop(black_box(reference::losses(samples, settings)))))
+            Box::new(move || drop(black_box(reference::losses(samples, settings))))
         }
         Call::Scores(settings) => {
-            Some(best(|| drop(black_box(reference::scores_by_degree(samples, settings)))))
+            Box::new(move || drop(black_box(reference::scores_by_degree(samples, settings))))
         }
-        Call::Validate { folds, bound, criterion } => Some(best(|| {
-            drop(black_box(reference::validate(samples, folds, bound, criterion)));
-        })),
-        _ => None,
-    }
+        _ => return None,
+    })
 }
 
-/// GSL's time, where it is installed and has such a call.
-fn by_gsl(call: &Call, samples: &[Sample]) -> Option<f64> {
-    match *call {
+/// What times GSL, where it is installed, has such a call and does not fail.
+fn by_gsl<'a>(call: &'a Call, samples: &'a [Sample]) -> Option<Timed<'a>> {
+    Some(match *call {
         Call::Fit { degree } => {
             gsl::fit(samples, degree)?;
-            Some(best(|| drop(black_box(gsl::fit(samples, degree)))))
+            Box::new(move || drop(black_box(gsl::fit(samples, degree))))
         }
         Call::Report(Settings { bound: DegreeBound::Custom(bound), .. }) => {
             gsl::report(samples, bound)?;
-            Some(best(|| drop(black_box(gsl::report(samples, bound)))))
+            Box::new(move || drop(black_box(gsl::report(samples, bound))))
         }
-        _ => None,
+        Call::Validate { folds, bound: DegreeBound::Custom(bound), .. } => {
+            gsl::validate(samples, folds, bound)?;
+            Box::new(move || drop(black_box(gsl::validate(samples, folds, bound))))
+        }
+        _ => return None,
+    })
+}
+
+fn by_limit<'a>(call: &'a Call, count: usize, samples: &[Sample]) -> Option<Timed<'a>> {
+    let mut memory = memory_of(samples);
+    limit::make(call, count, lent(&mut memory))?;
+    Some(Box::new(move || {
+        black_box(limit::make(call, count, lent(&mut memory)));
+    }))
+}
+
+/// The best time of each side, in microseconds, of at least so many calls.
+fn times(row: &Row, samples: &[Sample], least: u32) -> [Option<f64>; 5] {
+    let (call, count) = (&row.call, row.count);
+    let (mut mine, mut plain) = (memory_of(samples), memory_of(samples));
+    let port: Timed = Box::new(|| {
+        black_box(by_port(call, count, lent(&mut mine)));
+    });
+    let judge: Timed = Box::new(|| {
+        black_box(Judge.make(call, count, lent(&mut plain)));
+    });
+    let others = (by_reference(call, samples), by_gsl(call, samples));
+    let sides = [Some(port), Some(judge), others.0, others.1, by_limit(call, count, samples)];
+    timing::best(sides, least)
+}
+
+/// A row that was measured.
+struct Cell {
+    input: Input,
+    name: String,
+    n: usize,
+    times: [Option<f64>; 5],
+}
+
+impl Cell {
+    /// How many times as long as the port a side takes; of the limit, the port by it.
+    fn ratio(&self, side: usize) -> Option<f64> {
+        let (port, other) = (self.times[PORT]?, self.times[side]?);
+        Some(if side == LIMIT { port / other } else { other / port })
+    }
+
+    fn place(&self) -> String {
+        format!("{} of {} ({})", self.name, thousands(self.n), self.input.title().to_lowercase())
     }
 }
 
-/// A number where there is one.
-fn cell(value: Option<f64>, places: usize) -> String {
-    value.map_or(String::new(), |value| format!("{value:.places$}"))
+/// A whole number with a comma at each thousand.
+fn thousands(n: usize) -> String {
+    match n {
+        0..=999 => n.to_string(),
+        _ => format!("{},{:03}", thousands(n / 1000), n % 1000),
+    }
 }
 
-/// Prints a row and answers the port's time.
-fn print_row(name: &str, call: &Call, count: usize, samples: &[Sample], port: &dyn Side) -> f64 {
-    print_answered(name, call, count, samples, port).0
+/// A time with three or four digits.
+fn shown(time: Option<f64>) -> String {
+    match time {
+        None => String::new(),
+        Some(time) if time < 10.0 => format!("{time:.2}"),
+        Some(time) if time < 1000.0 => format!("{time:.1}"),
+        Some(time) => thousands(time.round() as usize),
+    }
 }
 
-/// The same, with the port's answer.
-fn print_answered(
-    name: &str,
-    call: &Call,
-    count: usize,
-    samples: &[Sample],
-    port: &dyn Side,
-) -> (f64, Answer) {
-    let plain = by_side(&Judge, call, count, samples);
-    let (ported, answer) = answered(port, call, count, samples);
-    let (theirs, gsl) = (by_reference(call, samples), by_gsl(call, samples));
-    let ratio = |time: Option<f64>| cell(time.map(|time| time / ported), 1);
-    println!(
-        "| {name} | {} | {:.2} | {} | {} | {ported:.4} | {plain:.4} | {} | {} |",
-        samples.len(),
-        ported / plain,
-        ratio(theirs),
-        ratio(gsl),
-        cell(theirs, 4),
-        cell(gsl, 4)
+fn shown_ratio(ratio: Option<f64>) -> String {
+    ratio.map_or(String::new(), |ratio| format!("{ratio:.2}"))
+}
+
+/// What a call answered, in few words.
+fn words(answer: &Answer) -> String {
+    match answer {
+        Answer::Refused(number) => format!("refused by {number}"),
+        Answer::Report { degree, solved, .. } => format!("degree {degree}, {solved} solved"),
+        Answer::Degree(degree) | Answer::Losses { degree, .. } => format!("degree {degree}"),
+        _ => String::new(),
+    }
+}
+
+/// The rows of one number of samples: calls without a bound, then those with one.
+fn rows(samples: &[Sample]) -> Vec<Row> {
+    let (count, middle) = (samples.len(), samples.len() / 2);
+    let mut rows = vec![
+        Row::new("add", Call::Add(samples[count - 1]), count - 1),
+        Row::new("correct", Call::Correct { index: middle, y: 1.0 }, count),
+        Row::new("withdraw", Call::Withdraw { index: middle }, count),
+    ];
+    let bounds = || BOUNDS.into_iter().filter(|degree| *degree < count);
+    let with =
+        |name: &str, degree: usize, call: Call| Row::new(format!("{name} {degree}"), call, count);
+    rows.extend(bounds().map(|degree| with("fit, degree", degree, Call::Fit { degree })));
+    rows.extend(
+        bounds().map(|degree| with("report, bound", degree, Call::Report(settings(degree)))),
     );
-    (ported, answer)
+    rows.extend(bounds().map(|degree| {
+        let Settings { bound, criterion, .. } = settings(degree);
+        with("validate, bound", degree, Call::Validate { folds: FOLDS, bound, criterion })
+    }));
+    rows
+}
+
+fn print_head(first: &str, sides: &[usize]) {
+    let times: String = sides.iter().map(|&side| format!(" {}, µs |", SIDES[side])).collect();
+    let ratio = |side: usize| match side {
+        LIMIT => " port / limit |".to_string(),
+        _ => format!(" {} / port |", SIDES[side]),
+    };
+    let ratios: String = sides.iter().skip(1).map(|&side| ratio(side)).collect();
+    println!("\n| {first} | n | answer |{times}{ratios}");
+    println!("|---|---|---|{}", "---|".repeat(2 * sides.len() - 1));
+}
+
+/// Prints a row and answers what was measured.
+fn measure(
+    input: Input,
+    row: Row,
+    samples: &[Sample],
+    sides: &[usize],
+    least: u32,
+) -> (Cell, Answer) {
+    let answer = answer(&row, samples);
+    let times = times(&row, samples, least);
+    let cell = Cell { input, name: row.name, n: samples.len(), times };
+    let columns: String =
+        sides.iter().map(|&side| format!(" {} |", shown(cell.times[side]))).collect();
+    let ratios: String =
+        sides.iter().skip(1).map(|&side| format!(" {} |", shown_ratio(cell.ratio(side)))).collect();
+    println!("| {} | {} | {} |{columns}{ratios}", cell.name, thousands(cell.n), words(&answer));
+    (cell, answer)
+}
+
+/// The table of one kind of samples.
+fn print_table(input: Input, cells: &mut Vec<Cell>) {
+    println!("\n### {}", input.title());
+    let all = [0, 1, 2, 3, 4];
+    print_head("Call", &all);
+    for count in COUNTS {
+        let samples = input.samples(count);
+        for row in rows(&samples) {
+            cells.push(measure(input, row, &samples, &all, 3).0);
+        }
+    }
+}
+
+/// How each call of the port grows: how many times as long it takes with 10, 10 and 4.1 times the samples.
+fn print_growth(cells: &[Cell]) {
+    println!("\n### Growth\n");
+    let steps = COUNTS.windows(2).map(|pair| (pair[0], pair[1]));
+    let steps: Vec<(usize, usize)> = steps.collect();
+    let named = |&(few, many): &(usize, usize)| {
+        format!("{} to {} (× {:.1})", thousands(few), thousands(many), many as f64 / few as f64)
+    };
+    println!(
+        "| Call | samples |{}",
+        steps.iter().map(|step| format!(" {} |", named(step))).collect::<String>()
+    );
+    println!("|---|---|{}", "---|".repeat(steps.len()));
+    let time = |input: Input, name: &str, n: usize| {
+        let is = |cell: &&Cell| cell.input == input && cell.name == name && cell.n == n;
+        cells.iter().find(is).and_then(|cell| cell.times[PORT])
+    };
+    let names = cells.iter().filter(|cell| cell.input == INPUTS[0] && cell.n == COUNTS[3]);
+    for name in names.map(|cell| cell.name.as_str()) {
+        for input in INPUTS {
+            let grown = |&(few, many): &(usize, usize)| {
+                Some(time(input, name, many)? / time(input, name, few)?)
+            };
+            let columns: String = steps
+                .iter()
+                .map(|step| {
+                    format!(" {} |", grown(step).map_or(String::new(), |by| format!("{by:.1}")))
+                })
+                .collect();
+            println!("| {name} | {} |{columns}", input.title().to_lowercase());
+        }
+    }
+}
+
+/// The greatest or the least of a ratio among some cells, and where it is.
+fn extreme<'a>(
+    cells: impl Iterator<Item = &'a Cell>,
+    side: usize,
+    greatest: bool,
+) -> Option<(f64, &'a Cell)> {
+    let ratios = cells.filter_map(|cell| Some((cell.ratio(side)?, cell)));
+    ratios.reduce(|a, b| if (b.0 > a.0) == greatest { b } else { a })
+}
+
+/// What was aimed at and what was measured.
+fn print_aims(cells: &[Cell]) {
+    println!("\n### Aims\n");
+    for (call, aim) in
+        [("report", REPORT_AIM), ("validate", VALIDATION_AIM), ("withdraw", f64::NAN)]
+    {
+        let of = |cell: &&Cell| cell.n == COUNTS[3] && cell.name.starts_with(call);
+        for input in INPUTS {
+            let here = |cell: &&Cell| of(cell) && cell.input == input;
+            let ratios = cells.iter().filter(here).map(|cell| shown_ratio(cell.ratio(LIMIT)));
+            let ratios = ratios.collect::<Vec<_>>().join(", ");
+            let aim = if aim.is_nan() { String::new() } else { format!(" (aim: {aim} at most)") };
+            println!(
+                "- {call} at 4,096, {}: {ratios} times the limit{aim}",
+                input.title().to_lowercase()
+            );
+        }
+        if let Some((ratio, cell)) = extreme(cells.iter().filter(of), LIMIT, true) {
+            println!("- {call} at 4,096: {ratio:.2} times the limit at most, {}", cell.place());
+        }
+    }
+    for side in [POLYFIT, GSL] {
+        let Some((ratio, cell)) = extreme(cells.iter(), side, false) else { continue };
+        println!(
+            "- {}: at least {ratio:.2} times as long as the port, {}",
+            SIDES[side],
+            cell.place()
+        );
+        let has = cells.iter().filter(|cell| cell.ratio(side).is_some()).count();
+        let under = |cell: &&Cell| cell.ratio(side).map_or(false, |ratio| ratio < OTHERS_AIM);
+        let places: Vec<String> = cells
+            .iter()
+            .filter(under)
+            .map(|cell| format!("{} {}", shown_ratio(cell.ratio(side)), cell.place()))
+            .collect();
+        let list =
+            if places.is_empty() { String::new() } else { format!(": {}", places.join("; ")) };
+        println!(
+            "- {}: {} of {has} cells below {OTHERS_AIM} times{list}",
+            SIDES[side],
+            places.len()
+        );
+    }
 }
 
 /// x⁰ to x¹⁵ in 14 products, as document 01's power gives them.
@@ -220,57 +485,55 @@ fn fold_in_c(xs: &[f64], ys: &[f64]) -> [f64; 272] {
     sums
 }
 
-/// What is said below the table.
-#[derive(Default)]
-struct Further {
-    /// A weighted withdrawal by an unweighted plain fold in Rust and by one in C, for each count.
-    withdrawals: Vec<[f64; 2]>,
-    /// An add to a full window, weighted, by the same folds of as many, for each count.
-    windows: Vec<[f64; 2]>,
-    /// The port's reports with the highest bound, for each count that allows it.
-    reports: Vec<(usize, f64)>,
+/// A withdrawal and an add to a full window, which are weighted, beside unweighted folds of as many samples in plain Rust and in C.
+fn print_folds() {
+    println!("\n### Withdrawals and windows beside plain folds\n");
+    println!("| n | withdraw, µs | add_window, full, µs | plain fold in Rust, µs | in C, µs | withdraw / Rust | add_window / Rust |");
+    println!("|---|---|---|---|---|---|---|");
+    for count in COUNTS {
+        let samples = Input::Ripple.samples(count);
+        let withdraw = Call::Withdraw { index: count / 2 };
+        let slide = Call::AddWindow(samples[count / 2]);
+        let xs: Vec<f64> = samples.iter().map(|sample| sample.x).collect();
+        let ys: Vec<f64> = samples.iter().map(|sample| sample.y).collect();
+        let (mut one, mut other) = (memory_of(&samples), memory_of(&samples));
+        let sides: [Option<Timed>; 4] = [
+            Some(Box::new(|| drop(black_box(Port.make(&withdraw, count, lent(&mut one)))))),
+            Some(Box::new(|| drop(black_box(Port.make(&slide, count, lent(&mut other)))))),
+            Some(Box::new(|| {
+                black_box(plain_fold(black_box(&samples)));
+            })),
+            Some(Box::new(|| {
+                black_box(fold_in_c(black_box(&xs), black_box(&ys)));
+            })),
+        ];
+        let [withdrawal, window, rust, c] = timing::best(sides, 3);
+        let by = |time: Option<f64>| shown_ratio(time.and_then(|time| Some(time / rust?)));
+        println!(
+            "| {} | {} | {} | {} | {} | {} | {} |",
+            thousands(count),
+            shown(withdrawal),
+            shown(window),
+            shown(rust),
+            shown(c),
+            by(withdrawal),
+            by(window)
+        );
+    }
 }
 
-/// The calls that do not depend on a bound, then those that do.
-fn print_rows(count: usize, port: &dyn Side, further: &mut Further) {
-    let samples = samples(count);
-    let middle = count / 2;
-    let add = Call::Add(samples[count - 1]);
-    print_row("add", &add, count - 1, &samples, port);
-    print_row("correct", &Call::Correct { index: middle, y: 1.0 }, count, &samples, port);
-    let withdraw = Call::Withdraw { index: middle };
-    let withdrawal = print_row("withdraw", &withdraw, count, &samples, port);
-    let slide = Call::AddWindow(samples[middle]);
-    let window = print_row("add_window, full", &slide, count, &samples, port);
-    let fold = best(|| {
-        black_box(plain_fold(black_box(&samples)));
-    });
-    let xs: Vec<f64> = samples.iter().map(|sample| sample.x).collect();
-    let ys: Vec<f64> = samples.iter().map(|sample| sample.y).collect();
-    let in_c = best(|| {
-        black_box(fold_in_c(black_box(&xs), black_box(&ys)));
-    });
-    further.withdrawals.push([withdrawal / fold, withdrawal / in_c]);
-    further.windows.push([window / fold, window / in_c]);
-    for degree in BOUNDS.into_iter().filter(|degree| *degree < count) {
-        let bound = DegreeBound::Custom(degree);
-        let (criterion, confidence) = (Criterion::Aic, Confidence::P95);
-        let (tolerance, pruning) = (Tolerance::None, PruningRule::Positive);
-        let settings = Settings { bound, criterion, confidence, tolerance, pruning };
-        let fit = Call::Fit { degree };
-        print_row(&format!("fit, degree {degree}"), &fit, count, &samples, port);
-        let report = Call::Report(settings);
-        let name = format!("report, bound {degree}");
-        let reported = print_row(&name, &report, count, &samples, port);
-        if Some(&degree) == BOUNDS.last() {
-            further.reports.push((count, reported));
+/// The losses behind a report. GSL and the limit have none.
+fn print_losses() {
+    println!("\n### Losses");
+    let sides = [0, 1, 2];
+    print_head("Call", &sides);
+    for count in COUNTS {
+        let samples = Input::Ripple.samples(count);
+        for degree in BOUNDS.into_iter().filter(|degree| *degree < count) {
+            let row =
+                Row::new(format!("losses, bound {degree}"), Call::Losses(settings(degree)), count);
+            measure(Input::Ripple, row, &samples, &sides, 3);
         }
-        let losses = Call::Losses(settings);
-        print_row(&format!("losses, bound {degree}"), &losses, count, &samples, port);
-        let scores = Call::Scores(settings);
-        print_row(&format!("scores, bound {degree}"), &scores, count, &samples, port);
-        let validate = Call::Validate { folds: FOLDS, bound, criterion };
-        print_row(&format!("validate, bound {degree}"), &validate, count, &samples, port);
     }
 }
 
@@ -280,22 +543,19 @@ const SPLIT_COUNTS: [usize; 3] = [100, 1_000, 4_096];
 const SPLIT_BOUNDS: [usize; 2] = [3, 8];
 
 /// Prints the splits, how they grow with n, and how many pivot tests a millisecond of the port holds: what a limit costs.
-fn print_splits(port: &dyn Side) {
-    println!();
-    println!("| Call | n | port / plain | polyfit / port | GSL / port | port, ms | plain, ms | polyfit, ms | GSL, ms |");
-    println!("|---|---|---|---|---|---|---|---|---|");
+fn print_splits() {
+    println!("\n### Splits");
+    let sides = [0, 1, 2];
+    print_head("Call", &sides);
     let mut said = Vec::new();
     for degree in SPLIT_BOUNDS {
         let mut before = None;
         for count in SPLIT_COUNTS {
-            let samples = samples(count);
-            let (criterion, confidence) = (Criterion::Aic, Confidence::P95);
-            let (tolerance, pruning) = (Tolerance::None, PruningRule::Positive);
-            let bound = DegreeBound::Custom(degree);
-            let settings = Settings { bound, criterion, confidence, tolerance, pruning };
-            let call = Call::Split { limit: usize::MAX, settings };
-            let name = format!("split, bound {degree}");
-            let (time, answer) = print_answered(&name, &call, count, &samples, port);
+            let samples = Input::Ripple.samples(count);
+            let call = Call::Split { limit: usize::MAX, settings: settings(degree) };
+            let row = Row::new(format!("split, bound {degree}"), call, count);
+            let (cell, answer) = measure(Input::Ripple, row, &samples, &sides, 1);
+            let time = cell.times[PORT].unwrap_or(f64::NAN) / 1e3;
             let tests = match answer {
                 Answer::Split { tests, .. } => tests as f64,
                 answer => panic!("a split of {count}: {answer:?}"),
@@ -306,7 +566,8 @@ fn print_splits(port: &dyn Side) {
             });
             let rate = tests / time;
             said.push(format!(
-                "A split of {count} with bound {degree}: {tests} tests, {rate:.1} a ms{grown}"
+                "- A split of {} with bound {degree}: {tests} tests, {rate:.1} a ms{grown}",
+                thousands(count)
             ));
             before = Some((count, time));
         }
@@ -337,50 +598,50 @@ fn parsed(text: &str) -> Vec<(f64, f64)> {
 
 /// Lines in MB/s: read, judged and then refused by 5 in a book of no places, and read, judged and added;
 /// beside them, only read by the platform's parser.
-fn print_lines(port: &dyn Side) {
-    println!();
+fn print_lines() {
+    println!("\n### Lines\n");
     println!("| Lines | bytes | port / parser | port, MB/s | plain, MB/s | parser, MB/s |");
     println!("|---|---|---|---|---|---|");
     for (name, text) in texts() {
-        let rate = |time: f64| text.len() as f64 / 1e3 / time;
         let call = Call::AddLines(text.clone().into_bytes());
-        let parser = rate(best(|| drop(black_box(parsed(black_box(&text))))));
         let room = [Sample::unweighted(0.0, 0.0); LINES];
         for (what, room) in [("judged", &room[..0]), ("judged and added", &room[..])] {
-            let ported = rate(by_side(port, &call, 0, room));
-            let plain = rate(by_side(&Judge, &call, 0, room));
+            let (mut mine, mut plain) = (memory_of(room), memory_of(room));
+            let sides: [Option<Timed>; 3] = [
+                Some(Box::new(|| drop(black_box(Port.make(&call, 0, lent(&mut mine)))))),
+                Some(Box::new(|| drop(black_box(Judge.make(&call, 0, lent(&mut plain)))))),
+                Some(Box::new(|| drop(black_box(parsed(black_box(&text)))))),
+            ];
+            let rate = |time: Option<f64>| text.len() as f64 / time.unwrap_or(f64::NAN);
+            let [port, plain, parser] = timing::best(sides, 3).map(rate);
             println!(
-                "| {name}, {what} | {} | {:.2} | {ported:.1} | {plain:.1} | {parser:.1} |",
-                text.len(),
-                ported / parser
+                "| {name}, {what} | {} | {:.2} | {port:.1} | {plain:.1} | {parser:.1} |",
+                thousands(text.len()),
+                port / parser
             );
         }
     }
 }
 
-/// Prints the table, how a withdrawal compares with a plain fold, how a report grows with n, how fast lines
-/// are read, and the splits.
-pub fn run(port: &dyn Side) {
-    println!("| Call | n | port / plain | polyfit / port | GSL / port | port, ms | plain, ms | polyfit, ms | GSL, ms |");
-    println!("|---|---|---|---|---|---|---|---|---|");
-    let mut further = Further::default();
-    for count in COUNTS {
-        print_rows(count, port, &mut further);
+/// Prints the tables of the four kinds of samples, how calls grow, what was aimed at, and the tables of the other calls.
+pub fn run() {
+    let mut cells = Vec::new();
+    for input in INPUTS {
+        print_table(input, &mut cells);
     }
-    println!();
-    for (count, [rust, c]) in COUNTS.iter().zip(further.withdrawals) {
-        println!("A weighted withdrawal of {count} by an unweighted plain fold with powers once: {rust:.2} in Rust, {c:.2} in C");
+    print_growth(&cells);
+    print_aims(&cells);
+    print_folds();
+    print_losses();
+    print_splits();
+    print_lines();
+    let missing = [
+        (cells.iter().any(|cell| cell.times[GSL].is_some()), "GSL"),
+        (limit::THERE, "g++ for the limit"),
+    ];
+    for (_, name) in missing.iter().filter(|(there, _)| !there) {
+        println!("\nNot measured: {name} is not installed.");
     }
-    for (count, [rust, c]) in COUNTS.iter().zip(further.windows) {
-        println!("A weighted add to a full window of {count} by an unweighted plain fold of as many: {rust:.2} in Rust, {c:.2} in C");
-    }
-    for pair in further.reports.windows(2) {
-        let ((few, before), (many, after)) = (pair[0], pair[1]);
-        let (samples, time) = (many as f64 / few as f64, after / before);
-        println!("A report from n {few} to n {many}: {samples:.1} times the samples, {time:.1} times as long");
-    }
-    print_lines(port);
-    print_splits(port);
 }
 
 #[cfg(test)]
@@ -405,13 +666,30 @@ mod tests {
     /// The plain folds have the bits of document 01's, so that what is timed is the same sums but for the weights.
     #[test]
     fn plain_fold_is_a_fold() {
-        let samples = samples(100);
-        let samples: Vec<Sample> = samples.iter().map(|s| Sample::unweighted(s.x, s.y)).collect();
+        let samples = Input::Ripple.samples(100);
         let bits = |sums: &[f64]| sums.iter().map(|sum| sum.to_bits()).collect::<Vec<_>>();
         let folded = bits(&judge::sums::folded_afresh(&samples));
         assert_eq!(bits(&plain_fold(&samples)), folded);
         let xs: Vec<f64> = samples.iter().map(|sample| sample.x).collect();
         let ys: Vec<f64> = samples.iter().map(|sample| sample.y).collect();
         assert_eq!(bits(&fold_in_c(&xs, &ys)), folded);
+    }
+
+    /// What polyfit is timed for is what it is compared for: the bare calls give the degrees and refusals of the compared ones.
+    #[test]
+    fn bare_calls_are_the_compared_ones() {
+        for input in INPUTS {
+            let samples = input.samples(100);
+            let data: Vec<(f64, f64)> = samples.iter().map(|s| (s.x, s.y)).collect();
+            let settings = settings(8);
+            let bare = reference::bare_report(&data, settings).map(|(errors, _)| errors);
+            let whole = reference::report(&samples, settings).map(|report| report.errors);
+            assert_eq!(bare, whole, "{}", input.title());
+            let Settings { bound, criterion, .. } = settings;
+            let bare = reference::bare_validate(&data, FOLDS, bound);
+            let whole = reference::validate(&samples, FOLDS, bound, criterion);
+            assert_eq!(bare, whole.map(|(_, coefficients)| coefficients), "{}", input.title());
+            assert_eq!(reference::bare_fit(&data, 8), reference::fit(&samples, 8));
+        }
     }
 }

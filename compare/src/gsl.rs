@@ -1,5 +1,6 @@
-//! A fit and a report by GSL's functions, for the benchmark: `gsl_multifit_linear` is a singular value decomposition where the port's is an elimination,
-//! so the numbers differ in their last digits. It is there only where `build.rs` found GSL installed.
+//! A fit, a report and a validation by GSL's functions, for the benchmark: `gsl_multifit_linear` is a singular value decomposition where the port's is
+//! an elimination, so the numbers differ in their last digits, and it solves every degree, by dropping what is too small. Powers are worked out
+//! once and the workspace is made once for all degrees of a call. It is there only where `build.rs` found GSL installed.
 
 #[cfg(gsl)]
 use judge::statistics::huber_loss;
@@ -30,6 +31,7 @@ mod sys {
     }
 
     extern "C" {
+        pub fn gsl_set_error_handler_off() -> *mut c_void;
         pub fn gsl_multifit_linear_alloc(n: usize, p: usize) -> *mut c_void;
         pub fn gsl_multifit_linear_free(work: *mut c_void);
         pub fn gsl_multifit_linear(
@@ -57,86 +59,169 @@ mod sys {
     }
 }
 
-/// A fit of one degree.
-#[cfg(gsl)]
-pub struct Fit {
-    pub coefficients: Vec<f64>,
-    covariance: Vec<f64>,
-    residuals: Vec<f64>,
-}
-
 #[cfg(gsl)]
 fn vector(places: &mut [f64]) -> sys::Vector {
     let (size, data) = (places.len(), places.as_mut_ptr());
     sys::Vector { size, stride: 1, data, block: std::ptr::null_mut(), owner: 0 }
 }
 
+/// The first k columns of rows that have so many.
 #[cfg(gsl)]
-fn matrix(places: &mut [f64], columns: usize) -> sys::Matrix {
+fn matrix(places: &mut [f64], k: usize, columns: usize) -> sys::Matrix {
     let (size1, data) = (places.len() / columns, places.as_mut_ptr());
-    sys::Matrix { size1, size2: columns, tda: columns, data, block: std::ptr::null_mut(), owner: 0 }
+    sys::Matrix { size1, size2: k, tda: columns, data, block: std::ptr::null_mut(), owner: 0 }
 }
 
-/// 1, x, x², .. of k places.
+/// Samples as GSL takes them: rows of powers up to the highest degree, and y's.
 #[cfg(gsl)]
-fn powers(x: f64, k: usize) -> impl Iterator<Item = f64> {
-    std::iter::successors(Some(1.0), move |power| Some(power * x)).take(k)
+struct Table {
+    rows: Vec<f64>,
+    y: Vec<f64>,
+    columns: usize,
 }
 
-/// `gsl_multifit_linear` of the powers of x, and its residuals.
 #[cfg(gsl)]
-pub fn fit(samples: &[Sample], degree: usize) -> Option<Fit> {
-    let (n, k) = (samples.len(), degree + 1);
-    let mut rows: Vec<f64> = samples.iter().flat_map(|sample| powers(sample.x, k)).collect();
-    let mut y: Vec<f64> = samples.iter().map(|sample| sample.y).collect();
-    let mut fit =
-        Fit { coefficients: vec![0.0; k], covariance: vec![0.0; k * k], residuals: vec![0.0; n] };
-    let (x, y) = (matrix(&mut rows, k), vector(&mut y));
+impl Table {
+    fn new(samples: &[Sample], columns: usize) -> Self {
+        let mut rows = Vec::with_capacity(samples.len() * columns);
+        for sample in samples {
+            let mut power = 1.0;
+            for _ in 0..columns {
+                rows.push(power);
+                power *= sample.x;
+            }
+        }
+        Self { rows, y: samples.iter().map(|sample| sample.y).collect(), columns }
+    }
+
+    fn len(&self) -> usize {
+        self.y.len()
+    }
+
+    /// The samples from one to another, and all others in their order.
+    fn parted(&self, from: usize, to: usize) -> (Self, Self) {
+        let (start, end, columns) = (from * self.columns, to * self.columns, self.columns);
+        let own =
+            Self { rows: self.rows[start..end].to_vec(), y: self.y[from..to].to_vec(), columns };
+        let rows = [&self.rows[..start], &self.rows[end..]].concat();
+        let y = [&self.y[..from], &self.y[to..]].concat();
+        (own, Self { rows, y, columns })
+    }
+}
+
+/// A workspace for so many samples and columns.
+#[cfg(gsl)]
+struct Work(*mut std::ffi::c_void);
+
+#[cfg(gsl)]
+impl Work {
+    fn new(samples: usize, columns: usize) -> Self {
+        // SAFETY: both are plain calls. What fails is told by its status, and does not end the program.
+        unsafe {
+            sys::gsl_set_error_handler_off();
+            Self(sys::gsl_multifit_linear_alloc(samples, columns))
+        }
+    }
+}
+
+#[cfg(gsl)]
+impl Drop for Work {
+    fn drop(&mut self) {
+        // SAFETY: it was made by its `alloc`, and is freed once.
+        unsafe { sys::gsl_multifit_linear_free(self.0) };
+    }
+}
+
+/// A fit of one degree.
+#[cfg(gsl)]
+pub struct Fit {
+    pub coefficients: Vec<f64>,
+    covariance: Vec<f64>,
+}
+
+/// `gsl_multifit_linear` of the first k columns.
+#[cfg(gsl)]
+fn fitted(table: &mut Table, k: usize, work: &Work) -> Option<Fit> {
+    let mut fit = Fit { coefficients: vec![0.0; k], covariance: vec![0.0; k * k] };
+    let columns = table.columns;
+    let (x, y) = (matrix(&mut table.rows, k, columns), vector(&mut table.y));
     let mut c = vector(&mut fit.coefficients);
-    let mut cov = matrix(&mut fit.covariance, k);
-    let mut r = vector(&mut fit.residuals);
+    let mut cov = matrix(&mut fit.covariance, k, k);
     let mut chisq = 0.0;
-    // SAFETY: every view has the length of the places it stands for, which live past the call; the workspace is for n rows of k.
-    let status = unsafe {
-        let work = sys::gsl_multifit_linear_alloc(n, k);
-        let status = sys::gsl_multifit_linear(&x, &y, &mut c, &mut cov, &mut chisq, work);
-        sys::gsl_multifit_linear_residuals(&x, &y, &c, &mut r);
-        sys::gsl_multifit_linear_free(work);
-        status
-    };
+    // SAFETY: every view has the length of the places it stands for, which live past the call; the workspace is for at least as many
+    // rows and columns.
+    let status = unsafe { sys::gsl_multifit_linear(&x, &y, &mut c, &mut cov, &mut chisq, work.0) };
     (status == 0).then_some(fit)
 }
 
-/// AIC of the Huber losses, as a report scores a degree; the median deviation is GSL's.
+/// AIC of the Huber losses of a fit on a table's samples, as a report scores a degree; the median deviation is GSL's.
 #[cfg(gsl)]
-fn score(fit: &Fit) -> f64 {
-    let n = fit.residuals.len();
-    let sizes: Vec<f64> = fit.residuals.iter().map(|residual| residual.abs()).collect();
-    let mut work = vec![0.0; n];
+fn score(fit: &mut Fit, table: &mut Table) -> f64 {
+    let (n, k) = (table.len(), fit.coefficients.len());
+    let (mut residuals, mut work, columns) = (vec![0.0; n], vec![0.0; n], table.columns);
+    let (x, y) = (matrix(&mut table.rows, k, columns), vector(&mut table.y));
+    let (c, mut r) = (vector(&mut fit.coefficients), vector(&mut residuals));
+    // SAFETY: the views have n rows of k, n, k and n places.
+    unsafe { sys::gsl_multifit_linear_residuals(&x, &y, &c, &mut r) };
+    let sizes: Vec<f64> = residuals.iter().map(|residual| residual.abs()).collect();
     // SAFETY: both have n places.
     let deviation = unsafe { sys::gsl_stats_mad0(sizes.as_ptr(), 1, n, work.as_mut_ptr()) };
-    let loss: f64 = fit.residuals.iter().map(|residual| huber_loss(*residual, deviation)).sum();
-    n as f64 * (loss / n as f64).ln() + 2.0 * fit.coefficients.len() as f64
+    let loss: f64 = residuals.iter().map(|residual| huber_loss(*residual, deviation)).sum();
+    n as f64 * (loss / n as f64).ln() + 2.0 * k as f64
+}
+
+/// One degree.
+#[cfg(gsl)]
+pub fn fit(samples: &[Sample], degree: usize) -> Option<Fit> {
+    let mut table = Table::new(samples, degree + 1);
+    let work = Work::new(table.len(), degree + 1);
+    fitted(&mut table, degree + 1, &work)
 }
 
 /// Each degree up to the bound fitted and scored; then the best one's value and its error at every sample, which is what a band is drawn from.
 #[cfg(gsl)]
 pub fn report(samples: &[Sample], bound: usize) -> Option<Vec<(f64, f64)>> {
-    let fits = (0..=bound).filter_map(|degree| fit(samples, degree));
-    let scored = fits.map(|fit| (score(&fit), fit));
-    let (_, mut best) = scored.min_by(|a, b| a.0.total_cmp(&b.0))?;
+    let mut table = Table::new(samples, bound + 1);
+    let work = Work::new(table.len(), bound + 1);
+    let mut best: Option<(f64, Fit)> = None;
+    for k in 1..=bound + 1 {
+        let mut fit = fitted(&mut table, k, &work)?;
+        let score = score(&mut fit, &mut table);
+        if best.as_ref().map_or(true, |(least, _)| score < *least) {
+            best = Some((score, fit));
+        }
+    }
+    let (_, mut best) = best?;
     let k = best.coefficients.len();
     let c = vector(&mut best.coefficients);
-    let cov = matrix(&mut best.covariance, k);
-    let at = |sample: &Sample| {
-        let mut row: Vec<f64> = powers(sample.x, k).collect();
-        let x = vector(&mut row);
+    let cov = matrix(&mut best.covariance, k, k);
+    let at = |row: &mut [f64]| {
+        let x = vector(&mut row[..k]);
         let (mut y, mut error) = (0.0, 0.0);
         // SAFETY: the three views have k places, k places, and k rows of k.
         unsafe { sys::gsl_multifit_linear_est(&x, &c, &cov, &mut y, &mut error) };
         (y, error)
     };
-    Some(samples.iter().map(at).collect())
+    Some(table.rows.chunks_mut(bound + 1).map(at).collect())
+}
+
+/// Each fold left out in turn: each degree fitted to the others and scored on the fold; then the degree with the least mean score fitted to all.
+#[cfg(gsl)]
+pub fn validate(samples: &[Sample], folds: usize, bound: usize) -> Option<Vec<f64>> {
+    let (n, part) = (samples.len(), samples.len() / folds);
+    let mut table = Table::new(samples, bound + 1);
+    let work = Work::new(n, bound + 1);
+    let mut sums = vec![0.0; bound + 1];
+    for fold in 0..folds {
+        let to = if fold + 1 == folds { n } else { (fold + 1) * part };
+        let (mut own, mut others) = table.parted(fold * part, to);
+        for k in 1..=bound + 1 {
+            let mut fit = fitted(&mut others, k, &work)?;
+            sums[k - 1] += score(&mut fit, &mut own);
+        }
+    }
+    let best = (0..=bound).min_by(|&a, &b| sums[a].total_cmp(&sums[b]))?;
+    Some(fitted(&mut table, best + 1, &work)?.coefficients)
 }
 
 #[cfg(not(gsl))]
@@ -146,6 +231,11 @@ pub fn fit(_: &[Sample], _: usize) -> Option<Vec<f64>> {
 
 #[cfg(not(gsl))]
 pub fn report(_: &[Sample], _: usize) -> Option<Vec<(f64, f64)>> {
+    None
+}
+
+#[cfg(not(gsl))]
+pub fn validate(_: &[Sample], _: usize, _: usize) -> Option<Vec<f64>> {
     None
 }
 
@@ -165,6 +255,8 @@ mod tests {
         for (have, want) in found.iter().zip([350.0, 120.0, -40.0, 9.0]) {
             assert!((have - want).abs() < 1e-9, "{found:?}");
         }
+        let validated = validate(&samples, 5, 3).unwrap();
+        assert!((validated[0] - 350.0).abs() < 1e-9, "{validated:?}");
         for ((value, error), sample) in report(&samples, 5).unwrap().iter().zip(&samples) {
             assert!((value - sample.y).abs() < 1e-9 && *error < 1e-9);
         }

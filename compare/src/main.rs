@@ -5,7 +5,7 @@
 //! at least so many lists. The seed is printed; `--seed clock` takes one from the clock. `--list N`
 //! runs one list only and prints it. `--write N` runs nothing and prints lists of N calls in the text
 //! form of docs/JOURNAL.md; `--journal FILE` runs the calls of such a text as one list. `--bench` times
-//! the calls instead.
+//! the calls instead, and `--limit N` holds the benchmark's limit against the port on N books.
 //!
 //! Fails on a difference, which it shrinks and prints, and where something that the runs must make
 //! never happened.
@@ -17,6 +17,7 @@ mod carry;
 mod coverage;
 mod generate;
 mod gsl;
+mod limit;
 mod lines;
 mod memory;
 mod random;
@@ -29,6 +30,7 @@ mod split;
 #[cfg(test)]
 mod tests;
 mod text;
+mod timing;
 mod two_column;
 mod weights;
 mod windows;
@@ -50,6 +52,7 @@ struct Options {
     write: Option<u64>,
     journal: Option<String>,
     bench: bool,
+    limit: Option<u64>,
 }
 
 fn options() -> Result<Options, String> {
@@ -61,6 +64,7 @@ fn options() -> Result<Options, String> {
         write: None,
         journal: None,
         bench: false,
+        limit: None,
     };
     let mut arguments = std::env::args().skip(1);
     while let Some(name) = arguments.next() {
@@ -78,6 +82,7 @@ fn options() -> Result<Options, String> {
             "--list" => options.list = Some(number()?),
             "--write" => options.write = Some(number()?),
             "--journal" => options.journal = Some(value),
+            "--limit" => options.limit = Some(number()?),
             _ => return Err(format!("{name} is not known")),
         }
     }
@@ -152,6 +157,30 @@ fn run_journal(path: &str, sides: &[&dyn Side]) -> ExitCode {
     }
 }
 
+/// Holds the limit against the port on so many books, long ones too, and against judge and polyfit on as many lists.
+fn verify_limit(books: u64, seed: u64) -> ExitCode {
+    if !limit::THERE {
+        eprintln!("the limit was not compiled: there was no g++");
+        return ExitCode::FAILURE;
+    }
+    match limit::verify(books, seed) {
+        Ok(compared) => println!("{}", compared.line()),
+        Err(what) => {
+            println!("DIFFERENCE: {what}");
+            return ExitCode::FAILURE;
+        }
+    }
+    for number in 0..books {
+        let (list, mut coverage) = (generate::list(seed, number), Coverage::default());
+        if let Err(difference) = run(&list, &[&limit::Limited], &mut coverage) {
+            println!("seed {seed}, list {number}, step {}: {}", difference.step, difference.what);
+            return ExitCode::FAILURE;
+        }
+    }
+    println!("{books} lists with the limit's calls for the port's: no difference");
+    ExitCode::SUCCESS
+}
+
 fn main() -> ExitCode {
     let options = match options() {
         Ok(options) => options,
@@ -167,8 +196,11 @@ fn main() -> ExitCode {
     let sides = further_sides();
     let sides: Vec<&dyn Side> = sides.iter().map(AsRef::as_ref).collect();
     if options.bench {
-        bench::run(sides.first().copied().unwrap_or(&journal::Judge));
+        bench::run();
         return ExitCode::SUCCESS;
+    }
+    if let Some(books) = options.limit {
+        return verify_limit(books, options.seed);
     }
     if let Some(path) = &options.journal {
         return run_journal(path, &sides);

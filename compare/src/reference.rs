@@ -134,6 +134,37 @@ fn report_by(
     })
 }
 
+/// polyfit's own calls for a report and nothing else, for the benchmark: no weights, pairs that are there already, and no second scoring for the
+/// number of solved degrees. By AIC and polyfit's rule of pruning.
+pub fn bare_report(data: &[(f64, f64)], settings: Settings) -> Result<(Vec<f64>, usize), u8> {
+    let confidence = confidence_of(settings.confidence);
+    let tolerance = tolerance_of(settings.tolerance);
+    let mut fit =
+        Fit::new_auto(data, bound_of(settings.bound), &Aic).map_err(|e| number_of(&e, 0))?;
+    let covariance = covariance_of(&fit)?;
+    let bands = covariance.solution_confidence(confidence, tolerance).map_err(|_| 0)?;
+    let outliers = covariance.outliers(confidence, tolerance).map_err(|_| 0)?;
+    let errors = covariance.coefficient_standard_errors();
+    let pruned = fit.prune_insignificant(confidence).map_err(|_| 0)?;
+    Ok((errors, bands.len() + outliers.len() + pruned.len()))
+}
+
+/// The same for `CurveFit::new`.
+pub fn bare_fit(data: &[(f64, f64)], degree: usize) -> Result<Vec<f64>, u8> {
+    let fit = Fit::new(data, degree).map_err(|e| number_of(&e, 10))?;
+    Ok(fit.coefficients().to_vec())
+}
+
+/// The same for `CurveFit::new_kfold_cross_validated`, by AIC.
+pub fn bare_validate(
+    data: &[(f64, f64)],
+    folds: usize,
+    bound: DegreeBound,
+) -> Result<Vec<f64>, u8> {
+    let fit = Fit::new_kfold_cross_validated(data, folds, bound_of(bound), &Aic);
+    fit.map(|fit| fit.coefficients().to_vec()).map_err(|e| number_of(&e, 10))
+}
+
 /// The losses behind a report, and polyfit's own mean of them: `CurveFit::new_auto`, `covariance` for its
 /// refusal, `residuals`, `median_absolute_deviation` and `huber_loss`, added up here; `huber_log_likelihood`,
 /// which adds them up itself; `model_score`.

@@ -146,7 +146,8 @@ fn power_of_two(exponent: i32) -> f64 {
     f64::from_bits(((1023 + exponent) as u64) << 52)
 }
 
-fn wild(random: &mut Random) -> f64 {
+/// A sign and any exponent from −66 to 66.
+pub fn wild(random: &mut Random) -> f64 {
     let exponent = random.between(0, 132) as i32 - 66;
     random.sign() * random.within(1.0, 2.0) * power_of_two(exponent)
 }

@@ -17,7 +17,7 @@ const UNWRITTEN: f64 = -12345.678;
 
 /// The numbers that name the cases of each setting. The last case takes every other number, so that
 /// a number above all is as good; the values that the other cases ignore are never 0.
-pub(crate) fn bound_numbers(bound: DegreeBound) -> (u32, usize) {
+pub fn bound_numbers(bound: DegreeBound) -> (u32, usize) {
     match bound {
         DegreeBound::Conservative => (0, usize::MAX),
         DegreeBound::Relaxed => (1, 16),
@@ -27,14 +27,14 @@ pub(crate) fn bound_numbers(bound: DegreeBound) -> (u32, usize) {
     }
 }
 
-pub(crate) fn criterion_number(criterion: Criterion) -> u32 {
+pub fn criterion_number(criterion: Criterion) -> u32 {
     match criterion {
         Criterion::Aic => 0,
         Criterion::Bic => 1,
     }
 }
 
-pub(crate) fn confidence_numbers(confidence: Confidence) -> (u32, f64) {
+pub fn confidence_numbers(confidence: Confidence) -> (u32, f64) {
     match confidence {
         Confidence::P80 => (0, f64::NAN),
         Confidence::P90 => (1, f64::INFINITY),
@@ -47,7 +47,7 @@ pub(crate) fn confidence_numbers(confidence: Confidence) -> (u32, f64) {
     }
 }
 
-pub(crate) fn tolerance_numbers(tolerance: Tolerance) -> (u32, f64) {
+pub fn tolerance_numbers(tolerance: Tolerance) -> (u32, f64) {
     match tolerance {
         Tolerance::None => (0, f64::NAN),
         Tolerance::Absolute(value) => (1, value),
@@ -58,7 +58,7 @@ pub(crate) fn tolerance_numbers(tolerance: Tolerance) -> (u32, f64) {
 }
 
 /// Every number but 0 prunes by size.
-fn pruning_number(rule: PruningRule, other: bool) -> u32 {
+pub fn pruning_number(rule: PruningRule, other: bool) -> u32 {
     match rule {
         PruningRule::Positive => 0,
         PruningRule::Size if other => u32::MAX,
@@ -99,12 +99,12 @@ fn read(packed: u64, of: impl Fn(u64) -> Answer) -> Answer {
 }
 
 /// A book, with no bit beside its count.
-fn book(packed: u64) -> Answer {
+pub fn book(packed: u64) -> Answer {
     read(packed, |packed| Answer::Book(sys::count(packed)))
 }
 
 /// A degree, with no bit beside it.
-fn degree(packed: u64) -> Answer {
+pub fn degree(packed: u64) -> Answer {
     read(packed, |packed| {
         assert!(packed < 256, "a degree in {packed:#x}");
         Answer::Degree(sys::degree(packed))
@@ -112,7 +112,7 @@ fn degree(packed: u64) -> Answer {
 }
 
 /// A report, with no bit beside its four numbers.
-fn report(packed: u64) -> Answer {
+pub fn report(packed: u64) -> Answer {
     read(packed, |packed| {
         assert!(packed & !0x0000_FFFF_00FF_FFFF == 0, "a report in {packed:#x}");
         Answer::Report {
@@ -222,7 +222,7 @@ fn split_into(
 }
 
 /// Losses with so many places for their two numbers. They write two and none past them; refused ones write none.
-fn losses_into(places: usize, count: usize, lent: &mut Lent, settings: Settings) -> Answer {
+pub fn losses_into(places: usize, count: usize, lent: &mut Lent, settings: Settings) -> Answer {
     let mut numbers = [UNWRITTEN; 3];
     let (words, values) = settings_lists(settings, count);
     let packed = book_read!(
