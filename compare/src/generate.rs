@@ -98,6 +98,7 @@ impl<'a> Maker<'a> {
             after: TERMS + more(),
             losses: n + more(),
             x: self.x_length,
+            z: 0,
             y: self.y_length,
             weight: self.weight_length,
         }

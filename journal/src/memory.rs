@@ -43,6 +43,7 @@ pub const NAMES: [(Name, &str); 14] = [
 /// What a text lends before its first line.
 pub const LENT: Lengths = Lengths {
     x: MOST_SAMPLES,
+    z: 0,
     y: MOST_SAMPLES,
     weight: MOST_SAMPLES,
     sums: PLACES,
