@@ -35,7 +35,7 @@ FAULTS = [
     ("A: the weight into one factor first", "sums.rs", "(row[i] * row[j]) * sample.weight", "row[i] * (row[j] * sample.weight)"),
     ("g: the weight into one factor first", "sums.rs", "(row[i] * sample.y) * sample.weight", "row[i] * (sample.y * sample.weight)"),
     ("A without weights", "sums.rs", "(row[i] * row[j]) * sample.weight", "row[i] * row[j]"),
-    ("weights in the residuals' y", "terms.rs", "        self.y\n", "        self.y * self.weight\n"),
+    ("weights in the y's of the residuals", "terms.rs", "        self.y\n", "        self.y * self.weight\n"),
     ("a validation's folds without weights", "fit.rs", "sums_of_others.push(folded_afresh(&others));",
      "let others: Vec<Sample> = others.iter().map(|s| Sample { weight: 1.0, ..*s }).collect(); sums_of_others.push(folded_afresh(&others));"),
     ("15 before 4 in an add", "refusals.rs", "(4, any_not_finite(&[sample])),", "(15, any_not_above_zero(&[sample])), (4, any_not_finite(&[sample])),"),

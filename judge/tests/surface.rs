@@ -428,3 +428,42 @@ fn no_choice_is_11() {
     wide.refused(11, |lent| lent.report(UP_TO_4));
     assert_eq!(wide.clone().fit(0), Ok(0));
 }
+
+/// 12: near a line, total degree 2 is solved and its inverse fails. Found by search; with A's own sums it comes
+/// where pivots are at their edge and places of the diagonal are about 1, so that 2⁻⁵² moves them.
+#[test]
+fn inverse_that_fails_is_12() {
+    let rows = [
+        (0x3FE2_52F0_BC82_3FC4, 0x4038_8B42_A45C_FBE7, 0.0),
+        (0x3FD6_9BDF_BBD9_E398, 0x402E_404B_E283_99D1, 2.0),
+        (0x3FD1_B335_CBDC_98A0, 0x4027_B95A_D66C_DD15, 3.0),
+        (0x3FB1_BDF8_A9E4_BD40, 0x4007_B750_5BFB_EAB7, 3.0),
+        (0xBFE9_8779_D77A_BB13, 0xC041_1706_A4FF_5547, 2.0),
+        (0xBFE7_C69A_46DB_4E52, 0xC03F_D9CA_6311_DB0D, 0.0),
+    ];
+    let rows = rows.map(|(x, z, y)| (f64::from_bits(x), f64::from_bits(z), y));
+    let lent = Lent::new(&rows);
+    assert_eq!(lent.clone().fit(2), Ok(2));
+    lent.refused(12, |lent| lent.report(up_to(2)));
+    lent.refused(12, |lent| lent.band(rows[0].0, rows[0].1, 2));
+    lent.refused(9, |lent| lent.band(rows[0].0, 1e9, 2));
+}
+
+/// The mean leaves a residual that overflows; the plane leaves sizes a, 2a, a, a, a, whose median absolute
+/// deviation is 0. All steps are exact in units of 2¹⁰²⁰.
+#[test]
+fn degree_0_unsolved_and_1_chosen() {
+    let u = f64::from_bits((1023 + 1020) << 52);
+    let rows = [
+        (-0.75, 0.5, 15.0 * u),
+        (0.0, 0.5, -15.0 * u),
+        (0.75, 0.5, -6.0 * u),
+        (0.0, -0.75, 4.5 * u),
+        (0.0, -0.75, -8.5 * u),
+    ];
+    let mut lent = Lent::new(&rows);
+    lent.refused(10, |lent| lent.fit(0));
+    let answer = lent.report(UP_TO_4).unwrap();
+    assert_eq!((answer.degree, answer.solved), (1, 1));
+    assert_eq!(lent.coefficients, terms(&[-2.0 * u, -14.0 * u, 0.0]));
+}
