@@ -104,6 +104,7 @@ impl Plan {
         };
         let whole = Lengths {
             x,
+            z: longest(|l| l.z),
             y,
             weight,
             sums: longest(|l| l.sums).max(PLACES),

@@ -221,6 +221,8 @@ fn lengths(random: &mut Random, n: usize) -> Lengths {
         before: 0,
         after: 0,
         losses: 0,
+        solved: 0,
+        scores: 0,
     };
     if n > 0 && random.one_in(20) {
         let all: [fn(&mut Lengths) -> &mut usize; 11] = [

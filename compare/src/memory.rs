@@ -33,6 +33,7 @@ pub fn filled(list: &List) -> Memory {
     };
     let lengths = Lengths {
         x: longest(|l| l.x),
+        z: longest(|l| l.z),
         y: longest(|l| l.y),
         weight: longest(|l| l.weight),
         sums: longest(|l| l.sums),

@@ -47,6 +47,7 @@ pub const NAMES: [(Name, &str); 16] = [
 /// What a text lends before its first line.
 pub const LENT: Lengths = Lengths {
     x: MOST_SAMPLES,
+    z: 0,
     y: MOST_SAMPLES,
     weight: MOST_SAMPLES,
     sums: PLACES,

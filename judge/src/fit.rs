@@ -1,16 +1,23 @@
 //! Document 01, "Choice", "Covariance, bands, report" and "Validation, single fit, band": what a
-//! fit is, over samples and sums.
+//! fit is, over samples and sums. Of a sample it sees the values of its terms and y, so that curves
+//! and surfaces (document 02, E9) have one definition.
 
 use std::ops::Range;
 
 use crate::coefficient_count;
+<<<<<<< HEAD
 use crate::numbers::{abs, is_finite, ln, maximum, power, square_root, EPSILON};
 use crate::solve::{inverse, pivots_compared, solve, Matrix};
+=======
+use crate::numbers::{abs, is_finite, ln, maximum, square_root, EPSILON};
+use crate::solve::{inverse, solve, Matrix};
+>>>>>>> dc2cf4e78d9d134be26cd22d276548e78e8423e7
 use crate::statistics::{
     huber_loss, max_degree, median_absolute_deviation, residual_variance, stddev_and_mean, t_score,
     z_score, Confidence, DegreeBound, Tolerance,
 };
-use crate::sums::{fitted, folded_afresh};
+use crate::sums::folded_afresh;
+use crate::terms::{count_of, fitted, Observed, Place};
 use crate::Sample;
 
 /// The score by which a degree is chosen.
@@ -60,13 +67,13 @@ pub struct Report {
 }
 
 /// y − fitted value, for each sample.
-pub fn residuals(samples: &[Sample], coefficients: &[f64]) -> Vec<f64> {
-    samples.iter().map(|sample| sample.y - fitted(coefficients, sample.x)).collect()
+pub fn residuals<S: Observed>(samples: &[S], coefficients: &[f64]) -> Vec<f64> {
+    samples.iter().map(|sample| sample.y() - fitted(coefficients, sample.place())).collect()
 }
 
 /// The coefficients of a solved degree: no pivot fails and every y − fitted value is finite.
-pub fn solved(samples: &[Sample], sums: &[f64], degree: usize) -> Option<Vec<f64>> {
-    let coefficients = solve(sums, coefficient_count(degree))?;
+pub fn solved<S: Observed>(samples: &[S], sums: &[f64], degree: usize) -> Option<Vec<f64>> {
+    let coefficients = solve(sums, count_of::<S>(degree))?;
     let all_finite = residuals(samples, &coefficients).into_iter().all(is_finite);
     all_finite.then_some(coefficients)
 }
@@ -128,9 +135,15 @@ pub fn chosen(scores: &[Option<f64>]) -> Option<usize> {
     (0..scores.len()).find(|&degree| scores[degree].map_or(false, |score| score - least <= 2.0))
 }
 
-/// The scores of the degrees 0 to the bound; none where the degree is unsolved.
-pub fn scores(
-    samples: &[Sample],
+/// The degrees 0 to the bound but those with more terms than samples, which are not tried (document 02,
+/// E9). Of a curve there are none: its bound is below the number of samples.
+pub fn tried<S: Observed>(bound: usize, n: usize) -> Vec<usize> {
+    (0..=bound).filter(|&degree| count_of::<S>(degree) <= n).collect()
+}
+
+/// The scores of the degrees 0 to the bound that are tried; none where the degree is unsolved.
+pub fn scores<S: Observed>(
+    samples: &[S],
     sums: &[f64],
     bound: usize,
     criterion: Criterion,
@@ -138,13 +151,17 @@ pub fn scores(
     let score_of = |degree| {
         let coefficients = solved(samples, sums, degree)?;
         let residuals = residuals(samples, &coefficients);
-        Some(score(criterion, &residuals, coefficient_count(degree)))
+        Some(score(criterion, &residuals, count_of::<S>(degree)))
     };
-    (0..=bound).map(score_of).collect()
+    tried::<S>(bound, samples.len()).into_iter().map(score_of).collect()
 }
 
 /// The inverse × residual variance, place by place; none where an inverse pivot fails.
-pub fn covariance(samples: &[Sample], sums: &[f64], coefficients: &[f64]) -> Option<Matrix> {
+pub fn covariance<S: Observed>(
+    samples: &[S],
+    sums: &[f64],
+    coefficients: &[f64],
+) -> Option<Matrix> {
     let k = coefficients.len();
     let mut covariance = inverse(sums, k)?;
     let variance = residual_variance(&residuals(samples, coefficients), k);
@@ -157,36 +174,36 @@ pub fn covariance(samples: &[Sample], sums: &[f64], coefficients: &[f64]) -> Opt
 }
 
 /// First each Σᵢ φᵢ × cov[i][j], then Σⱼ of that × φⱼ.
-pub fn prediction_variance(covariance: &Matrix, x: f64) -> f64 {
+pub fn prediction_variance<P: Place>(covariance: &Matrix, place: P) -> f64 {
     let k = covariance.len();
     let mut variance = 0.0;
     for j in 0..k {
         let mut sum = 0.0;
         for i in 0..k {
-            sum += power(x, i) * covariance[i][j];
+            sum += place.term(i) * covariance[i][j];
         }
-        variance += sum * power(x, j);
+        variance += sum * place.term(j);
     }
     variance
 }
 
 /// The standard deviation of the y's, which a variance tolerance scales.
-fn deviation_of_y(samples: &[Sample]) -> f64 {
-    let ys: Vec<f64> = samples.iter().map(|sample| sample.y).collect();
+fn deviation_of_y<S: Observed>(samples: &[S]) -> f64 {
+    let ys: Vec<f64> = samples.iter().map(Observed::y).collect();
     stddev_and_mean(&ys).0
 }
 
-/// `confidence_band` at x.
-pub fn confidence_band(
+/// `confidence_band` at a place, of a curve at x.
+pub fn confidence_band<P: Place>(
     coefficients: &[f64],
     covariance: &Matrix,
     deviation_of_y: f64,
-    x: f64,
+    place: P,
     confidence: Confidence,
     tolerance: Tolerance,
 ) -> Band {
-    let mut variance = prediction_variance(covariance, x);
-    let value = fitted(coefficients, x);
+    let mut variance = prediction_variance(covariance, place);
+    let value = fitted(coefficients, place);
     let width = match tolerance {
         Tolerance::None => 0.0,
         Tolerance::Absolute(width) => width,
@@ -231,12 +248,12 @@ pub fn pruned(
 }
 
 /// `outliers`: y outside its own band.
-pub fn is_outlier(sample: Sample, band: Band) -> bool {
-    sample.y < band.lower || sample.y > band.upper
+pub fn is_outlier(y: f64, band: Band) -> bool {
+    y < band.lower || y > band.upper
 }
 
 /// The single fit at a degree; 10 where it is unsolved.
-pub fn fit(samples: &[Sample], sums: &[f64], degree: usize) -> Result<Vec<f64>, u8> {
+pub fn fit<S: Observed>(samples: &[S], sums: &[f64], degree: usize) -> Result<Vec<f64>, u8> {
     solved(samples, sums, degree).ok_or(10)
 }
 
@@ -249,7 +266,7 @@ struct Choice {
 }
 
 /// A report's choice; 11 where no degree is chosen, 12 where an inverse pivot fails.
-fn choice(samples: &[Sample], sums: &[f64], settings: Settings) -> Result<Choice, u8> {
+fn choice<S: Observed>(samples: &[S], sums: &[f64], settings: Settings) -> Result<Choice, u8> {
     let bound = max_degree(settings.bound, samples.len());
     let scores = scores(samples, sums, bound, settings.criterion);
     let degree = chosen(&scores).ok_or(11)?;
@@ -260,17 +277,18 @@ fn choice(samples: &[Sample], sums: &[f64], settings: Settings) -> Result<Choice
 }
 
 /// A report, or the number by which its choice is refused.
-pub fn report(samples: &[Sample], sums: &[f64], settings: Settings) -> Result<Report, u8> {
+pub fn report<S: Observed>(samples: &[S], sums: &[f64], settings: Settings) -> Result<Report, u8> {
     let Choice { degree, solved, coefficients, covariance } = choice(samples, sums, settings)?;
     let errors = errors(&covariance);
     let (confidence, tolerance) = (settings.confidence, settings.tolerance);
     let pruned = pruned(settings.pruning, &coefficients, &errors, samples.len(), confidence);
     let deviation = deviation_of_y(samples);
-    let band_of = |sample: &Sample| {
-        confidence_band(&coefficients, &covariance, deviation, sample.x, confidence, tolerance)
+    let band_of = |sample: &S| {
+        let place = sample.place();
+        confidence_band(&coefficients, &covariance, deviation, place, confidence, tolerance)
     };
     let bands: Vec<Band> = samples.iter().map(band_of).collect();
-    let outliers = samples.iter().zip(&bands).map(|(&s, &band)| is_outlier(s, band)).collect();
+    let outliers = samples.iter().zip(&bands).map(|(s, &band)| is_outlier(s.y(), band)).collect();
     Ok(Report { degree, solved, coefficients, errors, pruned, bands, outliers })
 }
 
@@ -293,6 +311,7 @@ pub fn chosen_losses(samples: &[Sample], sums: &[f64], settings: Settings) -> Re
     Ok(Losses { degree, losses, total, score })
 }
 
+<<<<<<< HEAD
 /// What is known of the degrees that a report chooses from: of each from 0 to the bound its score, none
 /// where it is unsolved; the least of these, the chosen degree, and the pivots compared for all of them.
 #[derive(Debug, Clone, PartialEq)]
@@ -321,8 +340,13 @@ pub fn scores_by_degree(
 /// The band at one x and degree; 10 where the degree is unsolved, 12 where an inverse pivot fails.
 pub fn band(
     samples: &[Sample],
+=======
+/// The band at one place and degree; 10 where the degree is unsolved, 12 where an inverse pivot fails.
+pub fn band<S: Observed>(
+    samples: &[S],
+>>>>>>> dc2cf4e78d9d134be26cd22d276548e78e8423e7
     sums: &[f64],
-    x: f64,
+    place: S::Place,
     degree: usize,
     confidence: Confidence,
     tolerance: Tolerance,
@@ -330,7 +354,7 @@ pub fn band(
     let coefficients = fit(samples, sums, degree)?;
     let covariance = covariance(samples, sums, &coefficients).ok_or(12)?;
     let deviation = deviation_of_y(samples);
-    Ok(confidence_band(&coefficients, &covariance, deviation, x, confidence, tolerance))
+    Ok(confidence_band(&coefficients, &covariance, deviation, place, confidence, tolerance))
 }
 
 /// Folds of n / folds samples, the last takes the rest.

@@ -7,7 +7,8 @@
 //! `numbers`, `statistics`, `sums`, `solve`, `fit`, `frame` and `lines` are definitions over samples
 //! and sums; `refusals` says which number a call is refused by; `book` has the calls on lent memory;
 //! `ledger` is the plain list of samples that the book must agree with; `listing` is the program
-//! `stakebook`; `split` is document 02's E8. `two_column` is document 01's book of two columns, by its own words and with nothing of
+//! `stakebook`; `split` is document 02's E8, `surface` its E9, for which `terms` says what a fit sees of
+//! a sample. `two_column` is document 01's book of two columns, by its own words and with nothing of
 //! document 02 in it.
 
 // Places are named by index, as the document names them.
@@ -25,6 +26,8 @@ pub mod solve;
 pub mod split;
 pub mod statistics;
 pub mod sums;
+pub mod surface;
+pub mod terms;
 pub mod two_column;
 
 /// A sample: finite x and y, and a weight (document 02, E5).

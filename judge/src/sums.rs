@@ -1,5 +1,5 @@
 //! Document 01, "Book, columns, sums": the 272 sums, each product with the weight of its sample
-//! (document 02, E5); and the fitted value, which sees no weight.
+//! (document 02, E5).
 
 use crate::numbers::power;
 use crate::Sample;
@@ -11,7 +11,7 @@ pub const TERMS: usize = 16;
 pub const PLACES: usize = 272;
 
 /// Where g begins.
-const G: usize = 256;
+pub const G: usize = 256;
 
 /// x⁰ to x¹⁵.
 pub fn powers(x: f64) -> [f64; TERMS] {
@@ -75,13 +75,4 @@ pub fn a(sums: &[f64], i: usize, j: usize) -> f64 {
 
 pub fn g(sums: &[f64], i: usize) -> f64 {
     sums[G + i]
-}
-
-/// The fitted value adds coefficient × xʲ, j ascending, from +0.
-pub fn fitted(coefficients: &[f64], x: f64) -> f64 {
-    let mut value = 0.0;
-    for (j, coefficient) in coefficients.iter().enumerate() {
-        value += coefficient * power(x, j);
-    }
-    value
 }
