@@ -210,6 +210,7 @@ fn lengths(random: &mut Random, n: usize) -> Lengths {
         x: capacity,
         y: capacity,
         weight: capacity,
+        z: 0,
         sums: PLACES,
         scratch: n,
         coefficients: TERMS,

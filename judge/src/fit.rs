@@ -5,13 +5,8 @@
 use std::ops::Range;
 
 use crate::coefficient_count;
-<<<<<<< HEAD
-use crate::numbers::{abs, is_finite, ln, maximum, power, square_root, EPSILON};
-use crate::solve::{inverse, pivots_compared, solve, Matrix};
-=======
 use crate::numbers::{abs, is_finite, ln, maximum, square_root, EPSILON};
-use crate::solve::{inverse, solve, Matrix};
->>>>>>> dc2cf4e78d9d134be26cd22d276548e78e8423e7
+use crate::solve::{inverse, pivots_compared, solve, Matrix};
 use crate::statistics::{
     huber_loss, max_degree, median_absolute_deviation, residual_variance, stddev_and_mean, t_score,
     z_score, Confidence, DegreeBound, Tolerance,
@@ -311,7 +306,6 @@ pub fn chosen_losses(samples: &[Sample], sums: &[f64], settings: Settings) -> Re
     Ok(Losses { degree, losses, total, score })
 }
 
-<<<<<<< HEAD
 /// What is known of the degrees that a report chooses from: of each from 0 to the bound its score, none
 /// where it is unsolved; the least of these, the chosen degree, and the pivots compared for all of them.
 #[derive(Debug, Clone, PartialEq)]
@@ -337,14 +331,9 @@ pub fn scores_by_degree(
     Ok(Scores { degree, bound, scores, least, tests })
 }
 
-/// The band at one x and degree; 10 where the degree is unsolved, 12 where an inverse pivot fails.
-pub fn band(
-    samples: &[Sample],
-=======
 /// The band at one place and degree; 10 where the degree is unsolved, 12 where an inverse pivot fails.
 pub fn band<S: Observed>(
     samples: &[S],
->>>>>>> dc2cf4e78d9d134be26cd22d276548e78e8423e7
     sums: &[f64],
     place: S::Place,
     degree: usize,
