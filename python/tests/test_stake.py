@@ -458,9 +458,14 @@ class Refusals(Command):
         self.refused(11, "scores", "s.stake")
 
     def test_12_no_error_can_be_worked_out(self):
-        # tests/fixed.calls has 15 readings for which the judge refuses a report up to degree 14 by 12
-        calls = (ROOT / "tests" / "fixed.calls").read_text().splitlines()
-        (frame,) = [bytes.fromhex(call.split()[1]) for call in calls if call.startswith("frame 00F101BFD67BA3634610D0")]
+        # a frame of 15 readings for which the judge refuses a report up to degree 14 by 12 (found by the comparison)
+        frame = bytes.fromhex(
+            "00F101BFD67BA3634610D03FB17DDF506B62E0BFCFB0CBA5C8C50CBFCCEB46D4C6E040BFC259191F7B403C3FAB52E8E8340200BFA2C64312"
+            "FC22C03FE8A09EACF37A323FB270FB4F23DE40BFEFAC9E4357D8BC3FC5D9814990F2A63FC50974368F9B283FD1521E6ADF689D3FCF222DD3"
+            "8223F83FD7A69071514A163FD0DB07F0EBF75C3FDEC537A0314B583FDE8B4EE37257E43FE309B9F8DBDBCA3FE4DC8F8C6004783FE65DEDC6"
+            "C87CC8BFD3C1C5E5C06F603FE93AFE6B0CE91E3FE9FBC3E4015A7A3FECD1B2B34A87233FEADF06099153EC3FEFE8DEA5E71CBBBF9292E26A"
+            "9B9BC03FF19E25161AA084BFA980B9FC1B7C80"
+        )
         self.made(*[(x.hex(), y.hex()) for x, y in struct.iter_unpack(">2d", frame[3:])], bound="14", criterion="aic")
         self.refused(12, "report", "s.stake")
 
