@@ -1,6 +1,6 @@
 -- What the calls can answer fits the fields that it is packed into: a count of at most 4,096, a degree of at most 15, at most 16 solved degrees and
 -- pruned terms, at most 4,096 outliers, and refusals 1 to 15.
-use mathlib.Core.Path.{_≡_, refl, ap}
+use mathlib.Core.Path.{_≡_, refl, ap, _∙_}
 use mathlib.Core.Bool.{Bool, true, false, cond, not, _&&_}
 use mathlib.Core.List.{List, [], _∷_, map}
 use Prim.Native.Nat.{ℕ, zero, suc, _+_, _-_, _≤_, max}
@@ -17,6 +17,7 @@ use Rattle.basis.specs.Sizes.{maxSamples}
 use Rattle.basis.specs.declared.OptionDegree.{OptionDegree}
 use Rattle.basis.specs.declared.OptionDegree.the-variants.{Some, None}
 use Rattle.statistics.specs.Degrees.{maxDegree}
+use Rattle.statistics.specs.Scores.{tScore, degreesOfFreedom}
 use Rattle.statistics.specs.declared.DegreeBound.{DegreeBound}
 use Rattle.statistics.specs.declared.Confidence.{Confidence}
 use Rattle.statistics.specs.declared.Tolerance.{Tolerance}
@@ -30,13 +31,14 @@ use Rattle.choice.specs.Laws.{chosen}
 use Rattle.choice.specs.declared.Scored.{Scored}
 use Rattle.basis.specs.Counts.{countOf}
 use Rattle.basis.specs.declared.Basis.{Basis}
-use Rattle.basis.specs.declared.Basis.the-variants.{Curve}
+use Rattle.basis.specs.declared.Basis.the-variants.{Curve, Surface}
 use Rattle.fit.specs.Solved.{isSolved}
 use Rattle.fit.specs.Chosen.{tried, choiceOf, countsOf}
 use Rattle.folds.specs.Folds.{validated, validatedChoice}
 use Rattle.solve.specs.Solve.{solve}
 use Rattle.covariance.specs.declared.Band.{Band}
 use Rattle.covariance.specs.declared.PruningRule.{PruningRule}
+use Rattle.covariance.specs.Covariance.{errorsOf}
 use Rattle.covariance.specs.Marks.{mark, ones}
 use Rattle.covariance.specs.MarkLaws.{ones-again}
 use Rattle.covariance.specs.Pruning.{prunes, prunedAt, prunedBytes}
@@ -53,6 +55,7 @@ use Rattle.book.specs.RefusalLaws.{open-numbers, add-numbers, correct-numbers, 
 use Rattle.book.specs.Calls.{Out, State, stateOf, stateAfter, bookAfter, refused, addNext, addMany, openOut, addOut, correctOut, withdrawOut, addFrameOut, addLinesOut}
 use Rattle.book.specs.Window.{windowRefusal, withPlace, windowOut}
 use Rattle.book.specs.WindowLaws.{window-numbers, window-room}
+use Rattle.measure.specs.Places.{termPlaces}
 use Rattle.measure.specs.Measures.{inverseFails, measureRefusal, covarianceAt}
 use Rattle.query.specs.Refusals.{fitRefusal, validateRefusal, bandRefusal}
 use Rattle.query.specs.RefusalLaws.{fit-numbers, validate-numbers, band-numbers, fit-room, validate-room}
@@ -67,8 +70,7 @@ use Rattle.reporting.specs.declared.Places.{Places}
 use Rattle.report.specs.Refusals.{reportRefusal}
 use Rattle.report.specs.RefusalLaws.{report-numbers, report-room}
 use Rattle.report.specs.Reports.{reportChoice}
-use Rattle.report.specs.ChosenLaws.{chosen-solved}
-use Rattle.reporting.specs.ChosenLaws.{of-either}
+use Rattle.reporting.specs.ChosenLaws.{last-solved, of-either}
 use Rattle.reporting.specs.Reports.{ReportOut, refusedEarly, refusedLate, reportOf, writtenBy}
 use Rattle.report.specs.Reports.{reportPast, reportOn, reportOut}
 use Rattle.capi.specs.Packed.{BookFits, FitFits, BandFits, ReportFits, bandInto}
@@ -204,7 +206,7 @@ window-fits n columns sums p =
 
 -- ---- fit and validation
 
-past-fits : (basis : Basis) (n degree : ℕ) (rows : List Row) (sums : List Float) → degree ≤ 15 → FitFits (fitPast basis n degree rows sums .answer)
+pub past-fits : (basis : Basis) (n degree : ℕ) (rows : List Row) (sums : List Float) → degree ≤ 15 → FitFits (fitPast basis n degree rows sums .answer)
 unfolding fitPast FitFits
 past-fits basis n degree rows sums h = go (isSolved sums rows (countOf basis degree)) refl
   where
@@ -212,7 +214,7 @@ past-fits basis n degree rows sums h = go (isSolved sums rows (countOf basis deg
     go true e = rw e h
     go false e = rw e (omega arith, omega arith)
 
-fit-settles : (k : ℕ) (good : FitOut) → k ≤ mostNumber → (k ≡ 0 → FitFits (good .answer)) → FitFits (settle k good (fitRefused k) .answer)
+pub fit-settles : (k : ℕ) (good : FitOut) → k ≤ mostNumber → (k ≡ 0 → FitFits (good .answer)) → FitFits (settle k good (fitRefused k) .answer)
 unfolding FitFits
 fit-settles zero good h g = g refl
 fit-settles (suc k) good h g = (omega arith, h)
@@ -246,21 +248,21 @@ module _ (n : ℕ) (columns : Columns) (sums scratch coefficients : List Float) 
 
 -- ---- the band
 
-measure-most : (sums : List Float) (rows : List Row) (k : ℕ) → measureRefusal sums rows k ≤ mostNumber
+pub measure-most : (sums : List Float) (rows : List Row) (k : ℕ) → measureRefusal sums rows k ≤ mostNumber
 unfolding measureRefusal
 measure-most sums rows k = omega (arith, among _ (numbered (by (not (isSolved sums rows k)) 10 ∷ by (inverseFails sums k) 12 ∷ [])))
 
-band-settles : (k : ℕ) (b : Band) → k ≤ mostNumber → BandFits (settle k (bands.Band b) (bands.Refused k))
+pub band-settles : (k : ℕ) (b : Band) → k ≤ mostNumber → BandFits (settle k (bands.Band b) (bands.Refused k))
 unfolding BandFits
 band-settles zero b h = tt
 band-settles (suc k) b h = (omega arith, h)
 
-out-settles : (k : ℕ) (good : BandOut) → k ≤ mostNumber → BandFits (good .answer) → BandFits (settle k good (bandRefused k) .answer)
+pub out-settles : (k : ℕ) (good : BandOut) → k ≤ mostNumber → BandFits (good .answer) → BandFits (settle k good (bandRefused k) .answer)
 unfolding BandFits
 out-settles zero good h g = g
 out-settles (suc k) good h g = (omega arith, h)
 
-into-fits : (places : ℕ) (o : BandOut) → BandFits (o .answer) → BandFits (bandInto places o .answer)
+pub into-fits : (places : ℕ) (o : BandOut) → BandFits (o .answer) → BandFits (bandInto places o .answer)
 unfolding bandInto BandFits
 into-fits places o h = go (ltb places 3)
   where
@@ -285,9 +287,9 @@ module _ (k : ℕ) (c v : List Float) where
   unfolding outlierOf
   outliers-most t z sd rows h = omega (arith, ones-map (outlierOf k c v t z sd) (λ r. mark-most (outlies (bandAt k c v t z sd (r .terms)) (r .y))) rows)
 
-  pruned-most : (rule : PruningRule) (t : Float) → ones (prunedBytes 16 rule k c v t) ≤ 16
+  pruned-most : (m : ℕ) (rule : PruningRule) (t : Float) → ones (prunedBytes m rule k c v t) ≤ m
   unfolding prunedAt
-  pruned-most rule t = ones-table (prunedAt rule k c v t) (λ i. mark-most (ltb i k && prunes rule t (getD c i nan) (getD v i nan))) 16
+  pruned-most m rule t = ones-table (prunedAt rule k c v t) (λ i. mark-most (ltb i k && prunes rule t (getD c i nan) (getD v i nan))) m
 
 pub choice-solved : (n : ℕ) (settings : Settings) (rows : List Row) (sums : List Float) → maxDegree (settings .bound) n ≤ 15 → reportChoice n settings rows sums .solved ≤ 16
 unfolding reportChoice choiceOf
@@ -295,31 +297,48 @@ choice-solved n settings rows sums most =
     let counts = countsOf Curve (maxDegree (settings .bound) n) in
     omega (arith, solved-most (tried (settings .criterion) sums rows counts) (length counts), length-table (countOf Curve) (maxDegree (settings .bound) n + 1))
 
-module _ (n : ℕ) (settings : Settings) (rows : List Row) (sums : List Float)
-    (few : length rows ≤ 4096) (most : maxDegree (settings .bound) n ≤ 15) where
-  written-fits : (degree solved : ℕ) (c v : List Float) → degree ≤ 15 → solved ≤ 16 → ReportFits (writtenBy Curve n settings rows degree solved c v .answer)
+places-most : (basis : Basis) → termPlaces basis ≤ 16
+places-most Curve = omega arith
+places-most Surface = omega arith
+
+-- of a curve or a surface, whose choice is among the degrees 0 to the last
+module _ (basis : Basis) (n : ℕ) (settings : Settings) (rows : List Row) (sums : List Float) (last : ℕ)
+    (few : length rows ≤ 4096) (most : last ≤ 15) where
+  written-fits : (degree solved : ℕ) (c v : List Float) → degree ≤ 15 → solved ≤ 16 → ReportFits (writtenBy basis n settings rows degree solved c v .answer)
   unfolding ReportFits writtenBy
   written-fits degree solved c v h k =
-      (h, k, outliers-most (countOf Curve degree) c v (settings .tolerance) _ _ rows few, pruned-most (countOf Curve degree) c _ (settings .pruning) _)
+      let e = errorsOf (countOf basis degree) v in (
+        h,
+        k,
+        outliers-most (countOf basis degree) c v (settings .tolerance) _ _ rows few,
+        omega (arith, places-most basis, pruned-most (countOf basis degree) c e (termPlaces basis) (settings .pruning) (tScore (settings .confidence) (degreesOfFreedom n (countOf basis degree)))),
+      )
 
-  chosen-fits : ReportFits (reportPast n settings rows sums .answer)
-  unfolding reportPast reportOf ReportFits
-  chosen-fits =
-      of-either Curve sums (refusedLate n) _ (λ (o : ReportOut). ReportFits (o .answer)) (reportChoice n settings rows sums .chosen) (omega arith, omega arith) (omega arith, omega arith)
-      (λ d e. written-fits (d .0) _ _ _ (omega (arith, chosen-solved n settings rows sums d e .0)) (choice-solved n settings rows sums most))
+  last-count : choiceOf (settings .criterion) sums rows (countsOf basis last) .solved ≤ 16
+  unfolding choiceOf
+  last-count =
+      omega (arith, solved-most (tried (settings .criterion) sums rows (countsOf basis last)) (length (countsOf basis last)), length-table (countOf basis) (last + 1))
 
-report-settles : (k : ℕ) (good : ReportOut) → k ≤ mostNumber → (k ≡ 0 → ReportFits (good .answer))
+  pub chosen-fits : (o : OptionDegree) → choiceOf (settings .criterion) sums rows (countsOf basis last) .chosen ≡ o
+      → ReportFits (reportOf basis n settings rows sums (choiceOf (settings .criterion) sums rows (countsOf basis last) .solved) o .answer)
+  unfolding reportOf ReportFits
+  chosen-fits o q =
+      of-either basis sums (refusedLate n) _ (λ (r : ReportOut). ReportFits (r .answer)) o (omega arith, omega arith) (omega arith, omega arith)
+      (λ d e. written-fits (d .0) _ _ _ (omega (arith, last-solved basis (settings .criterion) rows sums last d (q ∙ e) .0)) last-count)
+
+pub report-settles : (k : ℕ) (good : ReportOut) → k ≤ mostNumber → (k ≡ 0 → ReportFits (good .answer))
     → ReportFits (settle k good (refusedEarly k) .answer)
 unfolding ReportFits
 report-settles zero good h g = g refl
 report-settles (suc k) good h g = (omega arith, h)
 
 pub report-fits : (n : ℕ) (settings : Settings) (columns : Columns) (sums : List Float) (places : Places) → ReportFits (reportOut n settings columns sums places .answer)
-unfolding reportOn
+unfolding reportOn reportPast reportChoice
 report-fits n settings columns sums places =
     let samples = samplesOf n columns in
     report-settles (reportRefusal n settings samples (lengths columns) (length sums) places) _
     (omega (arith, among _ (report-numbers n settings samples (lengths columns) (length sums) places)))
     (λ e.
     let w = report-room n settings samples (lengths columns) (length sums) places e in
-    chosen-fits n settings (rowsOf samples) (take 272 sums) (omega (arith, w .room .most, length-samples n columns, length-map samples rowOf)) (w .most))
+    chosen-fits Curve n settings (rowsOf samples) (take 272 sums) (maxDegree (settings .bound) n)
+    (omega (arith, w .room .most, length-samples n columns, length-map samples rowOf)) (w .most) _ refl)

@@ -10,3 +10,4 @@ pub mod ReadingLaws
 pub mod ReportByLaws
 pub mod SplitFitting
 pub mod ScoresFitting
+pub mod SurfaceFitting

@@ -28,6 +28,8 @@ use Rattle.reporting.specs.declared.ReportAnswer.the-variants as reports
 use Rattle.reporting.specs.Reports.{ReportOut, Does}
 use Rattle.report.specs.Reports.{reportOut}
 use Rattle.reporting.specs.Outputs.{LentOutputs, placesOf}
+use Rattle.surface.specs.Points.{PointColumns}
+use Rattle.surface.specs.Surfaces.{surfaceReportOut}
 use Rattle.split.specs.declared.SplitAnswer.{SplitAnswer}
 use Rattle.split.specs.declared.SplitAnswer.the-variants as splits
 use Rattle.split.specs.Rooms.{mostTests}
@@ -218,6 +220,10 @@ pub record ReportPacked (o : ReportOut) (r : ℕ) (w : LentOutputs) : Type 0 whe
 -- of a report of these columns and sums
 abbrev pub ReportPackedIs : ℕ → Settings → Columns → List Float → ℕ → LentOutputs → Type 0
 ReportPackedIs n settings columns sums r w = ReportPacked (reportOut n settings columns sums (placesOf (w .found))) r w
+
+-- of a surface's report of these columns
+abbrev pub SurfacePackedIs : ℕ → Settings → PointColumns → ℕ → LentOutputs → Type 0
+SurfacePackedIs n settings columns r w = ReportPacked (surfaceReportOut n settings columns (placesOf (w .found))) r w
 
 -- v: the lent place for the total
 pub record SplitPacked (o : SplitOut) (r : ℕ) (w : LentSplit) (v : Slice Float) : Type 0 where

@@ -24,6 +24,8 @@ ghost use Rattle.frame.specs.Handed.{openedOf, nextOf};
 ghost use Rattle.query.specs.Fits.{fitOut, validateOut};
 ghost use Rattle.query.specs.Bands.{bandOut};
 ghost use Rattle.reporting.specs.Outputs.{outputs};
+ghost use Rattle.surface.specs.Points.{pointColumns};
+ghost use Rattle.surface.specs.Surfaces.{surfaceFitOut, surfaceBandOut};
 ghost use Rattle.losses.specs.Losses.{lossOut};
 ghost use Rattle.scores.specs.Scores.{scoresOut};
 ghost use Rattle.carried.specs.Carry.{carryOut};
@@ -32,7 +34,7 @@ ghost use Rattle.two_column.specs.Pairs.{columns as pairColumns};
 ghost use Rattle.two_column.specs.Calls.{openOut as pairOpenOut, addOut as pairAddOut, correctOut as pairCorrectOut, withdrawOut as pairWithdrawOut, addFrameOut as pairFrameOut};
 ghost use Rattle.replay.specs.Replay.{memory};
 ghost use Rattle.settings.specs.Numbers.{boundOf, criterionOf, confidenceOf, toleranceOf, settingsOf, settingsIn};
-ghost use Rattle.capi.specs.Packed.{packedFields, packedReport, ReportFits, packedBand, bandNumbers, BookPacked, PairPacked, FitPacked, BandPacked, bandInto, ReportPackedIs, packedSplit, splitTotal, SplitFits, SplitPackedIs, packedLosses, lossNumbers, LossPacked, lossInto, packedScores, leastNumber, ScoresFits, ScoresPacked, scoresInto, packedOpened, packedRead, readNumbers, ReadPacked, ReplayPacked};
+ghost use Rattle.capi.specs.Packed.{packedFields, packedReport, ReportFits, packedBand, bandNumbers, BookPacked, PairPacked, FitPacked, BandPacked, bandInto, ReportPackedIs, SurfacePackedIs, packedSplit, splitTotal, SplitFits, SplitPackedIs, packedLosses, lossNumbers, LossPacked, lossInto, packedScores, leastNumber, ScoresFits, ScoresPacked, scoresInto, packedOpened, packedRead, readNumbers, ReadPacked, ReplayPacked};
 
 // The places that a band is written to, the total and the score of losses, and a reader's sample.
 const BAND: usize = 3;
@@ -520,6 +522,98 @@ pub extern "C" fn stakebook_report_by(
         ys,
         ws,
         sums,
+        scratch,
+        coefficients,
+        errors,
+        pruned,
+        lower,
+        upper,
+        outliers,
+    ))
+}
+
+// The surface of the asked total degree. No sums are lent: they are folded inside the call.
+#[no_mangle]
+pub extern "C" fn stakebook_surface_fit(
+    count: usize,
+    degree: usize,
+    xs: &[f64],
+    zs: &[f64],
+    ys: &[f64],
+    scratch: &mut [f64],
+    coefficients: &mut [f64],
+) -> u64
+    ensures { λ r. ⌜ FitPacked (surfaceFitOut count degree (pointColumns (before xs) (before zs) (before ys)) (before scratch) (before coefficients)) r scratch coefficients ⌝ }
+{
+    packed::fit(surface::surface_fit(count, Degree(degree), xs, zs, ys, scratch, coefficients))
+}
+
+// The band at x and z of the surface of the asked total degree, written to three places: value, lower and upper.
+#[no_mangle]
+pub extern "C" fn stakebook_surface_band(
+    count: usize,
+    x: f64,
+    z: f64,
+    degree: usize,
+    confidence: u32,
+    score: f64,
+    tolerance: u32,
+    value: f64,
+    xs: &[f64],
+    zs: &[f64],
+    ys: &[f64],
+    scratch: &mut [f64],
+    numbers: &mut [f64],
+) -> u64
+    ensures { λ r. ⌜ BandPacked (bandInto (length (before numbers)) (surfaceBandOut count x z degree (confidenceOf confidence score) (toleranceOf tolerance value) (pointColumns (before xs) (before zs) (before ys)) (before scratch))) r scratch numbers ⌝ }
+{
+    let places = numbers.len();
+    if places < BAND {
+        return packed::refused(1);
+    }
+    let with = settings::confidence(confidence, score);
+    let allowed = settings::tolerance(tolerance, value);
+    let answer = surface::surface_band(
+        count,
+        x,
+        z,
+        Degree(degree),
+        with,
+        allowed,
+        xs,
+        zs,
+        ys,
+        scratch,
+    );
+    packed_band(answer, numbers)
+}
+
+// The report of a surface, by lists of settings.
+#[no_mangle]
+pub extern "C" fn stakebook_surface_report(
+    count: usize,
+    words: &[u32],
+    values: &[f64],
+    xs: &[f64],
+    zs: &[f64],
+    ys: &[f64],
+    scratch: &mut [f64],
+    coefficients: &mut [f64],
+    errors: &mut [f64],
+    pruned: &mut [u8],
+    lower: &mut [f64],
+    upper: &mut [f64],
+    outliers: &mut [u8],
+) -> u64
+    ensures { λ r. ⌜ SurfacePackedIs count (settingsIn (before words) (before values)) (pointColumns (before xs) (before zs) (before ys)) r (outputs scratch coefficients errors pruned lower upper outliers) ⌝ }
+{
+    let settings = settings::listed(words, values);
+    packed_report(surface::surface_report(
+        count,
+        settings,
+        xs,
+        zs,
+        ys,
         scratch,
         coefficients,
         errors,
