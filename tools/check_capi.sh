@@ -7,7 +7,7 @@ rt staticlib capi | tail -n 1
 
 # the judge still prints the committed answers, and the C examples print them too
 make --silent --always-make -C examples/c
-for example in season update; do
+for example in season update surface; do
     cargo run --release --quiet -p journal -- --judge <"examples/c/$example.calls" | cmp - "examples/c/$example.answers"
     "target/$example" | cmp - "examples/c/$example.answers"
     echo "C example $example: as the judge"

@@ -98,6 +98,23 @@ FAULTS = [
     ("split: the last break not tried", "split.rs", "*b >= LEAST_ON_A_SIDE && n - b >= LEAST_ON_A_SIDE", "*b >= 2 && n - b >= 2 + usize::from(n > 4)"),
     ("split: scratch left at 16 and 11", "book.rs", "clear_scratch(scratch, count);\n    let split = split::split(&samples, settings, limit)?;",
      "let split = split::split(&samples, settings, limit)?;\n    clear_scratch(scratch, count);"),
+    ("surface: terms by rising a", "surface.rs", "    (2, 0), (1, 1), (0, 2),", "    (0, 2), (1, 1), (2, 0),"),
+    ("surface: x and z exchanged", "surface.rs", "power(self.x, a) * power(self.z, b)", "power(self.z, a) * power(self.x, b)"),
+    ("surface: a term by products from the left", "surface.rs", "power(self.x, a) * power(self.z, b)",
+     "(0..b).fold(power(self.x, a), |term, _| term * self.z)"),
+    ("surface: one term more than samples tried", "fit.rs", "count_of::<S>(degree) <= n", "count_of::<S>(degree) <= n + 1"),
+    ("surface: as many terms as samples refused", "refusals.rs", "terms_of(degree) > count", "terms_of(degree) >= count"),
+    ("surface: total degree 5 by its bound let down to 4", "refusals.rs", "max_degree(bound, count) > surface::GREATEST_DEGREE", "count == usize::MAX && max_degree(bound, count) > 4"),
+    ("surface: z not judged by 9", "refusals.rs", "x_below || x_above || z_below || z_above", "x_below || x_above || z_below && z_above"),
+    ("surface: z not judged by 4", "refusals.rs", "is_finite(s.x) && is_finite(s.z) && is_finite(s.y)", "is_finite(s.x) && is_finite(s.y)"),
+    ("surface: a given z not judged by 4", "refusals.rs", "!is_finite(site.x) || !is_finite(site.z)", "!is_finite(site.x)"),
+    ("surface: capacity without the z column", "refusals.rs", "lengths.x.min(lengths.z).min(lengths.y)", "lengths.x.min(lengths.y)"),
+    ("surface: 16 places of coefficients judged", "refusals.rs", "lengths.scratch < count || lengths.coefficients < SURFACE_TERMS;", "lengths.scratch < count || lengths.coefficients < TERMS;"),
+    ("surface: k less one in df", "fit.rs", "let df = n.saturating_sub(coefficients.len());",
+     "let df = n.saturating_sub(if coefficients.len() == 3 { 2 } else { coefficients.len() });"),
+    ("surface: g without its last term", "surface.rs", "sums[G + i] += terms[i] * sample.y;", "if i < 14 { sums[G + i] += terms[i] * sample.y; }"),
+    ("surface: scratch left at 10", "surface.rs", "clear_scratch(scratch, count);\n    let values = fit::fit(&samples, &folded(&samples), degree)?;",
+     "let values = fit::fit(&samples, &folded(&samples), degree)?;\n    clear_scratch(scratch, count);"),
 ]
 
 

@@ -2,6 +2,7 @@
 
 use journal::Call;
 use judge::refusals::{self, Conditions, Lengths};
+use judge::surface::SurfaceSample;
 use judge::Sample;
 
 /// A value written into the lent memory before a call, by someone other than the book.
@@ -11,6 +12,7 @@ pub enum Poke {
     Y { at: usize, value: f64 },
     Weight { at: usize, value: f64 },
     Sums { at: usize, value: f64 },
+    Z { at: usize, value: f64 },
 }
 
 /// One call of a list.
@@ -48,12 +50,21 @@ pub fn name(call: &Call) -> &'static str {
         Call::Scores(_) => "scores",
         Call::Validate { .. } => "validate",
         Call::Band { .. } => "band",
+        Call::SurfaceFit { .. } => "surface_fit",
+        Call::SurfaceReport(_) => "surface_report",
+        Call::SurfaceBand { .. } => "surface_band",
         Call::Reader(_) => "reader",
     }
 }
 
-/// The conditions of the refusals that come before a fit, in checking order.
-pub fn conditions(call: &Call, lengths: &Lengths, count: usize, samples: &[Sample]) -> Conditions {
+/// The conditions of the refusals that come before a fit, in checking order, over the samples of a book
+/// and those of a surface.
+pub fn conditions(
+    call: &Call,
+    lengths: &Lengths,
+    count: usize,
+    (samples, sites): (&[Sample], &[SurfaceSample]),
+) -> Conditions {
     match call {
         Call::Open => refusals::open(lengths),
         Call::Add(sample) => refusals::add(lengths, count, *sample),
@@ -73,6 +84,12 @@ pub fn conditions(call: &Call, lengths: &Lengths, count: usize, samples: &[Sampl
         }
         Call::Band { x, degree, confidence, tolerance } => {
             refusals::band(lengths, count, samples, (*x, *degree), *confidence, *tolerance)
+        }
+        Call::SurfaceFit { degree } => refusals::surface_fit(lengths, count, sites, *degree),
+        Call::SurfaceReport(settings) => refusals::surface_report(lengths, count, sites, *settings),
+        Call::SurfaceBand { site, degree, confidence, tolerance } => {
+            let at = (*site, *degree);
+            refusals::surface_band(lengths, count, sites, at, *confidence, *tolerance)
         }
         Call::Reader(frame) => refusals::reader(frame),
     }

@@ -11,14 +11,16 @@ use judge::statistics::{
     max_degree, median_absolute_deviation, Confidence, DegreeBound, Tolerance, HUBER_CONST,
 };
 use judge::sums::{a, folded_afresh, PLACES, TERMS};
+use judge::surface::SurfaceSample;
 use judge::Sample;
 
 use crate::call::name;
 use crate::carry;
 use crate::lines;
 use crate::replay;
-use crate::run::passes_nine;
+use crate::run::{passes_nine, places_of_terms};
 use crate::split;
+use crate::surface;
 use crate::two_column;
 use crate::weights;
 use crate::windows;
@@ -29,6 +31,8 @@ pub struct Seen<'a> {
     pub lengths: &'a Lengths,
     pub count: usize,
     pub samples: Vec<Sample>,
+    /// Of a surface.
+    pub sites: Vec<SurfaceSample>,
     pub conditions: Conditions,
     pub answer: Answer,
     pub memory: &'a Memory,
@@ -67,14 +71,18 @@ pub const REFUSALS: [(&str, &[u8]); 15] = [
 ];
 
 /// Pairs that cannot both hold: without samples no column value is below the count, and a bound is
-/// then 0; a bound is below a count of less than four; a frame of neither version has no weights.
-const IMPOSSIBLE_PAIRS: [(&str, u8, u8); 6] = [
+/// then 0; a bound is below a count of less than four; a frame of neither version has no weights; a
+/// surface's band without samples needs no place.
+const IMPOSSIBLE_PAIRS: [(&str, u8, u8); 9] = [
     ("fit", 4, 7),
     ("report", 7, 8),
     ("split", 7, 8),
     ("losses", 7, 8),
     ("scores", 7, 8),
     ("add_frame", 3, 15),
+    ("surface_fit", 4, 7),
+    ("surface_report", 7, 8),
+    ("surface_band", 1, 7),
 ];
 
 /// Calls that read the fit, each with the refusals that polyfit can speak of.
@@ -116,13 +124,27 @@ const LENGTHS: [(&str, &[&str]); 13] = [
             "band",
         ],
     ),
-    ("scratch", &["fit", "report", "split", "losses", "scores", "validate", "band"]),
-    ("coefficients", &["fit", "report", "validate"]),
-    ("errors", &["report"]),
-    ("pruned", &["report"]),
-    ("lower", &["report"]),
-    ("upper", &["report"]),
-    ("outlier", &["report"]),
+    (
+        "scratch",
+        &[
+            "fit",
+            "report",
+            "split",
+            "losses",
+            "scores",
+            "validate",
+            "band",
+            "surface_fit",
+            "surface_report",
+            "surface_band",
+        ],
+    ),
+    ("coefficients", &["fit", "report", "validate", "surface_fit", "surface_report"]),
+    ("errors", &["report", "surface_report"]),
+    ("pruned", &["report", "surface_report"]),
+    ("lower", &["report", "surface_report"]),
+    ("upper", &["report", "surface_report"]),
+    ("outlier", &["report", "surface_report"]),
     ("before", &["split"]),
     ("after", &["split"]),
     ("losses", &["losses"]),
@@ -243,6 +265,7 @@ impl Coverage {
         keys.extend(weights::events());
         keys.extend(split::EVENTS.map(String::from));
         keys.extend(windows::events());
+        keys.extend(surface::events());
         keys.extend(two_column::EVENTS.map(String::from));
         for (call, numbers) in two_column::REFUSALS {
             keys.push(format!("two columns: {call} answered"));
@@ -295,8 +318,14 @@ impl Coverage {
             self.note(format!("{name} by polyfit: {outcome}"));
         }
         self.note_pairs(name, &seen.conditions);
-        self.note_outside(seen);
         self.note_lengths(seen);
+        if surface::is_surface(seen.call) {
+            for event in surface::happened(seen) {
+                self.note(event);
+            }
+            return;
+        }
+        self.note_outside(seen);
         self.note_counts(seen);
         if let Call::AddLines(text) = seen.call {
             for event in lines::happened(text, &seen.answer) {
@@ -389,7 +418,8 @@ impl Coverage {
             if !calls.contains(&name) {
                 continue;
             }
-            let (length, places) = length_of(seen.lengths, memory, seen.count);
+            let terms = places_of_terms(seen.call);
+            let (length, places) = length_of(seen.lengths, memory, seen.count, terms);
             let fit = match length {
                 _ if length + 1 == places => "one too short",
                 _ if length == places => "exact",
@@ -690,11 +720,12 @@ fn middle_sum_is_infinite(residuals: &[f64]) -> bool {
 
 fn required_refusals() -> Vec<String> {
     let mut keys = Vec::new();
-    for (call, numbers) in REFUSALS {
+    let all = || REFUSALS.into_iter().chain(surface::REFUSALS);
+    for (call, numbers) in all() {
         keys.push(format!("{call}: answered"));
         keys.extend(numbers.iter().map(|number| format!("{call}: refused by {number}")));
     }
-    for (call, numbers) in REFUSALS {
+    for (call, numbers) in all() {
         // All but those that come out of the fit or of a split's search.
         let early = numbers.iter().copied().filter(|n| !matches!(n, 10..=12 | 16));
         let early: Vec<u8> = early.collect();
@@ -729,14 +760,14 @@ fn required_settings() -> Vec<String> {
     keys
 }
 
-/// The length of a lent memory, and the places that a call needs there.
-fn length_of(lengths: &Lengths, memory: &str, count: usize) -> (usize, usize) {
+/// The length of a lent memory, and the places that a call needs there, so many for terms.
+fn length_of(lengths: &Lengths, memory: &str, count: usize, terms: usize) -> (usize, usize) {
     match memory {
         "sums" => (lengths.sums, PLACES),
         "scratch" => (lengths.scratch, count),
-        "coefficients" => (lengths.coefficients, TERMS),
-        "errors" => (lengths.errors, TERMS),
-        "pruned" => (lengths.pruned, TERMS),
+        "coefficients" => (lengths.coefficients, terms),
+        "errors" => (lengths.errors, terms),
+        "pruned" => (lengths.pruned, terms),
         "lower" => (lengths.lower, count),
         "upper" => (lengths.upper, count),
         "before" => (lengths.before, TERMS),

@@ -1,5 +1,5 @@
 //! Runs random lists of calls through the judge, the plain ledger, polyfit and the port, and compares
-//! every answer and every bit, NaNs as one value.
+//! every answer and every bit, NaNs as one value; lists of surfaces through the judge and the port.
 //!
 //! `compare [--seed N] [--calls N] [--lists N]`: runs until so many calls were judged by polyfit, and
 //! at least so many lists. The seed is printed; `--seed clock` takes one from the clock. `--list N`
@@ -27,6 +27,7 @@ mod run;
 mod samples;
 mod shrink;
 mod split;
+mod surface;
 #[cfg(test)]
 mod tests;
 mod text;
@@ -118,15 +119,26 @@ fn print_failure(list: &List, difference: &Difference, sides: &[&dyn Side]) {
     }
 }
 
+/// The list of calls on a book of this number, and of every fourth a list of surfaces. They are drawn apart,
+/// so that the books of a seed are what they are without surfaces.
+fn lists(seed: u64, number: u64) -> Vec<List> {
+    let mut lists = vec![generate::list(seed, number)];
+    if number % 4 == 0 {
+        lists.push(surface::list(seed, number / 4));
+    }
+    lists
+}
+
 /// Runs lists until enough calls were judged by polyfit and enough lists run; false at a difference.
 fn run_all(options: &Options, sides: &[&dyn Side], coverage: &mut Coverage) -> bool {
     let mut number = 0;
     while coverage.by_reference < options.calls || number < options.lists {
-        let list = generate::list(options.seed, number);
-        if let Err(difference) = run(&list, sides, coverage) {
-            println!("seed {}, list {number}: DIFFERENCE", options.seed);
-            print_failure(&list, &difference, sides);
-            return false;
+        for list in lists(options.seed, number) {
+            if let Err(difference) = run(&list, sides, coverage) {
+                println!("seed {}, list {number}: DIFFERENCE", options.seed);
+                print_failure(&list, &difference, sides);
+                return false;
+            }
         }
         number += 1;
     }
@@ -207,9 +219,13 @@ fn main() -> ExitCode {
     }
     println!("seed {}", options.seed);
     if let Some(number) = options.list {
-        let list = generate::list(options.seed, number);
-        print_list(&list);
-        return run_list(&list, &sides);
+        for list in lists(options.seed, number) {
+            print_list(&list);
+            if run_list(&list, &sides) == ExitCode::FAILURE {
+                return ExitCode::FAILURE;
+            }
+        }
+        return ExitCode::SUCCESS;
     }
     let mut coverage = Coverage::default();
     let start = Instant::now();

@@ -4,6 +4,7 @@ use journal::memory::{Places, NAMES};
 use journal::Memory;
 use judge::numbers::bits;
 use judge::refusals::Lengths;
+use judge::surface::{Columns, SurfaceSample};
 use judge::Sample;
 
 use crate::call::{List, Poke};
@@ -71,6 +72,7 @@ pub fn filled_for(contents: u64, lengths: &Lengths) -> Memory {
         before: numbers(random, lengths.before),
         after: numbers(random, lengths.after),
         losses: numbers(random, lengths.losses),
+        z: numbers(random, lengths.z),
         solved: bytes(random, lengths.solved),
         scores: numbers(random, lengths.scores),
     }
@@ -82,6 +84,7 @@ pub fn poke(memory: &mut Memory, poke: Poke) {
         Poke::Y { at, value } => (&mut memory.y, at, value),
         Poke::Weight { at, value } => (&mut memory.weight, at, value),
         Poke::Sums { at, value } => (&mut memory.sums, at, value),
+        Poke::Z { at, value } => (&mut memory.z, at, value),
     };
     if let Some(place) = places.get_mut(at) {
         *place = value;
@@ -95,6 +98,12 @@ pub fn samples(memory: &Memory, lengths: &Lengths, count: usize) -> Vec<Sample> 
     }
     let sample = |i| Sample { x: memory.x[i], y: memory.y[i], weight: memory.weight[i] };
     (0..count).map(sample).collect()
+}
+
+/// The samples of a surface below the count, as far as the lent columns reach.
+pub fn sites(memory: &Memory, lengths: &Lengths, count: usize) -> Vec<SurfaceSample> {
+    let Lengths { x, z, y, .. } = *lengths;
+    Columns { x: &memory.x[..x], z: &memory.z[..z], y: &memory.y[..y] }.samples(count)
 }
 
 /// The first place where the two differ, NaNs as one value.

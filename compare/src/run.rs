@@ -10,12 +10,14 @@ use judge::numbers::bits;
 use judge::refusals;
 use judge::split::{breaks, SideFit, Split};
 use judge::sums::{folded_afresh, PLACES, TERMS};
+use judge::surface::SURFACE_TERMS;
 use judge::Sample;
 
 use crate::call::{conditions, List, Step};
 use crate::carry::{self, Caller};
 use crate::coverage::{Coverage, Seen};
-use crate::memory::{difference, filled, first_difference, poke, samples};
+use crate::memory::{difference, filled, first_difference, poke, samples, sites};
+use crate::surface::is_surface;
 use crate::{lines, reference, replay, two_column};
 
 /// Where two sides differ.
@@ -49,6 +51,10 @@ pub fn run(list: &List, others: &[&dyn Side], coverage: &mut Coverage) -> Result
     for (at, step) in list.steps.iter().enumerate() {
         run.step(step, coverage).map_err(|what| Difference { step: at, what })?;
     }
+    // A surface keeps no book: nothing of it is replayed or carried over.
+    if list.steps.iter().any(|step| is_surface(&step.call)) {
+        return Ok(());
+    }
     let past = list.steps.len();
     let at_end = |what| Difference { step: past, what };
     replay::check(list, Buffers::replay, coverage).map_err(at_end)?;
@@ -62,7 +68,11 @@ impl Run<'_> {
         self.disturb(step);
         let count = step.count.unwrap_or(self.count);
         let samples = samples(&self.memory, &step.lengths, count);
-        let conditions = conditions(&step.call, &step.lengths, count, &samples);
+        let sites = match is_surface(&step.call) {
+            true => sites(&self.memory, &step.lengths, count),
+            false => Vec::new(),
+        };
+        let conditions = conditions(&step.call, &step.lengths, count, (&samples, &sites));
         let own_sums = self.sums_are_folded(&samples);
         let before = self.memory.clone();
         let answer = Judge.make(&step.call, count, self.memory.lend(&step.lengths));
@@ -72,7 +82,9 @@ impl Run<'_> {
         self.check_ledger(step, &answer)?;
         // A split does not read the lent sums.
         let judged_sums = own_sums || matches!(step.call, Call::Split { .. });
-        let by_reference = judged_sums && is_reading(&step.call) && passes_nine(&answer);
+        let judged = judged_sums && is_reading(&step.call) && passes_nine(&answer);
+        // polyfit has no surface.
+        let by_reference = judged && !is_surface(&step.call);
         if by_reference {
             check_reference(&step.call, &answer, &samples, &self.memory)?;
         }
@@ -86,6 +98,7 @@ impl Run<'_> {
             lengths,
             count,
             samples,
+            sites,
             conditions,
             answer,
             memory,
@@ -220,7 +233,8 @@ fn check_parsed(call: &Call, answer: &Answer, count: usize, memory: &Memory) -> 
 pub fn is_reading(call: &Call) -> bool {
     let settled = matches!(call, Call::Report(_) | Call::Split { .. });
     let told = matches!(call, Call::Losses(_) | Call::Scores(_));
-    settled || told || matches!(call, Call::Fit { .. } | Call::Validate { .. } | Call::Band { .. })
+    let single = matches!(call, Call::Fit { .. } | Call::Validate { .. } | Call::Band { .. });
+    settled || told || single || is_surface(call)
 }
 
 /// Not refused, or refused by 10, 11, 12 or 16.
@@ -557,9 +571,12 @@ fn check_writes(
         Answer::Refused(_) | Answer::Band { .. } | Answer::Samples(_) => {}
         Answer::Book(new_count) => copy_book_places(call, count, *new_count, &mut expected, after),
         Answer::Degree(_) => {
-            expected.coefficients[..TERMS].copy_from_slice(&after.coefficients[..TERMS]);
+            let terms = places_of_terms(call);
+            expected.coefficients[..terms].copy_from_slice(&after.coefficients[..terms]);
         }
-        Answer::Report { .. } => copy_report_places(count, &mut expected, after),
+        Answer::Report { .. } => {
+            copy_report_places(places_of_terms(call), count, &mut expected, after)
+        }
         Answer::Split { .. } => {
             expected.before[..TERMS].copy_from_slice(&after.before[..TERMS]);
             expected.after[..TERMS].copy_from_slice(&after.after[..TERMS]);
@@ -603,11 +620,20 @@ fn copy_book_places(
     expected.sums[sums.clone()].copy_from_slice(&after.sums[sums]);
 }
 
+/// The places of coefficients, errors and pruned marks: 16, and 15 for a surface.
+pub fn places_of_terms(call: &Call) -> usize {
+    if is_surface(call) {
+        SURFACE_TERMS
+    } else {
+        TERMS
+    }
+}
+
 /// The places that a report may change.
-fn copy_report_places(count: usize, expected: &mut Memory, after: &Memory) {
-    expected.coefficients[..TERMS].copy_from_slice(&after.coefficients[..TERMS]);
-    expected.errors[..TERMS].copy_from_slice(&after.errors[..TERMS]);
-    expected.pruned[..TERMS].copy_from_slice(&after.pruned[..TERMS]);
+fn copy_report_places(terms: usize, count: usize, expected: &mut Memory, after: &Memory) {
+    expected.coefficients[..terms].copy_from_slice(&after.coefficients[..terms]);
+    expected.errors[..terms].copy_from_slice(&after.errors[..terms]);
+    expected.pruned[..terms].copy_from_slice(&after.pruned[..terms]);
     expected.lower[..count].copy_from_slice(&after.lower[..count]);
     expected.upper[..count].copy_from_slice(&after.upper[..count]);
     expected.outlier[..count].copy_from_slice(&after.outlier[..count]);

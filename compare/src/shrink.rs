@@ -7,6 +7,7 @@ use judge::statistics::{Confidence, Tolerance};
 use judge::Sample;
 
 use crate::call::{List, Step};
+use crate::surface;
 
 /// The most runs that shrinking may take.
 const MOST_RUNS: usize = 4000;
@@ -61,8 +62,11 @@ fn simpler_steps(step: &Step) -> Vec<Step> {
         simpler.pokes.remove(at);
         steps.push(simpler);
     }
-    if step.count.is_some() {
+    if let Some(count) = step.count {
         steps.push(Step { count: None, ..step.clone() });
+        if surface::is_surface(&step.call) && count > 0 {
+            steps.push(Step { count: Some(count - 1), ..step.clone() });
+        }
     }
     for call in simpler_calls(&step.call) {
         steps.push(Step { call, ..step.clone() });
@@ -106,6 +110,9 @@ fn simpler_calls(call: &Call) -> Vec<Call> {
             simpler_settings(*settings).map(|settings| Call::Split { limit, settings }).collect()
         }
         Call::Losses(settings) => simpler_settings(*settings).map(Call::Losses).collect(),
+        Call::SurfaceReport(settings) => {
+            simpler_settings(*settings).map(Call::SurfaceReport).collect()
+        }
         Call::Scores(settings) => simpler_settings(*settings).map(Call::Scores).collect(),
         _ => Vec::new(),
     }

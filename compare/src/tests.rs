@@ -10,6 +10,7 @@ use crate::generate;
 use crate::replay::{self, Replays};
 use crate::run::run;
 use crate::shrink::shrink;
+use crate::surface;
 use crate::text;
 use crate::two_column;
 
@@ -35,6 +36,7 @@ fn again<'a>(lent: &'a mut Lent<'_>) -> Lent<'a> {
         before: lent.before,
         after: lent.after,
         losses: lent.losses,
+        z: lent.z,
         solved: lent.solved,
         scores: lent.scores,
     }
@@ -59,6 +61,80 @@ fn found(fault: Fault) -> List {
     let smallest = shrink(&list.expect("the fault is found"), fails);
     assert!(fails(&smallest));
     smallest
+}
+
+/// The same among the lists of surfaces.
+fn found_in_surfaces(fault: Fault) -> List {
+    let side = Faulty(fault);
+    let fails = |list: &List| run(list, &[&side], &mut Coverage::default()).is_err();
+    // The first lists have few samples.
+    let list = (33..1000).map(|number| surface::list(7, number)).find(|list| fails(list));
+    let smallest = shrink(&list.expect("the fault is found"), fails);
+    assert!(fails(&smallest));
+    smallest
+}
+
+#[test]
+fn surfaces_with_faults() {
+    let none = Faulty(|_, _, _, _, answer| answer);
+    for number in 33..200 {
+        assert!(run(&surface::list(7, number), &[&none], &mut Coverage::default()).is_ok());
+    }
+    let faults: [Fault; 6] = [
+        // The sixteenth place of the coefficients is written.
+        |call, _, lent, _, answer| {
+            let fit =
+                matches!(call, Call::SurfaceFit { .. }) && matches!(answer, Answer::Degree(_));
+            if let (true, Some(place)) = (fit, lent.coefficients.get_mut(15)) {
+                *place = 0.5;
+            }
+            answer
+        },
+        // A mark of a term whose error is not the least.
+        |call, _, lent, _, answer| {
+            if let (Call::SurfaceReport(_), Answer::Report { degree: 1, .. }) = (call, &answer) {
+                lent.pruned[2] ^= 1;
+            }
+            answer
+        },
+        // Scratch as it was at 12.
+        |call, count, lent, _, answer| {
+            if surface::is_surface(call) && answer == Answer::Refused(12) {
+                lent.scratch[count - 1] = 1.0;
+            }
+            answer
+        },
+        // A degree counted that is not tried.
+        |call, count, _, _, answer| match (call, answer) {
+            (Call::SurfaceReport(_), Answer::Report { degree, solved, outliers, pruned })
+                if count == 5 && solved == 2 =>
+            {
+                Answer::Report { degree, solved: 3, outliers, pruned }
+            }
+            (_, answer) => answer,
+        },
+        // z not judged by 9.
+        |call, _, lent, _, answer| match (call, &answer) {
+            (Call::SurfaceBand { site, .. }, Answer::Refused(9)) if lent.x.contains(&site.x) => {
+                Answer::Refused(10)
+            }
+            _ => answer,
+        },
+        // A z in the column not judged by 4.
+        |call, count, lent, _, answer| match (call, &answer) {
+            (Call::SurfaceReport(_), Answer::Refused(4))
+                if lent.z[..count].iter().any(|z| !z.is_finite()) =>
+            {
+                Answer::Refused(11)
+            }
+            _ => answer,
+        },
+    ];
+    for fault in faults {
+        let list = found_in_surfaces(fault);
+        // The first step writes the columns.
+        assert!(list.steps.len() <= 2, "{list:?}");
+    }
 }
 
 #[test]
@@ -533,12 +609,12 @@ fn missing_in(name: &str, asked: impl Fn(&str) -> bool) -> Vec<String> {
 #[test]
 fn texts_are_judged() {
     missing_in("edges.calls", |_| false);
-    // Every refusal of every call but lines, splits, windows, losses and scores, and every pair in order. A text has no
-    // reader. 15 is met with the weights.
+    // Every refusal of every call but lines, splits, windows, losses, scores and surfaces, and every pair in order. A
+    // text has no reader. 15 is met with the weights.
     let refusal = |key: &str| {
         let refusal = key.contains(" before ") || key.contains(": refused by ");
         let elsewhere =
-            ["reader", "add_lines", "add_window", "split", "losses", "scores", "length"];
+            ["reader", "add_lines", "add_window", "split", "losses", "scores", "surface", "length"];
         let elsewhere = elsewhere.iter().any(|call| key.starts_with(call));
         refusal && !elsewhere && !key.contains("by polyfit")
     };
@@ -574,12 +650,20 @@ fn texts_are_judged() {
         key.starts_with("scores") && key != "scores by polyfit: refused by 12"
     });
     assert!(missing.is_empty(), "{missing:?}");
-    // Every call and refusal, by polyfit too, every setting and event; the pairs are the season's.
+    // Every refusal of a surface, every pair in order, and each memory at its length and one place short.
+    let missing = missing_in("surface.calls", |key| {
+        key.starts_with("surface_") || key.starts_with("length: surface")
+    });
+    let longer = |key: &String| key.ends_with("with places past the end");
+    assert!(missing.iter().all(longer), "{missing:?}");
+    // Every call and refusal, by polyfit too, every setting and event; the pairs are the season's. It has no
+    // surfaces.
     let missing = missing_in("fixed.calls", |key| {
         let call = key.ends_with(": answered") || key.contains(": refused by ");
         let calls = ["report: ", "split: criterion", "split: bound", "validate: ", "band: "];
         let setting = calls.iter().any(|call| key.starts_with(call));
-        (call || setting) && !key.starts_with("reader") && !key.contains(": 1 before ")
+        let elsewhere = key.starts_with("reader") || key.starts_with("surface");
+        (call || setting) && !elsewhere && !key.contains(": 1 before ")
     });
     assert!(missing.is_empty(), "{missing:?}");
 }

@@ -5,10 +5,12 @@ use journal::request::{read, MEMORY, MOST_BYTES};
 use journal::{Answer, Call, Journal, Judge, Name, Request};
 use judge::statistics::DegreeBound;
 use judge::sums::{PLACES, TERMS};
+use judge::surface::SurfaceSample;
 
 use crate::call::{List, Poke, Step};
 use crate::generate;
 use crate::random::Random;
+use crate::surface::is_surface;
 
 /// The greatest whole number of the text.
 const GREATEST: usize = 999_999_999;
@@ -43,10 +45,13 @@ fn written(call: &Call) -> Call {
         Call::Correct { index: number, .. }
         | Call::Withdraw { index: number }
         | Call::Fit { degree: number }
-        | Call::Band { degree: number, .. } => *number = GREATEST.min(*number),
-        Call::Report(settings) | Call::Losses(settings) | Call::Scores(settings) => {
-            settings.bound = written_bound(settings.bound)
-        }
+        | Call::Band { degree: number, .. }
+        | Call::SurfaceFit { degree: number }
+        | Call::SurfaceBand { degree: number, .. } => *number = GREATEST.min(*number),
+        Call::Report(settings)
+        | Call::Losses(settings)
+        | Call::Scores(settings)
+        | Call::SurfaceReport(settings) => settings.bound = written_bound(settings.bound),
         Call::Split { limit, settings } => {
             *limit = GREATEST.min(*limit);
             settings.bound = written_bound(settings.bound);
@@ -98,11 +103,16 @@ impl Writer {
                 Poke::Y { at, value } => (Name::Ys, at, value),
                 Poke::Weight { at, value } => (Name::Ws, at, value),
                 Poke::Sums { at, value } => (Name::Sums, at, value),
+                Poke::Z { at, value } => (Name::Zs, at, value),
             };
             self.ask(Request::Put { name, index, value });
         }
         let (mut lent, mut lengths) = (self.journal.lent(), step.lengths);
         for (name, _) in NAMES {
+            // Only a surface is lent z's.
+            if name == Name::Zs && !is_surface(&step.call) {
+                continue;
+            }
             let length = *name.length(&mut lengths);
             if *name.length(&mut lent) != length {
                 self.ask(Request::Lent { name, length });
@@ -187,6 +197,11 @@ pub fn list_of(text: &[u8]) -> List {
         };
         match request {
             Request::Put { name, index, value } => pokes.extend(poke_of(name, index, value)),
+            Request::Row { index: at, sample: SurfaceSample { x, z, y } } => {
+                pokes.push(Poke::X { at, value: x });
+                pokes.push(Poke::Z { at, value: z });
+                pokes.push(Poke::Y { at, value: y });
+            }
             Request::Count(count) => forced = Some(count),
             _ => {}
         }
@@ -205,7 +220,7 @@ pub fn list_of(text: &[u8]) -> List {
 }
 
 fn zeros() -> Vec<Poke> {
-    let names = [Name::Xs, Name::Ys, Name::Ws, Name::Sums];
+    let names = [Name::Xs, Name::Ys, Name::Ws, Name::Sums, Name::Zs];
     let zeros = |at| names.map(|name| poke_of(name, at, 0.0));
     (0..MEMORY).flat_map(zeros).flatten().collect()
 }
@@ -216,6 +231,7 @@ fn poke_of(name: Name, at: usize, value: f64) -> Option<Poke> {
         Name::Ys => Some(Poke::Y { at, value }),
         Name::Ws => Some(Poke::Weight { at, value }),
         Name::Sums => Some(Poke::Sums { at, value }),
+        Name::Zs => Some(Poke::Z { at, value }),
         _ => None,
     }
 }

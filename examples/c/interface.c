@@ -1,5 +1,5 @@
 /* Checks of the C interface that no list of calls reaches: a frame read sample by sample, a window of the latest samples, a replay beside its single calls,
- * the calls of two columns beside those of three at weight 1, a book carried over from two columns to three, and what a split, the losses and the scores write. What is expected is worked out by hand here, or is what
+ * the calls of two columns beside those of three at weight 1, a book carried over from two columns to three, what a split, the losses and the scores write, and a surface by its settings. What is expected is worked out by hand here, or is what
  * the other calls leave. It prints what fails, and ends with 1 if anything does. */
 #include <math.h>
 #include <stdio.h>
@@ -447,6 +447,45 @@ static void check_split_and_losses(void) {
           (uint64_t)1 << 56);
 }
 
+/* y = 20 - 12 x + 12.75 z + xz at four corners: a plane leaves 1 and -1, and the error of each of its terms is 1 */
+static void check_surface(void) {
+    static const double xs[4] = {1, 1, -1, -1}, zs[4] = {1, -1, 1, -1}, ys[4] = {21.75, -5.75, 43.75, 20.25};
+    double scratch[4] = {7, 7, 7, 7}, coefficients[16], errors[16], lower[5], upper[5], numbers[4] = {7, 7, 7, 7};
+    uint8_t pruned[16], outliers[5];
+    coefficients[15] = errors[15] = lower[4] = upper[4] = 7;
+    pruned[15] = outliers[4] = 7;
+    CHECK(stakebook_surface_fit(4, 1, xs, 4, zs, 4, ys, 4, scratch, 4, coefficients, 15) == 1);
+    CHECK(coefficients[0] == 20 && coefficients[1] == -12 && coefficients[2] == 12.75 && coefficients[3] == 0 && coefficients[14] == 0);
+    CHECK(coefficients[15] == 7 && scratch[0] == 0 && scratch[3] == 0);
+    /* more terms than samples, above 4, no samples; a place short */
+    CHECK(stakebook_surface_fit(4, 2, xs, 4, zs, 4, ys, 4, scratch, 4, coefficients, 15) == (uint64_t)8 << 56);
+    CHECK(stakebook_surface_fit(4, SIZE_MAX, xs, 4, zs, 4, ys, 4, scratch, 4, coefficients, 15) == (uint64_t)8 << 56);
+    CHECK(stakebook_surface_fit(0, 0, xs, 4, zs, 4, ys, 4, scratch, 4, coefficients, 15) == (uint64_t)7 << 56);
+    CHECK(stakebook_surface_fit(4, 1, xs, 4, zs, 3, ys, 4, scratch, 4, coefficients, 15) == (uint64_t)1 << 56);
+    CHECK(stakebook_surface_fit(4, 1, xs, 4, zs, 4, ys, 4, scratch, 4, coefficients, 14) == (uint64_t)1 << 56);
+    /* z is not x: 12.75 and not -12 is the slope along it */
+    CHECK(stakebook_surface_band(4, 0, 1, 1, STAKEBOOK_CUSTOM_SCORE, 0, STAKEBOOK_NO_TOLERANCE, NAN, xs, 4, zs, 4, ys, 4, scratch, 4, numbers, 4) == 0);
+    CHECK(numbers[0] == 32.75 && numbers[1] == 32.75 && numbers[2] == 32.75 && numbers[3] == 7);
+    CHECK(stakebook_surface_band(4, 0, 1.5, 1, STAKEBOOK_P95, 0, STAKEBOOK_NO_TOLERANCE, 0, xs, 4, zs, 4, ys, 4, scratch, 4, numbers, 3) == (uint64_t)9 << 56);
+    CHECK(stakebook_surface_band(4, 0, NAN, 1, STAKEBOOK_P95, 0, STAKEBOOK_NO_TOLERANCE, 0, xs, 4, zs, 4, ys, 4, scratch, 4, numbers, 3) == (uint64_t)4 << 56);
+    CHECK(stakebook_surface_band(4, 0, 1, 1, STAKEBOOK_P95, 0, STAKEBOOK_NO_TOLERANCE, 0, xs, 4, zs, 4, ys, 4, scratch, 4, numbers, 2) == (uint64_t)1 << 56);
+#define SURFACE(words, words_len, values, values_len)                                                                                                  \
+    stakebook_surface_report(4, words, words_len, values, values_len, xs, 4, zs, 4, ys, 4, scratch, 4, coefficients, 15, errors, 15, pruned, 15, lower, 4, \
+                             upper, 4, outliers, 4)
+    /* settings that are not lent count as 0: Conservative, which is total degree 0 alone, AIC, P80, no tolerance, positive terms */
+    static const uint32_t words[7] = {STAKEBOOK_CUSTOM_DEGREE, 4, STAKEBOOK_AIC, STAKEBOOK_P95, STAKEBOOK_NO_TOLERANCE, STAKEBOOK_BY_SIZE, 9};
+    static const double values[3] = {NAN, NAN, NAN};
+    uint64_t answer = SURFACE(words, 0, values, 0);
+    CHECK(stakebook_refusal(answer) == 0 && stakebook_degree(answer) == 0 && stakebook_solved(answer) == 1 && coefficients[0] == 20 && coefficients[1] == 0);
+    /* total degrees 0 and 1 have terms enough; df is 1, whose score is 12.71 at P95: by size -12 is pruned, else nothing */
+    answer = SURFACE(words, 5, values, 2);
+    CHECK(stakebook_degree(answer) == 1 && stakebook_solved(answer) == 2 && stakebook_pruned(answer) == 0 && stakebook_outliers(answer) == 0);
+    CHECK(errors[0] == 1 && errors[1] == 1 && errors[2] == 1 && errors[3] == 0 && pruned[1] == 0);
+    answer = SURFACE(words, 7, values, 3);
+    CHECK(stakebook_degree(answer) == 1 && stakebook_pruned(answer) == 1 && pruned[0] == 0 && pruned[1] == 1 && pruned[2] == 0 && pruned[14] == 0);
+    CHECK(errors[15] == 7 && pruned[15] == 7 && lower[4] == 7 && upper[4] == 7 && outliers[4] == 7);
+}
+
 /* the scores of a line of five samples by hand, what is told of degrees that are unsolved or past the bound, and the refusals */
 static void check_scores(void) {
     static const uint32_t words[2] = {STAKEBOOK_CUSTOM_DEGREE, 2}, line_words[2] = {STAKEBOOK_CUSTOM_DEGREE, 1};
@@ -485,6 +524,7 @@ static void check_scores(void) {
 }
 
 int main(void) {
+    check_surface();
     check_weights();
     check_frames();
     check_window();

@@ -4,6 +4,7 @@ use std::fmt;
 
 use judge::fit::{Criterion, Settings};
 use judge::statistics::{Confidence, DegreeBound, Tolerance};
+use judge::surface::Site;
 use judge::Sample;
 
 use crate::request::float_field;
@@ -41,6 +42,16 @@ pub enum Call {
     },
     Band {
         x: f64,
+        degree: usize,
+        confidence: Confidence,
+        tolerance: Tolerance,
+    },
+    SurfaceFit {
+        degree: usize,
+    },
+    SurfaceReport(Settings),
+    SurfaceBand {
+        site: Site,
         degree: usize,
         confidence: Confidence,
         tolerance: Tolerance,

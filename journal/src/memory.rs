@@ -22,10 +22,11 @@ pub enum Name {
     After,
     Solved,
     Scores,
+    Zs,
 }
 
 /// All names, with their words.
-pub const NAMES: [(Name, &str); 16] = [
+pub const NAMES: [(Name, &str); 17] = [
     (Name::Xs, "xs"),
     (Name::Ys, "ys"),
     (Name::Ws, "ws"),
@@ -42,12 +43,13 @@ pub const NAMES: [(Name, &str); 16] = [
     (Name::After, "after"),
     (Name::Solved, "solved"),
     (Name::Scores, "scores"),
+    (Name::Zs, "zs"),
 ];
 
 /// What a text lends before its first line.
 pub const LENT: Lengths = Lengths {
     x: MOST_SAMPLES,
-    z: 0,
+    z: MOST_SAMPLES,
     y: MOST_SAMPLES,
     weight: MOST_SAMPLES,
     sums: PLACES,
@@ -82,6 +84,7 @@ pub struct Memory {
     pub before: Vec<f64>,
     pub after: Vec<f64>,
     pub losses: Vec<f64>,
+    pub z: Vec<f64>,
     pub solved: Vec<u8>,
     pub scores: Vec<f64>,
 }
@@ -102,6 +105,7 @@ pub struct Lent<'a> {
     pub before: &'a mut [f64],
     pub after: &'a mut [f64],
     pub losses: &'a mut [f64],
+    pub z: &'a mut [f64],
     pub solved: &'a mut [u8],
     pub scores: &'a mut [f64],
 }
@@ -138,6 +142,7 @@ impl Name {
             Name::Outliers => &mut lengths.outlier,
             Name::Before => &mut lengths.before,
             Name::After => &mut lengths.after,
+            Name::Zs => &mut lengths.z,
             Name::Solved => &mut lengths.solved,
             Name::Scores => &mut lengths.scores,
         }
@@ -164,6 +169,7 @@ impl Memory {
             before: floats(),
             after: floats(),
             losses: floats(),
+            z: floats(),
             solved: bytes(),
             scores: floats(),
         }
@@ -186,6 +192,7 @@ impl Memory {
             before: &mut self.before[..lengths.before],
             after: &mut self.after[..lengths.after],
             losses: &mut self.losses[..lengths.losses],
+            z: &mut self.z[..lengths.z],
             solved: &mut self.solved[..lengths.solved],
             scores: &mut self.scores[..lengths.scores],
         }
@@ -207,6 +214,7 @@ impl Memory {
             Name::Outliers => Places::Bytes(&self.outlier),
             Name::Before => Places::Floats(&self.before),
             Name::After => Places::Floats(&self.after),
+            Name::Zs => Places::Floats(&self.z),
             Name::Solved => Places::Bytes(&self.solved),
             Name::Scores => Places::Floats(&self.scores),
         }
@@ -228,6 +236,7 @@ impl Memory {
             Name::After => &mut self.after,
             Name::Losses => &mut self.losses,
             Name::Scores => &mut self.scores,
+            Name::Zs => &mut self.z,
             Name::Pruned | Name::Outliers | Name::Solved => return None,
         })
     }

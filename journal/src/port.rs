@@ -2,6 +2,7 @@
 
 use judge::fit::{Criterion, PruningRule, Settings};
 use judge::statistics::{Confidence, DegreeBound, Tolerance};
+use judge::surface::Site;
 use judge::Sample;
 use stakebook::sys;
 
@@ -148,6 +149,28 @@ macro_rules! book_read {
     };
 }
 
+/// What a call of a surface is lent: its columns are only read, and no sums are lent.
+macro_rules! surface_read {
+    ($call:expr, $lent:ident, ($($first:expr),*), ($($written:ident),*) $(, ($($last:expr),*))?) => {
+        // SAFETY: the slices are the caller's, initialised and apart.
+        unsafe {
+            $call(
+                $($first,)*
+                $lent.x.as_ptr(),
+                $lent.x.len(),
+                $lent.z.as_ptr(),
+                $lent.z.len(),
+                $lent.y.as_ptr(),
+                $lent.y.len(),
+                $lent.scratch.as_mut_ptr(),
+                $lent.scratch.len(),
+                $($lent.$written.as_mut_ptr(), $lent.$written.len(),)*
+                $($($last),*)?
+            )
+        }
+    };
+}
+
 /// What a call that changes a book is lent.
 macro_rules! book_changed {
     ($call:expr, $lent:ident, ($($first:expr),*)) => {
@@ -184,6 +207,30 @@ fn band_into(
         (),
         (numbers.as_mut_ptr(), places)
     );
+    band_of(packed, numbers)
+}
+
+/// The same of a surface.
+fn surface_band_into(
+    places: usize,
+    count: usize,
+    lent: &mut Lent,
+    (site, degree): (Site, usize),
+    ((confidence, score), (tolerance, value)): ((u32, f64), (u32, f64)),
+) -> Answer {
+    let mut numbers = [UNWRITTEN; 4];
+    let packed = surface_read!(
+        sys::stakebook_surface_band,
+        lent,
+        (count, site.x, site.z, degree, confidence, score, tolerance, value),
+        (),
+        (numbers.as_mut_ptr(), places)
+    );
+    band_of(packed, numbers)
+}
+
+/// A band, with no bit in its answer and no number past its three; a refused one has none.
+fn band_of(packed: u64, numbers: [f64; 4]) -> Answer {
     let answer = read(packed, |packed| {
         assert!(packed == 0, "a band in {packed:#x}");
         Answer::Band { value: numbers[0], lower: numbers[1], upper: numbers[2] }
@@ -420,6 +467,36 @@ impl Calls for Port {
         let same = bits_of(lent.scratch) == before;
         assert!(short == Answer::Refused(1) && same, "two places for a band: {short:?}");
         band_into(3, count, &mut lent, at, settings)
+    }
+
+    fn surface_fit(&self, count: usize, lent: Lent, asked: usize) -> Answer {
+        degree(surface_read!(sys::stakebook_surface_fit, lent, (count, asked), (coefficients)))
+    }
+
+    fn surface_report(&self, count: usize, lent: Lent, settings: Settings) -> Answer {
+        let (words, values) = settings_lists(settings, count);
+        report(surface_read!(
+            sys::stakebook_surface_report,
+            lent,
+            (count, words.as_ptr(), words.len(), values.as_ptr(), values.len()),
+            (coefficients, errors, pruned, lower, upper, outlier)
+        ))
+    }
+
+    fn surface_band(
+        &self,
+        count: usize,
+        mut lent: Lent,
+        at: (Site, usize),
+        confidence: Confidence,
+        tolerance: Tolerance,
+    ) -> Answer {
+        let settings = (confidence_numbers(confidence), tolerance_numbers(tolerance));
+        let before = bits_of(lent.scratch);
+        let short = surface_band_into(2, count, &mut lent, at, settings);
+        let same = bits_of(lent.scratch) == before;
+        assert!(short == Answer::Refused(1) && same, "two places for a band: {short:?}");
+        surface_band_into(3, count, &mut lent, at, settings)
     }
 
     fn reader(&self, frame: &[u8]) -> Answer {

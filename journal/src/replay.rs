@@ -84,10 +84,11 @@ impl Buffers {
             lower: &mut self.memory.lower[at..at + lent.lower],
             upper: &mut self.memory.upper[at..at + lent.upper],
             outlier: &mut self.memory.outlier[at..at + lent.outlier],
-            // No record holds a call that writes these.
+            // No record holds a call that is lent these.
             before: &mut [],
             after: &mut [],
             losses: &mut [],
+            z: &mut [],
             solved: &mut [],
             scores: &mut [],
         }

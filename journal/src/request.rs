@@ -7,6 +7,7 @@ use std::fmt;
 use judge::fit::{Criterion, PruningRule, Settings};
 use judge::numbers::{bits, one_value};
 use judge::statistics::{Confidence, DegreeBound, Tolerance};
+use judge::surface::{Site, SurfaceSample};
 use judge::Sample;
 
 use crate::call::Call;
@@ -28,10 +29,26 @@ pub const MOST_BYTES: usize = 2 + 65_535;
 /// What a line asks for: something of the memory, or a call.
 #[derive(Debug, Clone, PartialEq)]
 pub enum Request {
-    Lent { name: Name, length: usize },
-    Put { name: Name, index: usize, value: f64 },
+    Lent {
+        name: Name,
+        length: usize,
+    },
+    Put {
+        name: Name,
+        index: usize,
+        value: f64,
+    },
+    /// One place each of xs, zs and ys.
+    Row {
+        index: usize,
+        sample: SurfaceSample,
+    },
     Count(usize),
-    Show { name: Name, from: usize, to: usize },
+    Show {
+        name: Name,
+        from: usize,
+        to: usize,
+    },
     Call(Call),
 }
 
@@ -87,6 +104,10 @@ fn request(fields: &mut Fields) -> Read<Request> {
             index: fields.at_most(MEMORY - 1)?,
             value: fields.float()?,
         },
+        b"row" => Request::Row {
+            index: fields.at_most(MEMORY - 1)?,
+            sample: SurfaceSample { x: fields.float()?, z: fields.float()?, y: fields.float()? },
+        },
         b"count" => Request::Count(fields.number()?),
         b"show" => show(fields)?,
         word => Request::Call(call(word, fields)?),
@@ -115,6 +136,14 @@ fn call(word: &[u8], fields: &mut Fields) -> Read<Call> {
         },
         b"band" => Call::Band {
             x: fields.float()?,
+            degree: fields.number()?,
+            confidence: fields.confidence()?,
+            tolerance: fields.tolerance()?,
+        },
+        b"surface_fit" => Call::SurfaceFit { degree: fields.number()? },
+        b"surface_report" => Call::SurfaceReport(fields.settings()?),
+        b"surface_band" => Call::SurfaceBand {
+            site: Site { x: fields.float()?, z: fields.float()? },
             degree: fields.number()?,
             confidence: fields.confidence()?,
             tolerance: fields.tolerance()?,
@@ -411,6 +440,10 @@ impl fmt::Display for Request {
             Request::Put { name, index, value } => {
                 write!(f, "put {} {index} {}", name.word(), float_field(*value))
             }
+            Request::Row { index, sample: SurfaceSample { x, z, y } } => {
+                let [x, z, y] = [*x, *z, *y].map(float_field);
+                write!(f, "row {index} {x} {z} {y}")
+            }
             Request::Count(count) => write!(f, "count {count}"),
             Request::Show { name, from, to } => write!(f, "show {} {from} {to}", name.word()),
             Request::Call(call) => call.fmt(f),
@@ -445,6 +478,18 @@ impl fmt::Display for Call {
                 f,
                 "band {} {degree} {} {}",
                 float_field(*x),
+                confidence_fields(*confidence),
+                tolerance_fields(*tolerance)
+            ),
+            Call::SurfaceFit { degree } => write!(f, "surface_fit {degree}"),
+            Call::SurfaceReport(settings) => {
+                write!(f, "surface_report {}", settings_fields(*settings))
+            }
+            Call::SurfaceBand { site, degree, confidence, tolerance } => write!(
+                f,
+                "surface_band {} {} {degree} {} {}",
+                float_field(site.x),
+                float_field(site.z),
                 confidence_fields(*confidence),
                 tolerance_fields(*tolerance)
             ),
@@ -581,6 +626,17 @@ mod tests {
             ("loss", "field 1: not a call"),
             ("lent losses 4200", "fits"),
             (&format!("put losses 4199 {ONE}"), "fits"),
+            ("lent zs 4200", "fits"),
+            (&format!("row 4199 {ONE} {ONE} {ONE}"), "fits"),
+            (&format!("row 4200 {ONE} {ONE} {ONE}"), "field 2: too large"),
+            (&format!("row 0 {ONE} {ONE}"), "field 5: missing"),
+            (&format!("row 0 {ONE} {ONE} {ONE} {ONE}"), "field 6: one too many"),
+            ("surface_fit 1234567890", "field 2: not a number"),
+            ("surface_fit 4 4", "field 3: one too many"),
+            (&format!("surface_report custom 4 aic p95 {ONE} none {ONE} size"), "fits"),
+            (&format!("surface_band {ONE} {ONE} 1 p95 {ONE} none {ONE}"), "fits"),
+            (&format!("surface_band {ONE} 1 p95 {ONE} none {ONE}"), "field 3: not a float"),
+            ("surface", "field 1: not a call"),
             (&format!("scores relaxed 0 aic p95 {ONE} none {ONE}"), "fits"),
             (&format!("scores relaxed 0 aic p95 {ONE} none {ONE} sign"), "field 9: not a name"),
             ("scores", "field 2: missing"),
@@ -663,6 +719,12 @@ mod tests {
             format!("split 999999999 custom 3 bic custom {ONE} variance {ONE} size"),
             format!("losses custom 7 bic p999 0000000000000000 measurement {ONE}"),
             format!("losses custom 7 bic p999 0000000000000000 measurement {ONE} size"),
+            format!("row 17 {ONE} 8000000000000000 7FF8000000000000"),
+            "lent zs 5".to_string(),
+            "surface_fit 4".to_string(),
+            format!("surface_report custom 4 bic p999 0000000000000000 measurement {ONE}"),
+            format!("surface_report relaxed 0 aic p80 0000000000000000 variance {ONE} size"),
+            format!("surface_band {ONE} 8000000000000000 2 custom {ONE} absolute {ONE}"),
             format!("scores custom 7 bic p999 0000000000000000 measurement {ONE}"),
             format!("scores custom 7 bic p999 0000000000000000 measurement {ONE} size"),
             "validate 10 aggressive 0 aic".to_string(),

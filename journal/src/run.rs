@@ -56,6 +56,11 @@ impl<'a> Journal<'a> {
         match *request {
             Request::Lent { name, length } => *name.length(&mut self.lent) = length,
             Request::Put { name, index, value } => self.memory.floats(name)?[index] = value,
+            Request::Row { index, sample } => {
+                self.memory.x[index] = sample.x;
+                self.memory.z[index] = sample.z;
+                self.memory.y[index] = sample.y;
+            }
             Request::Count(count) => self.count = count,
             Request::Show { name, from, to } => return Some(self.show(name, from, to)),
             Request::Call(ref call) => return Some(self.call(call).to_string()),

@@ -1,8 +1,9 @@
 //! A side: an implementation of the book's calls on lent memory.
 
 use judge::book;
-use judge::fit::{Criterion, Settings};
+use judge::fit::{Band, Criterion, Settings};
 use judge::statistics::{Confidence, DegreeBound, Tolerance};
+use judge::surface::{self, Site};
 use judge::Sample;
 
 use crate::call::{Answer, Call};
@@ -42,6 +43,16 @@ pub trait Calls {
         confidence: Confidence,
         tolerance: Tolerance,
     ) -> Answer;
+    fn surface_fit(&self, count: usize, lent: Lent, degree: usize) -> Answer;
+    fn surface_report(&self, count: usize, lent: Lent, settings: Settings) -> Answer;
+    fn surface_band(
+        &self,
+        count: usize,
+        lent: Lent,
+        at: (Site, usize),
+        confidence: Confidence,
+        tolerance: Tolerance,
+    ) -> Answer;
     fn reader(&self, frame: &[u8]) -> Answer;
 }
 
@@ -77,6 +88,11 @@ impl<T: Calls> Side for T {
             Call::Band { x, degree, confidence, tolerance } => {
                 self.band(count, lent, (*x, *degree), *confidence, *tolerance)
             }
+            Call::SurfaceFit { degree } => self.surface_fit(count, lent, *degree),
+            Call::SurfaceReport(settings) => self.surface_report(count, lent, *settings),
+            Call::SurfaceBand { site, degree, confidence, tolerance } => {
+                self.surface_band(count, lent, (*site, *degree), *confidence, *tolerance)
+            }
             Call::Reader(frame) => self.reader(frame),
         }
     }
@@ -91,6 +107,26 @@ fn answer<T>(result: Result<T, u8>, of: impl Fn(T) -> Answer) -> Answer {
         Ok(value) => of(value),
         Err(number) => Answer::Refused(number),
     }
+}
+
+fn report_answer(result: Result<book::ReportAnswer, u8>) -> Answer {
+    answer(result, |a| Answer::Report {
+        degree: a.degree,
+        solved: a.solved,
+        outliers: a.outliers,
+        pruned: a.pruned,
+    })
+}
+
+fn band_answer(result: Result<Band, u8>) -> Answer {
+    answer(result, |b| Answer::Band { value: b.value, lower: b.lower, upper: b.upper })
+}
+
+/// A surface's part of what is lent.
+macro_rules! columns {
+    ($lent:ident) => {
+        surface::Columns { x: $lent.x, z: $lent.z, y: $lent.y }
+    };
 }
 
 /// The book's own part of what is lent.
@@ -150,13 +186,7 @@ impl Calls for Judge {
             upper: lent.upper,
             outlier: lent.outlier,
         };
-        let result = book::report(count, &memory, settings, lent.scratch, &mut out);
-        answer(result, |a| Answer::Report {
-            degree: a.degree,
-            solved: a.solved,
-            outliers: a.outliers,
-            pruned: a.pruned,
-        })
+        report_answer(book::report(count, &memory, settings, lent.scratch, &mut out))
     }
 
     fn split(&self, count: usize, lent: Lent, settings: Settings, limit: usize) -> Answer {
@@ -213,8 +243,38 @@ impl Calls for Judge {
         tolerance: Tolerance,
     ) -> Answer {
         let memory = memory!(lent);
-        let result = book::band(count, &memory, at, confidence, tolerance, lent.scratch);
-        answer(result, |b| Answer::Band { value: b.value, lower: b.lower, upper: b.upper })
+        band_answer(book::band(count, &memory, at, confidence, tolerance, lent.scratch))
+    }
+
+    fn surface_fit(&self, count: usize, lent: Lent, degree: usize) -> Answer {
+        let columns = columns!(lent);
+        let result = surface::fit(count, columns, degree, lent.scratch, lent.coefficients);
+        answer(result, Answer::Degree)
+    }
+
+    fn surface_report(&self, count: usize, lent: Lent, settings: Settings) -> Answer {
+        let columns = columns!(lent);
+        let mut out = book::ReportMemory {
+            coefficients: lent.coefficients,
+            errors: lent.errors,
+            pruned: lent.pruned,
+            lower: lent.lower,
+            upper: lent.upper,
+            outlier: lent.outlier,
+        };
+        report_answer(surface::report(count, columns, settings, lent.scratch, &mut out))
+    }
+
+    fn surface_band(
+        &self,
+        count: usize,
+        lent: Lent,
+        at: (Site, usize),
+        confidence: Confidence,
+        tolerance: Tolerance,
+    ) -> Answer {
+        let columns = columns!(lent);
+        band_answer(surface::band(count, columns, at, confidence, tolerance, lent.scratch))
     }
 
     fn reader(&self, frame: &[u8]) -> Answer {

@@ -1,6 +1,6 @@
 //! The lists of tests/ at the top of the repository: their answers are the judge's and the proved
-//! library's, and the lists of edges, of lines, of weights, of splits, of windows, of losses and of scores meet
-//! the edges that their comments name.
+//! library's, and the lists of edges, of lines, of weights, of splits, of windows, of losses, of scores and of
+//! surfaces meet the edges that their comments name.
 
 use std::path::PathBuf;
 use std::process::Command;
@@ -12,9 +12,14 @@ use judge::numbers::NAN_BITS;
 use judge::split::{self, side_fit};
 use judge::statistics::{huber_loss, max_degree, median_absolute_deviation, HUBER_CONST};
 use judge::sums::{folded_afresh, powers, TERMS};
+use judge::surface::{folded, terms_of, SurfaceSample};
 use judge::Sample;
 
 const NEGATIVE_ZERO: u64 = 1 << 63;
+
+/// The lists that `lists` makes.
+const MADE: [&str; 9] =
+    ["edges", "season", "lines", "weights", "split", "windows", "losses", "scores", "surface"];
 
 fn file(name: &str) -> Vec<u8> {
     let path = PathBuf::from(env!("CARGO_MANIFEST_DIR")).join("../tests").join(name);
@@ -29,9 +34,7 @@ fn printed(side: &dyn Side, name: &str) -> String {
 }
 
 fn check_answers(side: &dyn Side) {
-    for name in
-        ["edges", "season", "lines", "weights", "split", "windows", "losses", "scores", "fixed"]
-    {
+    for name in MADE.into_iter().chain(["fixed"]) {
         let answers = String::from_utf8(file(&format!("{name}.answers"))).unwrap();
         let printed = printed(side, name);
         for (number, (kept, new)) in answers.lines().zip(printed.lines()).enumerate() {
@@ -53,7 +56,7 @@ fn answers_are_the_librarys() {
 
 #[test]
 fn lists_are_as_made() {
-    for name in ["edges", "season", "lines", "weights", "split", "windows", "losses", "scores"] {
+    for name in MADE {
         let made = Command::new(env!("CARGO_BIN_EXE_lists")).arg(name).output().unwrap();
         assert!(made.stdout == file(&format!("{name}.calls")), "{name}.calls");
     }
@@ -1613,4 +1616,263 @@ fn scratch_of_splits() {
         (&written[2][1..16], &written[3], &written[4]),
         (&[0; 15][..], &written[0], &written[0])
     );
+}
+
+/// A part of the list of surfaces.
+fn surface(comment: &str) -> Edge {
+    part("surface.calls", comment)
+}
+
+impl Edge {
+    /// The columns at each report, or what else begins with the word.
+    fn surfaces(&self, word: &str) -> Vec<Vec<SurfaceSample>> {
+        let (mut rows, mut count, mut seen) = (Vec::new(), 0, Vec::new());
+        for (line, _) in &self.0 {
+            match read(line.as_bytes()) {
+                Ok(Some(Request::Row { index, sample })) => {
+                    rows.truncate(index);
+                    rows.push(sample);
+                }
+                Ok(Some(Request::Count(number))) => count = number,
+                _ if line.starts_with(word) => seen.push(rows[..count].to_vec()),
+                _ => {}
+            }
+        }
+        seen
+    }
+}
+
+#[test]
+fn surfaces_by_hand() {
+    let corners = surface("by hand: the corners");
+    let places = |values: &[f64], mark: f64| {
+        let mut places = values.to_vec();
+        places.resize(15, 0.0);
+        bits_of(&[&places[..], &[mark]].concat())
+    };
+    let plane = places(&[20.0, -12.0, 12.75], 115.0);
+    assert!(corners.shown("coefficients").iter().all(|shown| shown[..16] == plane));
+    let errors = places(&[1.0; 3], 215.0);
+    assert!(corners.shown("errors").iter().all(|shown| shown[..16] == errors));
+    assert_eq!(
+        corners.of("surface_report"),
+        ["report 1 2 0 0", "report 1 2 0 1", "report 1 2 0 2", "report 1 2 0 3"]
+    );
+    let pruned: Vec<_> = corners.shown("pruned").iter().map(|shown| shown[..3].to_vec()).collect();
+    assert_eq!(pruned, [[0, 0, 0], [0, 1, 0], [1, 0, 1], [1, 1, 1]]);
+    let wide = 1.959 * 3_f64.sqrt();
+    assert_eq!(
+        floats(&corners.shown("lower")[0])[..4],
+        [20.75, -4.75, 44.75, 19.25].map(|v| v - wide)
+    );
+    let narrow = surface("by hand: a score of 0.5");
+    assert_eq!(narrow.shown("outliers")[0][..4], [1; 4]);
+    let one = surface("by hand: one sample");
+    assert_eq!(one.of("surface_report"), ["report 0 1 0 0"]);
+    assert_eq!(floats(&one.shown("upper")[0])[0], -2.5);
+}
+
+/// Each coefficient is that of its term, and no other order of terms would have it.
+#[test]
+fn terms_in_order() {
+    let edge = surface("terms: by a + b");
+    let found = floats(&edge.shown("coefficients")[0]);
+    for (j, value) in found[..15].iter().enumerate() {
+        assert!((value - (j + 1) as f64).abs() < 1e-9, "{j}: {value}");
+    }
+    let huge = surface("terms: x² is infinite");
+    assert_eq!(huge.of("surface_fit"), ["fit 0", "refused 10", "refused 10", "refused 10"]);
+}
+
+#[test]
+fn k_is_the_number_of_terms() {
+    let edge = surface("scores: ");
+    for (samples, answer) in edge.surfaces("surface_report").iter().zip(edge.of("surface_report")) {
+        let sums = folded(samples);
+        let chosen_by = |k: fn(usize) -> usize| {
+            let score = |degree| {
+                let residuals = fit::residuals(samples, &fit::solved(samples, &sums, degree)?);
+                Some(fit::score(Criterion::Aic, &residuals, k(degree)))
+            };
+            fit::chosen(&(0..=2).map(score).collect::<Vec<_>>())
+        };
+        let right = chosen_by(terms_of).unwrap();
+        assert!(answer.starts_with(&format!("report {right} 3 ")), "{answer}");
+        assert_ne!(chosen_by(|degree| degree + 1), Some(right));
+    }
+    assert_eq!(edge.of("surface_report").len(), 3);
+}
+
+#[test]
+fn one_z_for_all_samples() {
+    let edge = surface("level: one z");
+    assert_eq!(numbers(&edge.of("surface_fit")), [0, 10, 10].repeat(3));
+    assert_eq!(numbers(&edge.of("surface_band")), [0, 10, 10].repeat(3));
+    assert!(edge.of("surface_report").iter().all(|answer| answer.starts_with("report 0 1 ")));
+    let other = surface("level: one x");
+    assert_eq!(other.of("surface_fit"), ["refused 10"]);
+    assert!(other.of("surface_report")[0].starts_with("report 0 1 "));
+}
+
+#[test]
+fn more_terms_than_samples() {
+    let edge = surface("terms and samples: every number");
+    let (fits, bands) = (numbers(&edge.of("surface_fit")), numbers(&edge.of("surface_band")));
+    let reports = edge.of("surface_report");
+    for n in 1..=16 {
+        for degree in 0..=5 {
+            let too_many = degree > 4 || terms_of(degree) > n;
+            let at = 6 * (n - 1) + degree;
+            assert_eq!((fits[at] == 8, bands[at] == 8), (too_many, too_many), "{n} {degree}");
+        }
+        let solved: usize = reports[n - 1].split(' ').nth(2).unwrap().parse().unwrap();
+        assert!(solved <= (0..=4).filter(|&degree| terms_of(degree) <= n).count());
+    }
+    // Fits of each total degree to as many samples as terms.
+    let exact = [(1, 0), (3, 1), (6, 2), (10, 3), (15, 4)];
+    assert!(exact.iter().all(|&(n, degree)| fits[6 * (n - 1) + degree] == 0));
+    let nine = surface("terms and samples: nine");
+    let samples = &nine.surfaces("surface_report")[0];
+    assert!(fit::solved(samples, &folded(samples), 3).is_some());
+    assert!(nine.of("surface_report")[0].split(' ').nth(2) == Some("3"));
+    assert_eq!(nine.of("surface_fit"), ["refused 8"]);
+}
+
+#[test]
+fn bounds_above_4() {
+    let of = |comment: &str| numbers(&surface(comment).of("surface_report"));
+    assert_eq!(of("bounds: Custom 5"), [0, 0, 8, 0]);
+    assert_eq!(of("bounds: Aggressive"), [0, 0, 8, 0]);
+    assert_eq!(of("bounds: Relaxed"), [0, 0, 8, 0]);
+    assert_eq!(of("bounds: Conservative"), [0]);
+}
+
+#[test]
+fn surfaces_refused_in_order() {
+    let bands = |comment: &str| numbers(&surface(comment).of("surface_band"));
+    assert_eq!(bands("bands: x and z each"), [0; 6]);
+    assert_eq!(bands("bands: z outside"), [9; 6]);
+    for comment in ["not finite: a given", "not finite: in a column"] {
+        let edge = surface(comment);
+        let words = ["surface_fit", "surface_report", "surface_band"];
+        let all: Vec<u32> = words.iter().flat_map(|word| numbers(&edge.of(word))).collect();
+        assert!(all.len() == 18 && all.iter().all(|number| *number == 4), "{comment}: {all:?}");
+        // Nothing is written.
+        assert_eq!(edge.shown("coefficients")[0][0], 100f64.to_bits());
+        assert_eq!(edge.shown("scratch")[0][0], 500f64.to_bits());
+    }
+    let past = surface("not finite: past the count");
+    let all = ["surface_fit", "surface_report", "surface_band"].map(|word| past.of(word)[0]);
+    assert_eq!(numbers(&all), [0; 3]);
+    let early = surface("early: 7 before 8");
+    assert_eq!(numbers(&early.of("surface_fit")), [7, 7]);
+    assert_eq!(numbers(&early.of("surface_report")), [7, 4]);
+    assert_eq!(numbers(&early.of("surface_band")), [7, 4]);
+    let early = surface("early: 4 before 8");
+    assert_eq!(numbers(&early.of("surface_report")), [4, 8]);
+    assert_eq!(numbers(&early.of("surface_band")), [4, 8, 8, 9, 10]);
+    assert_eq!(numbers(&early.of("surface_fit")), [8]);
+    assert_eq!(early.shown("scratch")[0][0], 500f64.to_bits());
+    assert_eq!(early.shown("scratch")[1], bits_of(&[0.0, 0.0, 0.0, 0.0, 0.0, 0.0, 506.0]));
+    let early = surface("early: 1 before 4");
+    assert_eq!(numbers(&early.of("surface_fit")), [1, 4]);
+    assert_eq!(numbers(&early.of("surface_report")), [1, 4, 1, 8]);
+    assert_eq!(numbers(&early.of("surface_band")), [1, 4]);
+}
+
+#[test]
+fn memory_of_surfaces() {
+    let exact = surface("short: each memory");
+    for word in ["surface_fit", "surface_report", "surface_band"] {
+        assert_eq!(numbers(&exact.of(word)), [0], "{word}");
+    }
+    for (name, judged) in [
+        ("xs", [1, 1, 1]),
+        ("zs", [1, 1, 1]),
+        ("ys", [1, 1, 1]),
+        ("scratch", [1, 1, 1]),
+        ("coefficients", [1, 1, 0]),
+        ("errors", [0, 1, 0]),
+        ("pruned", [0, 1, 0]),
+        ("lower", [0, 1, 0]),
+        ("upper", [0, 1, 0]),
+        ("outliers", [0, 1, 0]),
+    ] {
+        let edge = surface(&format!("short: {name} one place short"));
+        // First by what 8, 4 and 8 would refuse, too.
+        let words = ["surface_fit", "surface_report", "surface_band"];
+        for ((word, judged), otherwise) in words.into_iter().zip(judged).zip([8, 4, 8]) {
+            let first = if judged == 1 { 1 } else { otherwise };
+            assert_eq!(numbers(&edge.of(word)), [first, judged], "{name} {word}");
+        }
+        // What a report would have written is as it was.
+        assert_eq!(edge.shown("errors")[0][0], 200f64.to_bits(), "{name}");
+    }
+    let none = surface("short: no samples");
+    assert_eq!(numbers(&none.of("surface_fit")), [7, 1]);
+    assert_eq!(numbers(&none.of("surface_report")), [7, 1]);
+    assert_eq!(numbers(&none.of("surface_band")), [7, 7]);
+    let most = surface("short: a count above 4,096");
+    assert_eq!(numbers(&most.of("surface_fit")), [1, 0]);
+    assert_eq!(numbers(&most.of("surface_report")), [1]);
+}
+
+#[test]
+fn surfaces_refused_late() {
+    let unsolved = surface("late: 10 and 11");
+    assert_eq!(unsolved.of("surface_fit"), ["refused 10"]);
+    assert_eq!(unsolved.of("surface_band"), ["refused 10"]);
+    assert_eq!(unsolved.of("surface_report"), ["refused 11"]);
+    assert!(unsolved.shown("scratch").iter().all(|shown| *shown == bits_of(&[0.0, 0.0, 502.0])));
+    assert_eq!(surface("late: 11 with").of("surface_report"), ["refused 11"]);
+    let edge = surface("late: 12");
+    assert_eq!(edge.of("surface_report"), ["refused 12"]);
+    assert_eq!(edge.of("surface_band"), ["refused 12"]);
+    assert_eq!(edge.of("surface_fit"), ["fit 2"]);
+    assert_eq!(edge.shown("errors")[0][0], 200f64.to_bits());
+    assert!(edge.shown("scratch").iter().all(|shown| shown[..6] == [0; 6]));
+    let mean = surface("late: total degree 0");
+    assert_eq!(mean.of("surface_fit"), ["refused 10"]);
+    assert!(mean.of("surface_report")[0].starts_with("report 1 1 "));
+}
+
+/// The columns of a book are read as they are, whatever the weights, and left.
+#[test]
+fn surfaces_of_a_book() {
+    let edge = surface("book: ");
+    assert_eq!(floats(&edge.shown("coefficients")[0])[..3], [20.0, -12.0, 12.75]);
+    assert_eq!(edge.of("surface_report"), ["report 1 2 0 0"]);
+    assert_eq!(floats(&edge.shown("ws")[0])[..4], [1.0, 2.0, 3.0, 4.0]);
+}
+
+#[test]
+fn fields_of_surfaces() {
+    let part = surface("fields: ");
+    let messages: Vec<&str> =
+        part.0.iter().filter_map(|(_, printed)| Some(printed.split_once(": ")?.1)).collect();
+    let expected = [
+        "field 2: missing",
+        "field 2: too large",
+        "field 2: not a number",
+        "field 5: missing",
+        "field 4: not a float",
+        "field 6: one too many",
+        "field 3: too large",
+        "field 2: missing",
+        "field 2: not a number",
+        "field 3: one too many",
+        "field 2: not a name",
+        "field 8: missing",
+        "field 9: not a name",
+        "field 10: one too many",
+        "field 3: not a float",
+        "field 4: not a number",
+        "field 8: missing",
+        "field 9: one too many",
+        "field 1: not a call",
+        "field 1: not a call",
+    ];
+    assert_eq!(messages, expected);
+    assert_eq!(part.of("surface_fit").last(), Some(&"fit 0"));
+    assert_eq!(part.of("surface_report")[4..], ["report 0 1 0 0"; 3]);
 }

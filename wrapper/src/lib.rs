@@ -9,7 +9,7 @@
 //! [`Book::add_window`].
 //!
 //! [`TwoColumnBook`] is for a season that was begun before samples had weights; it is carried into a
-//! [`Book`].
+//! [`Book`]. [`Surface`] fits samples with two coordinates.
 //!
 //! A call needs at most 40 KB of stack. What it takes in time, and how both were measured, is said
 //! in `include/stakebook.h`.
@@ -46,11 +46,13 @@
 
 mod refusal;
 mod settings;
+mod surface;
 pub mod sys;
 mod two_column;
 
 pub use refusal::Refusal;
 pub use settings::{Confidence, Criterion, DegreeBound, PruningRule, Settings, Tolerance};
+pub use surface::{Surface, SurfaceFit};
 pub use two_column::{NotCarried, TwoColumnBook};
 
 /// The most samples that a book can hold.
@@ -115,7 +117,8 @@ pub struct Report<'a> {
     /// The chosen degree, and how many of the degrees from 0 to the bound were solved.
     pub degree: usize,
     pub solved: usize,
-    /// The coefficients of the curve and their errors, degree + 1 of each.
+    /// The coefficients of the curve and their errors, degree + 1 of each, or of the surface, as many
+    /// as its total degree has terms.
     pub coefficients: &'a [f64],
     pub errors: &'a [f64],
     /// For each coefficient 1 if it is pruned as insignificant, else 0.
@@ -195,7 +198,7 @@ impl Report<'_> {
 /// Calls a function of the library: its numbers, then the slices that it is lent.
 macro_rules! lend {
     ($function:ident($($number:expr),*; $($slice:expr),*)) => {
-        // SAFETY: the slices are this book's own or local, so they are apart, and each has the
+        // SAFETY: the slices are the book's or the surface's own or local, so they are apart, and each has the
         // length given. A frame, a text or a list of settings, which stands among the numbers,
         // is only read.
         unsafe { sys::$function($($number),*, $($slice.as_mut_ptr(), $slice.len()),*) }

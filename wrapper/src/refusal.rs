@@ -18,9 +18,10 @@ pub enum Refusal {
     NoSuchSample,
     /// 7: there are no samples, for a split fewer than 4, or the folds are below 2 or above their number.
     NoSamples,
-    /// 8: the degree is at or above the number of samples, or above 15.
+    /// 8: the degree is at or above the number of samples, or above 15; for a surface, the total degree is
+    /// above 4 or has more terms than there are samples.
     DegreeTooHigh,
-    /// 9: x lies outside the samples.
+    /// 9: x lies outside the samples, or z does.
     OutOfRange,
     /// 10: the degree is unsolved.
     Unsolved,

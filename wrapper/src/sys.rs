@@ -328,6 +328,67 @@ extern "C" {
         least: *mut f64,
         least_len: usize,
     ) -> u64;
+    pub fn stakebook_surface_fit(
+        count: usize,
+        degree: usize,
+        xs: *const f64,
+        xs_len: usize,
+        zs: *const f64,
+        zs_len: usize,
+        ys: *const f64,
+        ys_len: usize,
+        scratch: *mut f64,
+        scratch_len: usize,
+        coefficients: *mut f64,
+        coefficients_len: usize,
+    ) -> u64;
+    pub fn stakebook_surface_report(
+        count: usize,
+        words: *const u32,
+        words_len: usize,
+        values: *const f64,
+        values_len: usize,
+        xs: *const f64,
+        xs_len: usize,
+        zs: *const f64,
+        zs_len: usize,
+        ys: *const f64,
+        ys_len: usize,
+        scratch: *mut f64,
+        scratch_len: usize,
+        coefficients: *mut f64,
+        coefficients_len: usize,
+        errors: *mut f64,
+        errors_len: usize,
+        pruned: *mut u8,
+        pruned_len: usize,
+        lower: *mut f64,
+        lower_len: usize,
+        upper: *mut f64,
+        upper_len: usize,
+        outliers: *mut u8,
+        outliers_len: usize,
+    ) -> u64;
+    pub fn stakebook_surface_band(
+        count: usize,
+        x: f64,
+        z: f64,
+        degree: usize,
+        confidence: u32,
+        score: f64,
+        tolerance: u32,
+        value: f64,
+        xs: *const f64,
+        xs_len: usize,
+        zs: *const f64,
+        zs_len: usize,
+        ys: *const f64,
+        ys_len: usize,
+        scratch: *mut f64,
+        scratch_len: usize,
+        numbers: *mut f64,
+        numbers_len: usize,
+    ) -> u64;
     pub fn stakebook_reader(frame: *const u8, frame_len: usize) -> u64;
     pub fn stakebook_next(
         frame: *const u8,
@@ -386,13 +447,13 @@ pub fn count(answer: u64) -> usize {
     (answer & 0x00FF_FFFF_FFFF_FFFF) as usize
 }
 
-/// The degree, in the answer of a fit, a validation, a report, losses or scores; of a split, the one
-/// before the break.
+/// The degree, in the answer of a fit, a validation, a report, losses or scores, also of a surface; of a split,
+/// the one before the break.
 pub fn degree(answer: u64) -> usize {
     (answer & 0xFF) as usize
 }
 
-/// The number of solved degrees, in the answer of a report or of scores.
+/// The number of solved degrees, in the answer of a report, also of a surface, or of scores.
 pub fn solved(answer: u64) -> usize {
     (answer >> 8 & 0xFF) as usize
 }

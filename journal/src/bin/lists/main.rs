@@ -7,6 +7,7 @@
 //! `lists split`: a list broken in two, document 02's E8.
 //! `lists windows`: window books, document 02's E11.
 //! `lists losses`: losses line by line, document 02's E12.
+//! `lists surface`: surfaces over two coordinates, document 02's E9.
 //! `lists scores`: scores by degree.
 
 mod edges;
@@ -16,6 +17,7 @@ mod losses;
 mod scores;
 mod season;
 mod split;
+mod surface;
 mod weights;
 mod windows;
 
@@ -30,9 +32,12 @@ fn main() -> ExitCode {
         Some("split") => split::split(),
         Some("windows") => windows::windows(),
         Some("losses") => losses::losses(),
+        Some("surface") => surface::surface(),
         Some("scores") => scores::scores(),
         _ => {
-            eprintln!("lists edges, season, lines, weights, split, windows, losses, or scores");
+            eprintln!(
+                "lists edges, season, lines, weights, split, windows, losses, surface, or scores"
+            );
             return ExitCode::FAILURE;
         }
     };
