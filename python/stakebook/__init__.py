@@ -16,8 +16,22 @@ x               2
 
 from ._library import LibraryError, MOST, Refused, WORDS
 from .book import Book, Calls
-from .results import Band, DegreeScore, Fit, Losses, Replayed, Report, Scores, Split, Validation
+from .results import (
+    Band,
+    DegreeScore,
+    Fit,
+    Losses,
+    Replayed,
+    Report,
+    Scores,
+    Split,
+    SurfaceBand,
+    SurfaceFit,
+    SurfaceReport,
+    Validation,
+)
 from .settings import Settings
+from .surface import Surface
 
 __all__ = [
     "Band",
@@ -34,6 +48,10 @@ __all__ = [
     "Scores",
     "Settings",
     "Split",
+    "Surface",
+    "SurfaceBand",
+    "SurfaceFit",
+    "SurfaceReport",
     "Validation",
     "WORDS",
 ]

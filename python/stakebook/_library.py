@@ -101,6 +101,7 @@ _whole, _word, _number = [ctypes.c_size_t], [ctypes.c_uint32], [ctypes.c_double]
 _lent = [ctypes.c_void_p, ctypes.c_size_t]
 _book = _lent * 4  # xs, ys, ws, sums
 _lists = _lent * 2  # words, values
+_surface = _lent * 3  # xs, zs, ys
 
 #: Each function with the types of its arguments; all answer one uint64_t.
 DECLARED: Dict[str, List[Any]] = {
@@ -119,10 +120,13 @@ DECLARED: Dict[str, List[Any]] = {
     "split": _whole + _lists + _whole + _book + _lent * 4,
     "replay": _lent * 3 + _whole + _book + _lent * 8,
     "scores": _whole + _lists + _book + _lent * 4,
+    "surface_fit": _whole * 2 + _surface + _lent * 2,
+    "surface_report": _whole + _lists + _surface + _lent * 7,
+    "surface_band": _whole + _number * 2 + _whole + _word + _number + _word + _number + _surface + _lent * 2,
 }
 
 #: What a library of an earlier version may lack.
-LATER = ("scores",)
+LATER = ("scores", "surface_fit", "surface_report", "surface_band")
 
 
 class Library:
@@ -143,6 +147,9 @@ class Library:
     split: Call
     replay: Call
     scores: Optional[Call]
+    surface_fit: Optional[Call]
+    surface_report: Optional[Call]
+    surface_band: Optional[Call]
 
     def __init__(self, path: str) -> None:
         try:
@@ -162,6 +169,14 @@ class Library:
             function.argtypes = arguments
             function.restype = ctypes.c_uint64
             setattr(self, name, function)
+
+
+def later(loaded: Library, name: str) -> Call:
+    """One of the functions that a library of an earlier version may lack."""
+    call: Optional[Call] = getattr(loaded, name)
+    if call is None:
+        raise LibraryError(f"the library {loaded.path} has no function stakebook_{name}: it is of an earlier version")
+    return call
 
 
 def _places() -> Tuple[Path, ...]:

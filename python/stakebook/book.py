@@ -8,12 +8,13 @@ import threading
 from array import array
 from typing import Any, Iterable, List, NoReturn, Optional, Sequence, Tuple, Type, TypeVar, Union, overload
 
-from ._library import ANSWER, BAND, LOSSES, MOST, SIZE_MAX, SUMS, TERMS, Call, LibraryError, Refused, first_of, library, number, whole
+from ._library import ANSWER, BAND, LOSSES, MOST, SIZE_MAX, SUMS, TERMS, Call, Refused, first_of, later, library, number, whole
 from .results import Band, DegreeScore, Fit, Losses, Replayed, Report, Scores, Split, Validation
 from .settings import Settings
 
 _DEFAULT = Settings()
 _Book = TypeVar("_Book", bound="Book")
+_Report = TypeVar("_Report", bound=Report)
 
 # A frame: a length of 2 bytes, the version, and the samples. The 3 bytes stand at the end of 8, so that the numbers behind them are aligned.
 _FRAME_MOST = 0xFFFF
@@ -64,6 +65,11 @@ def _frame(columns: Sequence[memoryview], begin: int, end: int) -> Tuple["array[
     length = 1 + 8 * width * (end - begin)
     numbers.cast("B")[_FRAME_AT:8] = bytes((length >> 8, length & 0xFF, width - 1))
     return frame, length + 2
+
+
+def _many(values: Any) -> bool:
+    """Whether it is a sequence of numbers and not one of them."""
+    return hasattr(values, "__iter__") and getattr(values, "ndim", None) != 0 and not isinstance(values, (str, bytes))
 
 
 def _ratio(c: float, error: float) -> float:
@@ -438,8 +444,8 @@ class Book:
         >>> [band.value for band in book.band([0.5, 2.5], 1)]
         [2.0, 6.0]
         """
-        if hasattr(x, "__iter__") and getattr(x, "ndim", None) != 0 and not isinstance(x, (str, bytes)):
-            return self._bands([number(each) for each in x], degree, settings)
+        if _many(x):
+            return self._bands([number(each) for each in x], degree, settings)  # type: ignore[union-attr]
         return self._bands([number(x)], degree, settings)[0]
 
     def _bands(self, xs: List[float], degree: int, settings: Settings) -> List[Band]:
@@ -486,27 +492,28 @@ class Book:
         2 of 6 outside the band, which is the curve's and not the readings': 3, 4
         """
         with self._lock:
-            n = self._count
-            answer = self._library.report_by(n, *settings.codes.lists, *self._for_report)
+            answer = self._library.report_by(self._count, *settings.codes.lists, *self._for_report)
             if answer >> 56:
                 raise Refused(answer >> 56)
-            k = (answer & 0xFF) + 1
-            coefficients, errors = self._coefficients[:k].tolist(), self._errors[:k].tolist()
-            pruned, outliers = self._pruned[:k].tolist(), self._outliers[:n].tolist()
-            lower, upper = self._lower[:n].tolist(), self._upper[:n].tolist()
-        return Report(
+            return self._reported(Report, settings, answer, (answer & 0xFF) + 1)
+
+    def _reported(self, made: Type[_Report], settings: Settings, answer: int, k: int) -> _Report:
+        """What a report of k coefficients has written."""
+        n = self._count
+        coefficients, errors = self._coefficients[:k].tolist(), self._errors[:k].tolist()
+        return made(
             settings=settings,
             n=n,
-            degree=k - 1,
+            degree=answer & 0xFF,
             solved=answer >> 8 & 0xFF,
             coefficients=coefficients,
             errors=errors,
             t=list(map(_ratio, coefficients, errors)),
-            pruned=list(map(bool, pruned)),
+            pruned=list(map(bool, self._pruned[:k])),
             df=n - k,
-            lower=lower,
-            upper=upper,
-            outliers=list(map(bool, outliers)),
+            lower=self._lower[:n].tolist(),
+            upper=self._upper[:n].tolist(),
+            outliers=list(map(bool, self._outliers[:n])),
         )
 
     def losses(self, settings: Settings = _DEFAULT) -> Losses:
@@ -540,9 +547,7 @@ class Book:
         2       33.9846      10.1648
         3       63.2789      39.4591
         """
-        call = self._library.scores
-        if call is None:
-            raise LibraryError(f"the library {self._library.path} has no function stakebook_scores: it is of an earlier version")
+        call = later(self._library, "scores")
         with self._lock:
             n = self._count
             answer = call(n, *settings.codes.lists, *self._for_scores)

@@ -180,7 +180,7 @@ def _name(text: str) -> str:
 
 def _settings_of(arguments: argparse.Namespace, base: SettingsText) -> SettingsText:
     """The base, with what the options say."""
-    given = {name: getattr(arguments, name) for name in SettingsText._fields if getattr(arguments, name) is not None}
+    given = {name: getattr(arguments, name) for name in SettingsText._fields if getattr(arguments, name, None) is not None}
     return base._replace(**given)
 
 
@@ -224,7 +224,9 @@ def _parser() -> argparse.ArgumentParser:
             made.add_argument("--json", action="store_true", help="for programs")
         return made
 
-    _add_settings(command("new", _new, "begin a season", changes=True), "of the season's reports; without: relaxed, bic, P95, none, size")
+    made = command("new", _new, "begin a season", changes=True)
+    made.add_argument("--surface", dest="of_surface", action="store_true", help="of a surface: its readings have a z, the elevation say, beside x")
+    _add_settings(made, "of the season's reports; without: relaxed, bic, P95, none, size")
     made = command("settings", _set, "show the season's settings, or change those that are given", changes=True, as_json=True)
     _add_settings(made, "those to change")
 
@@ -233,6 +235,7 @@ def _parser() -> argparse.ArgumentParser:
     made.add_argument("--x", metavar="COLUMN", help="the heading of x; without, x or depth")
     made.add_argument("--y", metavar="COLUMN", help="the heading of y; without, y or density")
     made.add_argument("--weight", metavar="COLUMN", help="the heading of the weights; without, every weight is 1")
+    made.add_argument("--z", metavar="COLUMN", help="the heading of z; for a season of a surface, and only there")
     made.add_argument("--name", metavar="COLUMN", help="the heading of your own names of readings; without, name")
     made.add_argument("--remarks", metavar="COLUMN", help="the heading of remarks, kept as the readings' notes; without, note or remarks")
     made.add_argument("--missing", metavar="TEXT", action="append", default=[], help="what else stands for a missing number, as -9999")
@@ -240,6 +243,7 @@ def _parser() -> argparse.ArgumentParser:
     made = command("add", _add, "add one reading", changes=True)
     made.add_argument("x", metavar="X", type=_number)
     made.add_argument("y", metavar="Y", type=_number)
+    made.add_argument("--z", metavar="Z", type=_number, help="of a reading of a surface, and only there")
     made.add_argument("--weight", metavar="W", type=_number, default="1", help="what the reading counts; without, 1")
 
     made = command("correct", _correct, "give a reading a new y", changes=True)
@@ -256,6 +260,7 @@ def _parser() -> argparse.ArgumentParser:
 
     made = command("report", _report, "the curve, why it has its degree, and how far it can be trusted", as_json=True)
     made.add_argument("--at", metavar="X", type=_number, action="append", default=[], help="the curve and its band at an x too; may be given again")
+    made.add_argument("--z", metavar="Z", type=_number, action="append", default=[], help="of a surface, the z that goes with an --at")
     made.add_argument("--folds", metavar="N", type=_whole, help="the degree that cross-validation in so many folds chooses too")
     made.add_argument("--split", action="store_true", help="where the list breaks in two too, each side with a curve of its own")
     made.add_argument("--limit", metavar="N", type=_whole, help="of a split, the most pivot tests to make")
@@ -289,8 +294,9 @@ def _parser() -> argparse.ArgumentParser:
 
 
 def _new(arguments: argparse.Namespace) -> int:
-    season = Season.create(arguments.season, _settings_of(arguments, SettingsText()), arguments.source, arguments.note)
-    _say(f"{season.path}: a new season, {season.settings.summary()}")
+    settings = _settings_of(arguments, SettingsText())
+    season = Season.create(arguments.season, settings, arguments.source, arguments.note, arguments.of_surface)
+    _say(f"{season.path}: a new season{' of a surface' * season.surface}, {season.settings.summary()}")
     return 0
 
 
@@ -308,7 +314,14 @@ def _set(arguments: argparse.Namespace) -> int:
 
 def _import(arguments: argparse.Namespace) -> int:
     table = read_table(
-        arguments.file, arguments.x, arguments.y, arguments.weight, arguments.name, arguments.remarks, [text.strip() for text in arguments.missing]
+        arguments.file,
+        arguments.x,
+        arguments.y,
+        arguments.weight,
+        arguments.name,
+        arguments.remarks,
+        [text.strip() for text in arguments.missing],
+        z=arguments.z,
     )
     left = f"{counted(len(table.missing), 'line')} left out, where a number is missing: {_runs(table.missing)}" if table.missing else ""
     if not table.rows:
@@ -320,7 +333,7 @@ def _import(arguments: argparse.Namespace) -> int:
         except RefusedRow as refused:
             raise RefusedField(refused.number, "", f"{table.source}:{table.rows[refused.row].line}") from None
     names = readings[0].name if len(readings) == 1 else f"{readings[0].name} to {readings[-1].name}"
-    weight = f"weight {table.columns[2]!r}" if table.columns[2] else "weight 1"
+    weight = f"weight {table.columns[2]!r}" if table.columns[2] else f"z {table.columns[3]!r}" if table.columns[3] else "weight 1"
     comma = ", decimal comma" if table.decimal_comma else ""
     encoding = "" if table.encoding == "UTF-8" else f", {table.encoding}"
     _say(f"{season.path}: {counted(len(readings), 'reading')} saved from {table.source}, {names}")
@@ -343,9 +356,10 @@ def _runs(numbers: List[int]) -> str:
 
 def _add(arguments: argparse.Namespace) -> int:
     season = _open(arguments.season)
-    reading = season.add(arguments.x, arguments.y, arguments.weight, arguments.source, arguments.note)
+    reading = season.add(arguments.x, arguments.y, arguments.weight, arguments.source, arguments.note, arguments.z)
     weight = "" if reading.weight_text == "1" else f", weight {reading.weight_text}"
-    _say(f"{season.path}: {reading.name} saved: x {reading.x_text}, y {reading.y_text}{weight}; {counted(season.book.count, 'reading')}")
+    z = f", z {reading.z_text}" if reading.z_text else ""
+    _say(f"{season.path}: {reading.name} saved: x {reading.x_text}{z}, y {reading.y_text}{weight}; {counted(season.book.count, 'reading')}")
     return 0
 
 
@@ -394,11 +408,12 @@ def _list(arguments: argparse.Namespace) -> int:
         _say(_table(rows, (1, 2, 3, 4)))
     else:
         called = any(reading.called for reading in season.readings)
-        rows = [["name"] + ["own name"] * called + ["x", "y", "weight", "state", "source", "note"]]
+        rows = [["name"] + ["own name"] * called + (["x", "z", "y"] if season.surface else ["x", "y", "weight"]) + ["state", "source", "note"]]
         for reading in season.readings:
             own = [reading.called or ""] if called else []
             state = f"{reading.state}, y was {', '.join(reading.was)}" if reading.was else reading.state
-            rows.append([reading.name] + own + [reading.x_text, reading.y_text, reading.weight_text, state, reading.source or "", reading.note or ""])
+            numbers = [reading.x_text, reading.z_text or "", reading.y_text] if season.surface else [reading.x_text, reading.y_text, reading.weight_text]
+            rows.append([reading.name] + own + numbers + [state, reading.source or "", reading.note or ""])
         left = {0, *range(4 + called, 7 + called)} | ({1} if called else set())
         _say(_table(rows, tuple(left)))
         _say(_standing(season))
@@ -415,7 +430,8 @@ def _remarks(source: Optional[str], note: Optional[str]) -> str:
 
 
 def _reading_dict(reading: Reading) -> Dict[str, Any]:
-    names = ("name", "called", "x_text", "y_text", "weight_text", "x", "y", "weight", "state", "index", "was", "source", "note", "line")
+    names = ["name", "called", "x_text", "y_text", "weight_text", "x", "y", "weight", "state", "index", "was", "source", "note", "line"]
+    names += ["z_text", "z"] if reading.z_text else []
     return {name: plain(getattr(reading, name)) for name in names}
 
 
@@ -451,6 +467,12 @@ def _why(scores: Scores) -> str:
     return first + "\n" + textwrap.indent(_table(rows, (0, 3)), "  ")
 
 
+def _why_surface(report: Report) -> str:
+    """The same of a surface, of which no call answers the scores."""
+    rule = f"the lowest whose {report.settings.criterion.upper()} is at most 2 above the least"
+    return f"Total degree {report.degree}: {rule} of the {counted(report.solved, 'total degree')} that could be solved."
+
+
 def _term(power: int) -> str:
     return ("1", "x")[power] if power < 2 else f"x^{power}"
 
@@ -466,12 +488,12 @@ def _confidence_words(settings: Settings) -> str:
 def _curve(season: Season, report: Report) -> str:
     """Coefficients with their errors, what was pruned, and degrees of freedom."""
     rows = [["term", "coefficient", "error", "t", ""]]
-    for i, (c, error, t, pruned) in enumerate(zip(report.coefficients, report.errors, report.t, report.pruned)):
-        rows.append([_term(i), _six(c), _six(error), _six(t), "pruned" if pruned else ""])
-    columns = ", ".join(f"{axis} is {name!r}" for axis, name in (("x", season.x_name), ("y", season.y_name)) if name)
-    lines = ["The curve" + (f" ({columns})" if columns else "") + ":", textwrap.indent(_table(rows, (0, 4)), "  ")]
-    lines.append(f"{counted(report.df, 'degree')} of freedom: {counted(report.n, 'reading')} less {counted(report.degree + 1, 'coefficient')}.")
-    marked = [_term(i) for i, pruned in enumerate(report.pruned) if pruned]
+    for term, c, error, t, pruned in zip(report.terms, report.coefficients, report.errors, report.t, report.pruned):
+        rows.append([term, _six(c), _six(error), _six(t), "pruned" if pruned else ""])
+    columns = ", ".join(f"{axis} is {name!r}" for axis, name in (("x", season.x_name), ("z", season.z_name), ("y", season.y_name)) if name)
+    lines = [f"The {report.shape}" + (f" ({columns})" if columns else "") + ":", textwrap.indent(_table(rows, (0, 4)), "  ")]
+    lines.append(f"{counted(report.df, 'degree')} of freedom: {counted(report.n, 'reading')} less {counted(len(report.coefficients), 'coefficient')}.")
+    marked = [term for term, pruned in zip(report.terms, report.pruned) if pruned]
     rule = "size" if report.settings.pruning == "size" else "polyfit's rule, which marks no negative term"
     if marked:
         lines.append(f"Pruned by {rule}, their t being below Student's ({_confidence_words(report.settings)}): {', '.join(marked)}.")
@@ -483,7 +505,7 @@ def _curve(season: Season, report: Report) -> str:
 def _band_words(season: Season, report: Report) -> str:
     settings = report.settings
     tolerance = "" if settings.tolerance is None else f", with the tolerance {settings.tolerance[0]} {_six(settings.tolerance[1])}"
-    words = f"The band ({_confidence_words(settings)}{tolerance}) is where the curve itself lies, not where single readings do. "
+    words = f"The band ({_confidence_words(settings)}{tolerance}) is where the {report.shape} itself lies, not where single readings do. "
     standing = season.standing
     outside = [_named(standing[index]) for index in report.outside]
     if outside:
@@ -495,12 +517,17 @@ def _band_words(season: Season, report: Report) -> str:
 
 def _report(arguments: argparse.Namespace) -> int:
     season = _open(arguments.season)
+    if season.surface and (arguments.folds is not None or arguments.split):
+        raise Usage("a surface is neither validated nor broken in two")
+    if len(arguments.z) != (len(arguments.at) if season.surface else 0):
+        raise Usage("of a surface give a --z for each --at" if season.surface else "a curve has no z")
     settings = _asked(arguments, season)
     numbers = Numbers()
-    numbers.read(arguments.at)
+    numbers.read(arguments.at + arguments.z)
+    where = [[numbers[text] for text in texts] for texts in ([arguments.at, arguments.z] if season.surface else [arguments.at])]
     with _Progress("working out the report"):
-        report, scores = season.report(settings), season.scores(settings)
-        bands = season.book.band([numbers[text] for text in arguments.at], report.degree, settings)
+        report, scores = season.report(settings), None if season.surface else season.scores(settings)
+        bands = season.book.band(*where, report.degree, settings)
     validation: Optional[Validation] = None
     if arguments.folds is not None:
         with _Progress(f"validating in {arguments.folds} folds"):
@@ -518,7 +545,7 @@ def _report(arguments: argparse.Namespace) -> int:
                 "readings": [reading.name for reading in standing],
                 "report": report.as_dict(),
                 "outside": [standing[index].name for index in report.outside],
-                "scores": {**scores.as_dict(), "within": scores.within},
+                "scores": scores and {**scores.as_dict(), "within": scores.within},
                 "bands": [band.as_dict() for band in bands],
                 "validation": validation and validation.as_dict(),
                 "split": split and split.as_dict(),
@@ -527,11 +554,13 @@ def _report(arguments: argparse.Namespace) -> int:
         )
         return 0
     _say(f"{season.path}: {_standing(season)}; {settings.summary()}")
-    for part in [_why(scores), _curve(season, report), _band_words(season, report)]:
+    for part in [_why(scores) if scores else _why_surface(report), _curve(season, report), _band_words(season, report)]:
         _say()
         _say(part)
     if bands:
-        rows = [["at x", "curve", "lower", "upper"]] + [[text, _six(b.value), _six(b.lower), _six(b.upper)] for text, b in zip(arguments.at, bands)]
+        rows = [["at x"] + ["z"] * season.surface + [report.shape, "lower", "upper"]]
+        places = zip(arguments.at, arguments.z) if season.surface else zip(arguments.at)
+        rows += [[*texts, _six(b.value), _six(b.lower), _six(b.upper)] for texts, b in zip(places, bands)]
         _say("\n" + _table(rows))
     if validation is not None:
         _say("\n" + validation.summary())
@@ -666,7 +695,7 @@ def _check(arguments: argparse.Namespace) -> int:
         _say(f"  {found.torn}. Everything before stands, and the next call will say so in the file")
     _say(f"  {counted(found.calls, 'call')} in force, {counted(found.readings, 'reading')}")
     for what, same in found.compared:
-        bits = f"{found.readings:,} x's, y's and weights and 272 sums are the same, bit for bit" if same else "they DIFFER"
+        bits = f"{found.readings:,} {found.what} are the same, bit for bit" if same else "they DIFFER"
         _say(f"  the replayed book and {what}: {bits}")
     return 0 if found.good else 1
 

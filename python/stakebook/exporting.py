@@ -17,24 +17,29 @@ FRAME_MOST = (0xFFFF - 1) // 24
 
 
 def to_csv(season: Season) -> bytes:
-    """The readings that stand, with their numbers as they were written. `stake import` takes it back, weights with --weight weight."""
+    """The readings that stand, with their numbers as they were written. `stake import` takes it back, weights with --weight weight, z with --z z."""
     text = io.StringIO(newline="")
     table = csv.writer(text, lineterminator="\n")
-    table.writerow(["reading", "x", "y", "weight", "name", "source", "note"])
+    table.writerow(["reading", "x", "y", "z" if season.surface else "weight", "name", "source", "note"])
     for reading in season.standing:
-        table.writerow(
-            [reading.name, reading.x_text, reading.y_text, reading.weight_text, reading.called or "", reading.source or "", reading.note or ""]
-        )
+        third = reading.z_text if season.surface else reading.weight_text
+        table.writerow([reading.name, reading.x_text, reading.y_text, third, reading.called or "", reading.source or "", reading.note or ""])
     return text.getvalue().encode("utf-8")
 
 
 def to_frame(season: Season) -> bytes:
     """The readings that stand as one frame of version 2."""
+    _of_curves(season, "a frame")
     readings = season.standing
     if len(readings) > FRAME_MOST:
         raise SeasonError(f"a frame holds at most {FRAME_MOST:,} readings, and {counted(len(readings), 'reading')} stand: take csv or calls")
     samples = b"".join(struct.pack(">3d", reading.x, reading.y, reading.weight) for reading in readings)
     return struct.pack(">HB", 1 + len(samples), 2) + samples
+
+
+def _of_curves(season: Season, what: str) -> None:
+    if season.surface:
+        raise SeasonError(f"{season.path}: {what} has no place for a z: take csv")
 
 
 def _bits(value: float) -> str:
@@ -51,6 +56,7 @@ def report_call(settings: Settings) -> str:
 
 def to_calls(season: Season) -> bytes:
     """The calls in force, a report with the season's settings, and what it wrote, for `journal`."""
+    _of_curves(season, "a list of a book's calls")
     # A comment is a line, and a file's name may have a line break in it.
     name = os.path.basename(season.path).encode("unicode_escape").decode("ascii")
     lines: List[str] = [f"# {name}: the calls in force, for journal (docs/JOURNAL.md)", "open"]

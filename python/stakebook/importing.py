@@ -53,8 +53,8 @@ class Table:
 
     source: str
     rows: List[NewRow]
-    #: The headings of x, y and the weight.
-    columns: Tuple[str, str, Optional[str]]
+    #: The headings of x, y, the weight and z.
+    columns: Tuple[str, str, Optional[str], Optional[str]]
     #: The lines that are left out, since a number is missing in them.
     missing: List[int]
     delimiter: str
@@ -152,6 +152,7 @@ def read_table(
     remarks: Optional[str] = None,
     missing: Iterable[str] = (),
     data: Optional[bytes] = None,
+    z: Optional[str] = None,
 ) -> Table:
     """The readings of a table, or a `TableError` or `RefusedField` with file and line of what is wrong."""
     source = "standard input" if path == "-" else os.path.basename(path)
@@ -166,11 +167,12 @@ def read_table(
             "y": _column(headings, y, Y_NAMES, "--y", where, True),
             # A pit's sheet may have the snow's weight in grams: a weight is taken only where it is asked for.
             "weight": _column(headings, weight, (), "--weight", where, False) if weight is not None else None,
+            "z": _column(headings, z, (), "--z", where, False) if z is not None else None,
         }
         own, remark = _column(headings, name, OWN_NAMES, "--name", where, False), _column(headings, remarks, REMARK_NAMES, "--remarks", where, False)
         numbers = {key: column for key, column in at.items() if column is not None}
         if len(set(numbers.values())) < len(numbers):
-            raise TableError(f"{where}: one column can't be two of x, y and the weight")
+            raise TableError(f"{where}: one column can't be two of x, y, z and the weight")
         taken: List[_Taken] = []
         left: List[int] = []
         absent = {*MISSING, *(sign.casefold() for sign in missing)}
@@ -194,14 +196,14 @@ def read_table(
     comma = _decimal_comma(taken, source)
     rows = []
     for line, values, called, note in taken:
-        x_text, y_text, *weights = (decimal_point(values[key]) for key in numbers)
-        rows.append(NewRow(x_text, y_text, weights[0] if weights else None, line, called or None, note or None))
+        texts = {key: decimal_point(values[key]) for key in numbers}
+        rows.append(NewRow(texts["x"], texts["y"], texts.get("weight"), line, called or None, note or None, texts.get("z")))
     try:
-        Numbers().read([text for row in rows for text in row[:3] if text is not None])
+        Numbers().read([text for row in rows for text in (*row[:3], row.z) if text is not None])
     except RefusedText as refused:
         _refuse(refused, taken, rows, columns, source)
     names = dict(_DELIMITERS)
-    return Table(source, rows, (columns["x"], columns["y"], columns.get("weight")), left, names[delimiter], comma, encoding)
+    return Table(source, rows, (columns["x"], columns["y"], columns.get("weight"), columns.get("z")), left, names[delimiter], comma, encoding)
 
 
 def _decimal_comma(taken: Sequence[_Taken], source: str) -> bool:
@@ -220,7 +222,7 @@ def _decimal_comma(taken: Sequence[_Taken], source: str) -> bool:
 
 def _refuse(refused: RefusedText, taken: Sequence[_Taken], rows: Sequence[NewRow], columns: Dict[str, str], source: str) -> None:
     for (line, values, _, _), row in zip(taken, rows):
-        for key, text in zip(("x", "y", "weight"), row[:3]):
+        for key, text in zip(("x", "y", "weight", "z"), (*row[:3], row.z)):
             if text == refused.text:
                 raise RefusedField(refused.number, values[key], f"{source}:{line}: column {columns[key]!r}") from None
     raise refused

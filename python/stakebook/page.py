@@ -11,7 +11,7 @@ import re
 from typing import Any, Iterable, List, Optional, Sequence, Tuple
 
 from . import pictures
-from .pictures import View, band_of, count_of, in_short, look, refusal_words, written
+from .pictures import SurfaceView, View, band_of, count_of, in_short, look, refusal_words, written
 
 LONG = 25  # rows from which on a table may run over several printed pages
 
@@ -46,7 +46,8 @@ def render(season: Any, title: Optional[str] = None) -> str:
     """The page as text."""
     view = look(season, title)
     curve, scores = pictures.inline(view)
-    two = element("div", _curve(view, curve), _scores(view, scores), class_="two")
+    surface = isinstance(view, SurfaceView)  # of which there are no scores
+    two = _curve(view, curve) if surface else element("div", _curve(view, curve), _scores(view, scores), class_="two")
     made = "Made by stake page from %s. Every number is the proved library's answer or the observer's own." % os.path.basename(season.path)
     parts = [
         element("header", element("h1", view.title), element("p", in_short(view) + ".", class_="short")),
@@ -84,9 +85,11 @@ def _summary(season: Any, view: View) -> Html:
         said.extend(_report_sentences(view))
     paragraphs.insert(0, element("p", " ".join(said)))
     if view.report is not None:
-        paragraphs.append(element("p", "The curve, with rounded numbers: ", element("span", _formula(view), class_="formula")))
+        paragraphs.append(element("p", "The %s, with rounded numbers: " % view.report.shape, element("span", _formula(view), class_="formula")))
     paragraphs.append(element("p", "Settings: %s." % view.settings.summary(), class_="quiet"))
-    warned = list(season.left_out) + list(season.warnings(report=view.report, scores=view.scores))
+    warned = list(season.left_out)
+    if view.report is not None:  # without one a season would ask for it again, and be refused
+        warned += season.warnings(report=view.report, scores=view.scores)
     if warned:
         notes = element("ul", *[element("li", words) for words in warned], aria_label="Warnings")
         paragraphs.append(element("div", element("h3", "Read this first" if view.report is not None else "Warnings"), notes, class_="warnings"))
@@ -108,11 +111,11 @@ def _report_sentences(view: View) -> List[str]:
     else:
         words.append("%s chose degree %d." % (settings.criterion.upper(), report.degree))
     left = count_of(report.df, "degree of freedom", "degrees of freedom")
-    words.append("The curve has %s, which leaves %s." % (count_of(report.degree + 1, "coefficient"), left))
-    pruned = [_power_words(i) for i, mark in enumerate(report.pruned) if mark]
+    words.append("The %s has %s, which leaves %s." % (report.shape, count_of(len(report.coefficients), "coefficient"), left))
+    pruned = [name if i else "the constant" for i, (name, mark) in enumerate(zip(report.terms, report.pruned)) if mark]
     if pruned:
-        words.append("Student's t says that the curve could do without %s." % _and(pruned))
-    words.append("The band (%s) says where the curve itself lies, not where single readings do." % band_of(settings))
+        words.append("Student's t says that the %s could do without %s." % (report.shape, _and(pruned)))
+    words.append("The band (%s) says where the %s itself lies, not where single readings do." % (band_of(settings), report.shape))
     names = [name for name, outside in zip(view.names, view.outside) if outside]
     if not names:
         words.append("No reading lies outside it.")
@@ -126,21 +129,20 @@ def _and(words: Sequence[str]) -> str:
     return words[0] if len(words) == 1 else "%s and %s" % (", ".join(words[:-1]), words[-1])
 
 
-def _power_words(i: int) -> str:
-    return "the constant" if i == 0 else "x" if i == 1 else "x^%d" % i
-
-
-def _term(i: int) -> Html:
+def _term(view: View, i: int) -> Html:
+    if isinstance(view, SurfaceView):
+        return Html(re.sub(r"([xz])", r"<var>\1</var>", view.report.terms[i]))
     return Html("1" if i == 0 else "<var>x</var>" if i == 1 else "<var>x</var><sup>%d</sup>" % i)
 
 
 def _formula(view: View) -> Html:
     parts: List[Any] = [Html("<var>y</var> = ")]
-    for i, coefficient in enumerate(view.report.coefficients[: view.report.degree + 1]):
+    for i, coefficient in enumerate(view.report.coefficients):
         sign = "\u2212" if coefficient < 0 else "+" if i else ""
         parts.append(" " if i else "")
-        parts.append(element("span", sign, " " if i else "", number(abs(coefficient), 5), " " if i else "", _term(i) if i else "", class_="term"))
-    named = [join([element("var", letter), " is ", name]) for letter, name in (("x", view.x_name), ("y", view.y_name)) if name != letter]
+        parts.append(element("span", sign, " " if i else "", number(abs(coefficient), 5), " " if i else "", _term(view, i) if i else "", class_="term"))
+    letters = [("x", view.x_name)] + ([("z", view.z_name)] if isinstance(view, SurfaceView) else []) + [("y", view.y_name)]
+    named = [join([element("var", letter), " is ", name]) for letter, name in letters if name != letter]
     parts.append(join([", where " if named else "", join(named, " and "), "."]))
     return join(parts)
 
@@ -221,19 +223,22 @@ def _heading(column: str) -> Html:
 
 
 def _curve(view: View, svg: str) -> Html:
-    told = "Picture of %s by %s. " % (view.y_name, view.x_name)
-    caption = "%s by %s." % (pictures.capital(view.y_name), view.x_name)
+    by = "%s and %s" % (view.x_name, view.z_name) if isinstance(view, SurfaceView) else view.x_name
+    told = "Picture of %s by %s. " % (view.y_name, by)
+    caption = "%s by %s." % (pictures.capital(view.y_name), by)
+    shape = "surface" if isinstance(view, SurfaceView) else "curve"
     if view.report is None:
-        return _section("curve", "Readings, no curve", _figure(svg, "picture-curve", told + "No curve.", caption))
+        return _section("curve", "Readings, no %s" % shape, _figure(svg, "picture-curve", told + "No %s." % shape, caption))
     report = view.report
-    told += "A curve of degree %d and its band; below it the residuals; " % report.degree
+    below = "the width of the band" if shape == "surface" else "the residuals"
+    told += "A %s of degree %d and its band; below it %s; " % (shape, report.degree, below)
     told += "%d of %s outside the band." % (int(view.outside.sum()), count_of(len(view.names), "reading"))
-    caption += " Below, how far each reading lies from the curve."
+    caption += " Below, how wide the band is." if shape == "surface" else " Below, how far each reading lies from the curve."
     rows = []
-    for i in range(report.degree + 1):
+    for i in range(len(report.coefficients)):
         rows.append(
             [
-                (_term(i), ""),
+                (_term(view, i), ""),
                 (number(report.coefficients[i]), "number"),
                 (number(report.errors[i]), "number"),
                 (number(report.t[i], 4), "number"),
@@ -242,7 +247,7 @@ def _curve(view: View, svg: str) -> Html:
         )
     table = _table("curve", ["term", "coefficient", "error", "t", "term is"], rows)
     words = "t is the size of a coefficient over its error. Numbers are rounded here; stake export has them whole."
-    return _section("curve", "Curve", _figure(svg, "picture-curve", told, caption), table, element("p", words, class_="quiet"))
+    return _section("curve", pictures.capital(shape), _figure(svg, "picture-curve", told, caption), table, element("p", words, class_="quiet"))
 
 
 def _scores(view: View, svg: str) -> Html:
@@ -266,7 +271,8 @@ def _readings(season: Any, view: View) -> Html:
         return _section("readings", "Readings", element("p", "There are none."))
     weighted = any(reading.weight != 1 for reading in season.readings)
     called = any(reading.called for reading in season.readings)
-    columns = ["name"] + ["called"] * called + [view.x_name, view.y_name] + ["weight"] * weighted
+    depth = [view.x_name, view.z_name] if isinstance(view, SurfaceView) else [view.x_name]
+    columns = ["name"] + ["called"] * called + depth + [view.y_name] + ["weight"] * weighted
     columns += ["band"] * (view.report is not None)
     noted = any(reading.note for reading in season.readings)
     sourced = any(reading.source for reading in season.readings)
@@ -277,7 +283,10 @@ def _readings(season: Any, view: View) -> Html:
         row: List[Cell] = [(reading.name, "")]
         if called:
             row.append((reading.called or "", "bare"))
-        row += [(written(reading.x_text, reading.x), "number"), (written(reading.y_text, reading.y), "number")]
+        row.append((written(reading.x_text, reading.x), "number"))
+        if isinstance(view, SurfaceView):
+            row.append((written(reading.z_text, reading.z), "number"))
+        row.append((written(reading.y_text, reading.y), "number"))
         if weighted:
             row.append((written(reading.weight_text, reading.weight), "number"))
         if view.report is not None:

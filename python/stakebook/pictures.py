@@ -1,10 +1,10 @@
-"""Pictures of a season: readings, curve and band, residuals below, scores by degree beside.
+"""Pictures of a season: readings, curve and band, residuals below, scores by degree beside; of a surface a map of it, and one of its band's width.
 
 Everything that is drawn was answered by the library: the curve goes through `Book.band` at some 200 x's, and a reading is marked where the report
 marks it. Where the library refuses a report the readings are drawn all the same, and the picture says the refusal in words.
 
 `plot(season, "pit.svg")` writes SVG, PNG or PDF by the file's suffix; the same season gives the same bytes. `figure(season)` is matplotlib's own
-Figure, for a notebook. No state of pyplot is touched.
+Figure, for a notebook. No state of pyplot is touched. `plot_surface` is `plot` for a season whose book is a Surface.
 """
 
 import contextlib
@@ -25,13 +25,15 @@ try:
     import matplotlib
     import numpy
     from matplotlib.backends.backend_agg import FigureCanvasAgg
+    from matplotlib.colors import LinearSegmentedColormap
     from matplotlib.figure import Figure
     from matplotlib.lines import Line2D
     from matplotlib.patches import Patch
+    from matplotlib.ticker import MaxNLocator
 except ModuleNotFoundError as missing:
     raise ModuleNotFoundError("pictures need matplotlib (Debian's package python3-matplotlib): %s" % missing, name=missing.name) from missing
 
-from . import Refused
+from . import Refused, Surface
 
 FORMATS = (".svg", ".png", ".pdf")
 
@@ -43,7 +45,8 @@ CURVE = "#222222"
 BAND = "#56B4E9"
 QUIET = "#595959"
 
-GRID = 200  # x's at which the curve is asked for
+GRID = 200  # steps from x to x at which the curve is asked for
+MAP = 40  # steps of a surface, both ways
 NAMES = 60  # names of readings outside the band that are tried at most: more would be a grey cloud
 AREA = 22.0  # of a mark of the middle weight, in square points
 _PLACES = re.compile(r"-?[0-9]+\.[0-9]+")  # of an SVG, in points: a hundredth is below what a screen or a printer shows
@@ -75,15 +78,41 @@ class View:
     values: Any  # the curve at each reading
     grid: Any  # rows of x, value, lower and upper
 
+    @property
+    def heights(self) -> Any:
+        """Where the readings stand in the picture, from below."""
+        return self.ys
+
+    @property
+    def line(self) -> Any:
+        """Rows of x and height of a line that no name should cover."""
+        return self.grid[:, :2]
+
+
+@dataclass(frozen=True)
+class SurfaceView(View):
+    """What a season of a surface shows. Of the grid there is no row; the maps have a row for each z."""
+
+    z_label: str
+    z_name: str
+    zs: Any
+    at: Tuple[Any, Any]  # the x's and the z's of the maps
+    value: Any  # of the surface there, and so the width of its band
+    width: Any
+
+    @property
+    def heights(self) -> Any:
+        return self.zs
+
 
 def look(season: Any, title: Optional[str] = None) -> View:
     """Asks the library all that the pictures and the page show."""
+    if isinstance(season.book, Surface):
+        return look_surface(season, title)
     book = season.book
-    named = {reading.index: reading for reading in season.readings if reading.index is not None}
-    readings = [named[i] for i in range(book.count)]
     report, refused = _answer(season.report)
     scores, unscored = _answer(season.scores)
-    xs, ys, ws = list(book.xs), list(book.ys), list(book.ws)
+    xs, ys = book.xs, book.ys
     grid: List[Tuple[float, float, float, float]] = []
     values: List[float] = []
     if report is not None:
@@ -92,7 +121,7 @@ def look(season: Any, title: Optional[str] = None) -> View:
         once = sorted(set(xs))
         curve = {x: band.value for x, band in zip(once, book.band(once, report.degree, season.settings))}
         values = [curve[x] for x in xs]
-    x_power, y_power = _power(xs), _power(ys)
+    common, x_power, y_power = _seen(season, title, report)
     rows = numpy.column_stack([_scaled([row[j] for row in grid], (x_power, y_power)[j > 0]) for j in range(4)])
     seen = numpy.concatenate([_scaled(ys, y_power), rows[:, 1]])
     if len(rows):
@@ -100,7 +129,50 @@ def look(season: Any, title: Optional[str] = None) -> View:
         least, most = float(numpy.nanmin(seen)), float(numpy.nanmax(seen))
         room = most - least or abs(most) or 1.0
         rows[:, 2:] = numpy.clip(rows[:, 2:], least - 100 * room, most + 100 * room)
-    return View(
+    return View(**common, scores=scores, refused=refused, unscored=unscored, values=_scaled(values, y_power), grid=rows)
+
+
+def look_surface(season: Any, title: Optional[str] = None) -> SurfaceView:
+    """The same of a season whose book is a Surface. No call answers the scores of its total degrees."""
+    book = season.book
+    report, refused = _answer(season.report)
+    xs, zs = book.xs, book.zs
+    at: Tuple[List[float], List[float]] = ([], [])
+    bands: List[Any] = []
+    values: List[float] = []
+    if report is not None:
+        values = [band.value for band in book.band(xs, zs, report.degree, season.settings)]
+        at = _between(min(xs), max(xs), MAP), _between(min(zs), max(zs), MAP)
+        points = [(x, z) for z in at[1] for x in at[0]]
+        bands = book.band([x for x, _ in points], [z for _, z in points], report.degree, season.settings)
+    common, x_power, y_power = _seen(season, title, report)
+    z_power = _power(zs)
+    shape = len(at[1]), len(at[0])
+    value, lower, upper = (_scaled([getattr(band, name) for band in bands], y_power).reshape(shape) for name in ("value", "lower", "upper"))
+    return SurfaceView(
+        **common,
+        scores=None,
+        refused=refused,
+        unscored=None,
+        values=_scaled(values, y_power),
+        grid=numpy.empty((0, 4)),
+        z_label=_label(season.z_name or "z", z_power),
+        z_name=season.z_name or "z",
+        zs=_scaled(zs, z_power),
+        at=(_scaled(at[0], x_power), _scaled(at[1], z_power)),
+        value=value,
+        width=upper - lower,
+    )
+
+
+def _seen(season: Any, title: Optional[str], report: Any) -> Tuple[Dict[str, Any], int, int]:
+    """What the views of curves and surfaces have alike, and the powers of ten of x and y."""
+    book = season.book
+    named = {reading.index: reading for reading in season.readings if reading.index is not None}
+    readings = [named[i] for i in range(book.count)]
+    xs, ys = book.xs, book.ys
+    x_power, y_power = _power(xs), _power(ys)
+    seen = dict(
         title=plain(title if title is not None else title_of(season), 60),
         settings=season.settings,
         x_label=_label(season.x_name or "x", x_power),
@@ -112,15 +184,11 @@ def look(season: Any, title: Optional[str] = None) -> View:
         y_name=season.y_name or "y",
         xs=_scaled(xs, x_power),
         ys=_scaled(ys, y_power),
-        ws=numpy.array(ws, dtype=float),
+        ws=numpy.array([reading.weight for reading in readings], dtype=float),
         report=report,
-        scores=scores,
-        refused=refused,
-        unscored=unscored,
         outside=numpy.array(report.outliers if report is not None else [False] * len(xs), dtype=bool),
-        values=_scaled(values, y_power),
-        grid=rows,
     )
+    return seen, x_power, y_power
 
 
 def title_of(season: Any) -> str:
@@ -135,10 +203,10 @@ def written(text: str, value: float) -> str:
 
 def tip(season: Any, reading: Any) -> str:
     """A reading in one line."""
-    parts = [
-        "%s %s" % (season.x_name or "x", written(reading.x_text, reading.x)),
-        "%s %s" % (season.y_name or "y", written(reading.y_text, reading.y)),
-    ]
+    parts = ["%s %s" % (season.x_name or "x", written(reading.x_text, reading.x))]
+    if isinstance(season.book, Surface):
+        parts.append("%s %s" % (season.z_name or "z", written(reading.z_text, reading.z)))
+    parts.append("%s %s" % (season.y_name or "y", written(reading.y_text, reading.y)))
     if reading.weight != 1:
         parts.append("weight %s" % written(reading.weight_text, reading.weight))
     return "%s%s: %s" % (reading.name, " (%s)" % reading.called if reading.called else "", ", ".join(parts))
@@ -176,11 +244,11 @@ def _answer(call: Any) -> Tuple[Any, Optional[Refused]]:
         return None, why
 
 
-def _between(least: float, most: float) -> List[float]:
+def _between(least: float, most: float, count: int = GRID) -> List[float]:
     """x's from the least to the greatest, both among them; rounding may put none outside, where a band is refused."""
     if least == most:
         return [least]
-    steps = [least * (1 - i / GRID) + most * (i / GRID) for i in range(GRID + 1)]
+    steps = [least * (1 - i / count) + most * (i / count) for i in range(count + 1)]
     return [min(max(x, least), most) for x in steps]
 
 
@@ -266,6 +334,13 @@ def plot(season: Any, path: Any, title: Optional[str] = None) -> None:
     replace(path, out.getvalue())
 
 
+def plot_surface(season: Any, path: Any, title: Optional[str] = None) -> None:
+    """Writes the maps of a surface: a season whose book is one, or anything that has of a season what `plot` takes."""
+    if not isinstance(season.book, Surface):
+        raise TypeError("a map is drawn of a Surface")
+    plot(season, path, title)
+
+
 def replace(path: str, content: bytes) -> None:
     """Writes a file whole or not at all: beside its place first, then by a rename. What is no plain file, a pipe say, is written to as it is."""
     path = os.path.realpath(path)
@@ -290,8 +365,10 @@ def replace(path: str, content: bytes) -> None:
 
 
 def inline(view: View) -> Tuple[str, str]:
-    """Two SVG elements for a page, readings over residuals and scores, drawn narrow so that their texts can be read on a phone."""
+    """Two SVG elements for a page, readings over residuals and scores, drawn narrow so that their texts can be read on a phone. A surface's maps are one."""
     with _style():
+        if isinstance(view, SurfaceView):
+            return _svg(_maps(view, narrow=True), view, prefix="surface-"), ""
         readings = _empty(4.4, 4.9)
         above, below = readings.subplots(2, 1, sharex=True, gridspec_kw={"height_ratios": [3, 1.25]})
         _draw_curve(above, view, legend_above=True)
@@ -310,6 +387,8 @@ def _empty(width: float, height: float) -> Figure:
 
 
 def _whole(view: View) -> Figure:
+    if isinstance(view, SurfaceView):
+        return _maps(view)
     drawn = _empty(9.6, 6.2)
     grid = drawn.add_gridspec(2, 2, width_ratios=[2.5, 1], height_ratios=[3, 1.25])
     above = drawn.add_subplot(grid[0, 0])
@@ -326,6 +405,69 @@ def _whole(view: View) -> Figure:
     drawn.suptitle("%s: %s" % (view.title, in_short(view)), x=0.01, ha="left", fontsize=11)
     _settle(drawn, [(above, view)])
     return drawn
+
+
+def _maps(view: SurfaceView, narrow: bool = False) -> Figure:
+    """The surface with the readings, and beside it, or below, how wide its band is."""
+    drawn = _empty(4.4, 6.8) if narrow else _empty(9.6, 4.9)
+    shape, ratios = ((2, 2), [1, 0.05]) if narrow else ((1, 4), [1, 0.05, 1, 0.05])
+    left, left_bar, right, right_bar = drawn.subplots(*shape, gridspec_kw={"width_ratios": ratios}).flat
+    _draw_map(left, left_bar, view)
+    _draw_width(right, right_bar, view)
+    if not narrow:
+        drawn.suptitle("%s: %s" % (view.title, in_short(view)), x=0.01, ha="left", fontsize=11)
+    _settle(drawn, [(left, view)])
+    return drawn
+
+
+def _draw_map(axes: Any, bar: Any, view: SurfaceView) -> None:
+    axes.set_xlabel(view.x_label)
+    axes.set_ylabel(view.z_label)
+    if len(view.xs) == 0:
+        bar.axis("off")
+        _say(axes, "No readings are in force.")
+        axes.set_xticks([])
+        return
+    _contours(axes, bar, view, view.value, view.y_label, "surface", "#F2F2F2", "#8C8C8C")
+    _points(axes, view, view.zs, "mark")
+    words = _of_the_maps(view)
+    if words:
+        axes.set_title(_wrap(capital(". ".join(words)), 50), color=OUTSIDE_TEXT)
+    else:
+        handles, texts = _legend(view)
+        axes.legend(handles, texts, loc="lower left", bbox_to_anchor=(-0.02, _above(axes)), ncol=2, borderaxespad=0.2)
+
+
+def _draw_width(axes: Any, bar: Any, view: SurfaceView) -> None:
+    axes.set_xlabel(view.x_label)
+    if view.report is None:
+        bar.axis("off")
+        _say(axes, "No surface, no band." if len(view.xs) else "")
+        return
+    _contours(axes, bar, view, view.width, "width of the band, %s" % band_of(view.settings), "width", "#F1F8FD", BAND)
+    axes.scatter(view.xs, view.zs, s=5, c=QUIET, linewidths=0, zorder=3)
+
+
+def _contours(axes: Any, bar: Any, view: SurfaceView, numbers: Any, label: str, name: str, least: str, most: str) -> None:
+    """Filled contours with a bar beside them. None where all readings lie on a line across the map, or where no number is finite."""
+    for limits, places in ((axes.set_xlim, view.xs), (axes.set_ylim, view.zs)):
+        first, last = float(places.min()), float(places.max())
+        room = last - first if last > first else abs(last) or 1.0
+        limits(first - 0.05 * room, last + 0.05 * room)
+    if not _mapped(view) or not numpy.isfinite(numbers).any():
+        bar.axis("off")
+        return
+    low, high = float(numpy.nanmin(numbers)), float(numpy.nanmax(numbers))
+    if high - low <= 1e-9 * max(abs(low), abs(high)):  # flat but for rounding: one colour, and no steps that are none
+        room = abs(high) * 1e-3 or 1.0
+        levels = [low - room, high + room]
+    else:
+        levels = MaxNLocator(12).tick_values(low, high)
+    colours = LinearSegmentedColormap.from_list(name, [least, most])
+    drawn = axes.contourf(view.at[0], view.at[1], numbers, levels=levels, cmap=colours, zorder=1)
+    for i, part in enumerate([drawn] if hasattr(drawn, "set_gid") else drawn.collections):  # one of all from matplotlib 3.8 on
+        part.set_gid("%s-%d" % (name, i))
+    axes.figure.colorbar(drawn, cax=bar).set_label(label)
 
 
 def _settle(drawn: Figure, named: Sequence[Tuple[Any, View]]) -> None:
@@ -347,7 +489,7 @@ def _settle(drawn: Figure, named: Sequence[Tuple[Any, View]]) -> None:
 def _put_words(axes: Any, view: View, renderer: Any) -> None:
     """The names of the readings outside the band, and in a corner what the picture can't show."""
     unnamed = "{:,} more outside have no room for a name"
-    notes = _of_the_band(axes, view)
+    notes = [] if isinstance(view, SurfaceView) else _of_the_band(axes, view)  # of a surface, see _draw_map
     outside = int(view.outside.sum())
     corner = axes.annotate(
         "\n".join(notes + [unnamed.format(outside)]),
@@ -386,6 +528,21 @@ def _of_the_band(axes: Any, view: View) -> List[str]:
     if numpy.nanmax(band, initial=most) > most or numpy.nanmin(band, initial=least) < least:
         words.append("the band reaches beyond the picture")
     return words
+
+
+def _mapped(view: SurfaceView) -> bool:
+    """Whether there is a map to draw: a report, and readings that don't all have one x or one z."""
+    return bool(min(view.value.shape) > 1)
+
+
+def _of_the_maps(view: SurfaceView) -> List[str]:
+    """What the maps don't show, in words."""
+    if view.refused is not None:
+        return ["no report. %s" % capital(refusal_words(view.refused))]
+    if not _mapped(view):
+        return ["all readings have one %s: there is no map" % (view.x_name if len(view.at[0]) < 2 else view.z_name)]
+    parts = (("surface", view.value), ("band", view.width))
+    return ["the %s is not finite everywhere" % name for name, numbers in parts if not numpy.isfinite(numbers).all()]
 
 
 def _shorten(text: Any, room: float, renderer: Any) -> None:
@@ -559,7 +716,7 @@ def _legend(view: View) -> Tuple[List[Any], List[str]]:
         entry(dot(area), "reading")
     if view.outside.any():
         entry(dot(area, OUTSIDE, "D"), "outside the band: {:,}".format(int(view.outside.sum())))
-    if view.report is not None:
+    if view.report is not None and not isinstance(view, SurfaceView):  # a map's bars say what it shows
         entry(Line2D([], [], color=CURVE, linewidth=1.3), "curve, degree %d" % view.report.degree)
         entry(Patch(color=BAND, alpha=0.3, linewidth=0), "band, %s" % band_of(view.settings))
     return handles, texts
@@ -607,18 +764,19 @@ def _name_outside(axes: Any, view: View, kept: Sequence[Sequence[float]]) -> int
         return 0
     drawn = axes.figure
     renderer = drawn.canvas.get_renderer()
-    places = axes.transData.transform(numpy.column_stack([view.xs, view.ys]))
+    heights = view.heights
+    places = axes.transData.transform(numpy.column_stack([view.xs, heights]))
     half = numpy.sqrt(_areas(view)) / 2 * drawn.dpi / 72
     marks = numpy.column_stack([places[:, 0] - half, places[:, 1] - half, places[:, 0] + half, places[:, 1] + half])
     frame = axes.get_window_extent(renderer)
     distance = numpy.abs(view.ys - view.values)
-    curve = axes.transData.transform(view.grid[:, :2])
+    curve = axes.transData.transform(view.line)
     curve = numpy.hstack([curve, curve])
     taken = numpy.vstack([marks] + list(kept))
     left = 0
     for i in sorted(where.tolist(), key=lambda i: (-distance[i] if math.isfinite(distance[i]) else 0.0, i))[:NAMES]:
         place = dict(xytext=(0, 0), textcoords="offset pixels", ha="center", va="center")
-        text = axes.annotate(view.names[i], (view.xs[i], view.ys[i]), fontsize=8, color=OUTSIDE_TEXT, zorder=5, **place)
+        text = axes.annotate(view.names[i], (view.xs[i], heights[i]), fontsize=8, color=OUTSIDE_TEXT, zorder=5, **place)
         text.set_gid("name-%s" % view.names[i])
         box = text.get_window_extent(renderer)
         wide, high = box.width / 2 + 1, box.height / 2

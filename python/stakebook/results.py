@@ -6,7 +6,7 @@ A summary rounds to six digits; ``as_dict`` keeps every digit.
 from __future__ import annotations
 
 from dataclasses import dataclass, fields
-from typing import Any, Dict, List, NamedTuple, Optional
+from typing import Any, ClassVar, Dict, List, NamedTuple, Optional
 
 from .settings import Settings, plain
 
@@ -33,8 +33,12 @@ def _table(rows: List[List[str]]) -> List[str]:
     return lines
 
 
-def _terms(coefficients: List[float]) -> List[str]:
-    return _table([["term", "coefficient"]] + [[_term(i), _six(c)] for i, c in enumerate(coefficients)])
+def _curve(coefficients: List[float]) -> List[str]:
+    return [_term(i) for i in range(len(coefficients))]
+
+
+def _terms(coefficients: List[float], names: Optional[List[str]] = None) -> List[str]:
+    return _table([["term", "coefficient"]] + [[name, _six(c)] for name, c in zip(names or _curve(coefficients), coefficients)])
 
 
 class Result:
@@ -58,8 +62,13 @@ class Fit(Result):
     #: Those of 1, x, x^2 .., degree + 1 of them.
     coefficients: List[float]
 
+    @property
+    def terms(self) -> List[str]:
+        """The names of the terms, in the coefficients' order."""
+        return _curve(self.coefficients)
+
     def summary(self) -> str:
-        return "\n".join([f"degree {self.degree} through {_counted(self.n, 'reading')}"] + _terms(self.coefficients))
+        return "\n".join([f"degree {self.degree} through {_counted(self.n, 'reading')}"] + _terms(self.coefficients, self.terms))
 
 
 @dataclass(frozen=True)
@@ -143,6 +152,9 @@ class Scores(Result):
 class Report(Result):
     """The chosen curve, and how far it can be trusted."""
 
+    #: What is fitted, in a word.
+    shape: ClassVar[str] = "curve"
+
     settings: Settings
     n: int
     #: The chosen one.
@@ -165,14 +177,19 @@ class Report(Result):
     outliers: List[bool]
 
     @property
+    def terms(self) -> List[str]:
+        """The names of the terms, in the coefficients' order."""
+        return _curve(self.coefficients)
+
+    @property
     def outside(self) -> List[int]:
         """The indices of the readings outside the band."""
         return [i for i, out in enumerate(self.outliers) if out]
 
     def summary(self) -> str:
         rows = [["term", "coefficient", "error", "t", ""]]
-        for i, (c, e, t, pruned) in enumerate(zip(self.coefficients, self.errors, self.t, self.pruned)):
-            rows.append([_term(i), _six(c), _six(e), _six(t), "pruned" if pruned else ""])
+        for name, c, e, t, pruned in zip(self.terms, self.coefficients, self.errors, self.t, self.pruned):
+            rows.append([name, _six(c), _six(e), _six(t), "pruned" if pruned else ""])
         outside = self.outside
         where = f": {', '.join(map(str, outside))}" if outside else ""
         return "\n".join(
@@ -180,7 +197,7 @@ class Report(Result):
             + _table(rows)
             + [
                 f"{_counted(self.df, 'degree')} of freedom",
-                f"{len(outside)} of {self.n} outside the band, which is the curve's and not the readings'{where}",
+                f"{len(outside)} of {self.n} outside the band, which is the {self.shape}'s and not the readings'{where}",
             ]
         )
 
@@ -237,3 +254,60 @@ class Replayed(NamedTuple):
     refusal: int
     #: How many readings the book has after it; 0 where it was refused.
     n: int
+
+
+# ---- surfaces
+
+
+def _factor(letter: str, power: int) -> str:
+    return ("", letter, letter + "²", letter + "³", letter + "⁴")[power]
+
+
+#: The terms x^a z^b of a surface, by a + b and then by falling a.
+SURFACE_TERMS = ["1"] + [_factor("x", total - b) + _factor("z", b) for total in range(1, 5) for b in range(total + 1)]
+
+
+def surface_terms(degree: int) -> int:
+    """How many of them a total degree has: 1, 3, 6, 10, 15."""
+    return (degree + 1) * (degree + 2) // 2
+
+
+class _OfSurface(Result):
+    """What a surface's results have in place of a curve's."""
+
+    shape: ClassVar[str] = "surface"
+    coefficients: List[float]
+
+    @property
+    def terms(self) -> List[str]:
+        """The names of the terms, in the coefficients' order: 1, x, z, x², xz, z² .."""
+        return SURFACE_TERMS[: len(self.coefficients)]
+
+    def as_dict(self) -> Dict[str, Any]:
+        return {**super().as_dict(), "terms": self.terms}
+
+
+@dataclass(frozen=True)
+class SurfaceFit(_OfSurface, Fit):
+    """The surface of a total degree. Its value at a point is the surface's to say: ``Surface.band``."""
+
+
+@dataclass(frozen=True)
+class SurfaceReport(_OfSurface, Report):
+    """The chosen surface, and how far it can be trusted. ``degree`` is the total one; it has 1, 3, 6, 10 or 15 terms."""
+
+
+@dataclass(frozen=True)
+class SurfaceBand(Result):
+    """Where the surface itself lies at a point, and not where single readings do."""
+
+    x: float
+    z: float
+    degree: int
+    value: float
+    lower: float
+    upper: float
+
+    def summary(self) -> str:
+        where = f"at x {_six(self.x)}, z {_six(self.z)}"
+        return f"{where} the surface of degree {self.degree} is {_six(self.value)}, between {_six(self.lower)} and {_six(self.upper)}"

@@ -37,6 +37,7 @@ from .seasonfile import (
     written,
 )
 from .settings import Settings
+from .surface import Surface
 
 #: Below so many readings on a side a break is not to be believed.
 MANY = 10
@@ -53,6 +54,8 @@ class Row(NamedTuple):
     note: Optional[str]
     called: Optional[str]
     line: int
+    #: Of a surface's reading, and so in what follows.
+    z_text: Optional[str] = None
 
 
 @dataclass(eq=False)
@@ -79,6 +82,8 @@ class Reading:
     weight: float
     #: The y's that it had before it was corrected, the oldest first.
     was: Tuple[str, ...] = ()
+    z_text: Optional[str] = None
+    z: Optional[float] = None
 
     @property
     def state(self) -> str:
@@ -100,8 +105,8 @@ class Call:
     #: A correction's y, and the one that it replaced.
     y_text = was = ""
     settings: Tuple[str, ...] = ()
-    #: An import's headings of x, y and the weight.
-    columns: Tuple[Optional[str], ...] = (None, None, None)
+    #: An import's headings of x, y, the weight and z.
+    columns: Tuple[Optional[str], ...] = (None, None, None, None)
     #: Of an undo, the call that it takes back; of left-out, the lines.
     of: Any = None
 
@@ -120,7 +125,8 @@ class Call:
         if self.call == "add":
             row = self.rows[0]
             weight = f", weight {row.weight_text}" if row.weight_text != "1" else ""
-            return f"add {row.name}: x {row.x_text}, y {row.y_text}{weight}"
+            z = f", z {row.z_text}" if row.z_text else ""
+            return f"add {row.name}: x {row.x_text}{z}, y {row.y_text}{weight}"
         if self.call == "import":
             names = self.rows[0].name + (f" to {self.rows[-1].name}" if len(self.rows) > 1 else "") if self.rows else "none"
             return f"import of {counted(len(self.rows), 'reading')} ({names}) from {self.source or 'an unnamed source'}"
@@ -133,23 +139,24 @@ class Call:
         if self.call == "left-out":
             first, last = self.of
             return f"line {first} left out" if first == last else f"lines {first} to {last} left out"
-        bound, criterion, confidence, tolerance, pruning = self.settings
+        bound, criterion, confidence, tolerance, pruning, surface = self.settings
         words = f"bound {bound}, {criterion}, confidence {confidence}, tolerance {tolerance}, pruning {pruning}"
-        return ("a new season: " if self.call == "new" else "settings: ") + words
+        return (f"a new season{' of a surface' * bool(surface)}: " if self.call == "new" else "settings: ") + words
 
 
-def _judged(settings: Union[Settings, SettingsText], numbers: Numbers) -> SettingsText:
+def _judged(settings: Union[Settings, SettingsText], numbers: Numbers, surface: str) -> SettingsText:
     """Has the library refuse settings by which a report would be refused, by 4 or 8, however the readings are. A bound is capped by the readings less
-    one, so that a degree above 15 is judged from 17 on."""
+    one, so that a degree above 15 is judged from 17 on, and a surface's above 4 from 6 on."""
     meant = settings.meant(numbers) if isinstance(settings, SettingsText) else settings
-    book = Book(17)
-    book.extend(range(17), [0.0] * 17)
+    book: Union[Book, Surface] = Surface(6) if surface else Book(17)
+    book.extend(*([range(book.capacity)] * (3 if surface else 2)))
     try:
         book.report(meant)
     except Refused as refused:
         if refused.number in (4, 8):
             raise
-    return settings if isinstance(settings, SettingsText) else SettingsText.of(settings)
+    text = settings if isinstance(settings, SettingsText) else SettingsText.of(settings)
+    return text._replace(surface=surface)
 
 
 class NewRow(NamedTuple):
@@ -161,6 +168,7 @@ class NewRow(NamedTuple):
     line: Optional[int] = None
     called: Optional[str] = None
     note: Optional[str] = None
+    z: Optional[str] = None
 
 
 class RefusedName(Refused):
@@ -220,8 +228,8 @@ class Season:
 
     #: The file.
     path: str
-    #: The book as replayed.
-    book: Book
+    #: The Book as replayed, or the Surface.
+    book: Any
     settings: Settings
     settings_text: SettingsText
     #: All readings not undone, in the order in which they were given.
@@ -256,10 +264,11 @@ class Season:
         settings: Union[Settings, SettingsText] = SettingsText(),
         source: Optional[str] = None,
         note: Optional[str] = None,
+        surface: bool = False,
     ) -> "Season":
-        """A new season, in a file that was not there."""
+        """A new season, in a file that was not there; of a surface, if its readings have a z."""
         path = os.fspath(path)
-        text = _judged(settings, Numbers())
+        text = _judged(settings, Numbers(), "surface" if surface else "")
         data = checked(FIRST) + checked(f"2 {text.body}{tail(source, note)}".encode())
         try:
             descriptor = os.open(path, os.O_WRONLY | os.O_CREAT | os.O_EXCL | os.O_APPEND | os.O_CLOEXEC, 0o666)
@@ -331,7 +340,7 @@ class Season:
             if call.y_text == number or (call.settings and number in SettingsText(*call.settings).numbers):
                 return call.line
             for row in call.rows:
-                if number in row[1:4]:
+                if number in row[1:4] or number == row.z_text:
                     return row.line
         raise KeyError(number)
 
@@ -343,15 +352,15 @@ class Season:
         source, note, at = said(fields[-3]), said(fields[-2]), fields[-1]
         call = Call(place, "new" if place == 2 else word, source, note, at)
         if word == "add":
-            self._given(call, [Row(fields[0], fields[1], fields[2], fields[3] or "1", source, note, None, place)], pending)
+            self._given(call, [Row(fields[0], fields[1], fields[2], fields[4] or "1", source, note, None, place, fields[3])], pending)
             call.name = fields[0]
         elif word == "import":
             call.lines = 1 + int(fields[0])
-            call.columns = (said(fields[1]), said(fields[2]), said(fields[3]))
+            call.columns = (said(fields[1]), said(fields[2]), said(fields[4]), said(fields[3]))
             origin = source or "import"
             given = []
-            for line, (name, x, y, weight, of, called, row_note) in rows:
-                given.append(Row(name, x, y, weight or "1", f"{origin}:{of}" if of else source, said(row_note), said(called), line))
+            for line, (name, x, y, z, weight, of, called, row_note) in rows:
+                given.append(Row(name, x, y, weight or "1", f"{origin}:{of}" if of else source, said(row_note), said(called), line, z))
             self._given(call, given, pending)
         elif word == "correct":
             ys = self._standing(call, fields[0])
@@ -362,7 +371,9 @@ class Season:
             self._standing(call, fields[0])
             self._gone.add(fields[0])
         elif word == "settings":
-            call.settings = fields[:5]
+            call.settings = fields[1:6] + ((fields[0] or "").strip(),)
+            if self.history and call.settings[5] != self.history[0].settings[5]:
+                self._wrong(place, "a season is of curves or of a surface, and stays so")
             pending.extend(SettingsText(*call.settings).numbers)
         elif word == "undo":
             self._undone(call, int(fields[0]))
@@ -382,7 +393,19 @@ class Season:
             self._last_name = number
             self._ys[row.name] = [row.y_text]
             pending += row[1:4]
+            if row.z_text is not None:
+                pending.append(row.z_text)
+            self._fits(row.z_text, row.weight_text, row.line)
         call.rows = rows
+
+    def _fits(self, z: Optional[Number], weight: Number, line: Optional[int] = None) -> None:
+        """Whether a reading is of the season's kind."""
+        if self.history[0].settings[5]:
+            words = "a reading of a surface has a z: give --z" if z is None else "a reading of a surface has no weight" if weight != "1" else ""
+        else:
+            words = "" if z is None else "a reading of a curve has no z; a season of a surface is begun by `stake new --surface`"
+        if words:
+            raise SeasonError(f"{self.path}: " + (f"line {line}: " if line else "") + words)
 
     def _standing(self, call: Call, name: str) -> List[str]:
         ys = self._ys.get(name)
@@ -414,9 +437,10 @@ class Season:
         # the list that is run: kind and index, x, y and weight of each step
         self._whole: Tuple[List[int], List[int]] = ([], [])
         self._floats: Tuple[List[float], List[float], List[float]] = ([], [], [])
+        self._zs: List[float] = []
         for call in self._stack:
             self._do(call)
-        self.book, answers = Book.replay(self.calls)
+        self.book, answers = Surface.replay(self.calls, self._calls(self._zs)) if self.surface else Book.replay(self.calls)
         refused = next((place for place, answer in enumerate(answers) if answer.refusal), None)
         if refused is not None:
             lines = []
@@ -443,15 +467,17 @@ class Season:
         elif call.call == "settings":
             self.settings_text = SettingsText(*call.settings)
         else:
-            for name, x_text, y_text, weight_text, source, note, called, line in call.rows:
+            for name, x_text, y_text, weight_text, source, note, called, line, z_text in call.rows:
                 x, y, weight = numbers[x_text], numbers[y_text], numbers[weight_text]
                 reading = Reading(name, x_text, y_text, weight_text, source, note, len(self._order), called, line, x, y, weight)
+                if z_text is not None:
+                    reading.z_text, reading.z = z_text, numbers[z_text]
                 self.readings.append(reading)
                 self._order.append(reading)
                 self._by_name[name] = reading
-                self._step(0, 0, x, y, weight)
+                self._step(0, 0, x, y, weight, reading.z or 0.0)
 
-    def _step(self, kind: int, index: int, x: float, y: float, weight: float) -> None:
+    def _step(self, kind: int, index: int, x: float, y: float, weight: float, z: float = 0.0) -> None:
         kinds, indices = self._whole
         xs, ys, weights = self._floats
         kinds.append(kind)
@@ -459,6 +485,7 @@ class Season:
         xs.append(x)
         ys.append(y)
         weights.append(weight)
+        self._zs.append(z)
 
     def _number_order(self) -> None:
         for index, reading in enumerate(self._order):
@@ -467,10 +494,13 @@ class Season:
     @property
     def calls(self) -> Calls:
         """The adds, corrections and withdrawals in force, as the list that the book is made of."""
+        return self._calls(self._floats[0])
+
+    def _calls(self, xs: List[float]) -> Calls:
         calls = Calls()
         calls.kinds.extend(self._whole[0])
         calls.indices.extend(self._whole[1])
-        calls.xs.extend(self._floats[0])
+        calls.xs.extend(xs)
         calls.ys.extend(self._floats[1])
         calls.ws.extend(self._floats[2])
         return calls
@@ -486,11 +516,20 @@ class Season:
         """The readings in the book, in its order."""
         return list(self._order)
 
+    @property
+    def surface(self) -> bool:
+        """Whether it is a season of a surface: its readings have a z, and its book is a Surface."""
+        return bool(self.settings_text.surface)
+
     def report(self, settings: Optional[Settings] = None) -> Report:
-        return self.book.report(settings or self.settings)
+        report: Report = self.book.report(settings or self.settings)
+        return report
 
     def scores(self, settings: Optional[Settings] = None) -> Scores:
-        return self.book.scores(settings or self.settings)
+        if self.surface:
+            raise SeasonError(f"{self.path}: the library answers no scores of a surface; its report has the chosen total degree")
+        scores: Scores = self.book.scores(settings or self.settings)
+        return scores
 
     def _column(self, which: int) -> Optional[str]:
         return next((call.columns[which] for call in self._stack if call.columns[which]), None)
@@ -508,20 +547,26 @@ class Season:
     def weight_name(self) -> Optional[str]:
         return self._column(2)
 
+    @property
+    def z_name(self) -> Optional[str]:
+        return self._column(3)
+
     def warnings(self, report: Optional[Report] = None, scores: Optional[Scores] = None, split: Optional[Split] = None) -> List[str]:
         """Where the numbers can mislead, each in a sentence or two. Of the season's own report, if none is given."""
         said = []
         if report is None:
             report = self.report()
-        if scores is None:
+        if scores is None and not self.surface:
             scores = self.scores(report.settings)
-        n, bound = report.n, scores.bound
+        n = report.n
+        # Of a surface no call answers the bound: below 16 readings one by name is 0.
+        bound = scores.bound if scores is not None else 0 if n < 16 else 1
         if bound == 0 and isinstance(report.settings.bound, str):
             said.append(
                 f"The bound {report.settings.bound!r} allows degree 0 alone at {counted(n, 'reading')}: a bound by name needs many readings."
                 " Give the highest degree to try instead, as --bound 2."
             )
-        unsolved = [each.degree for each in scores.degrees if not each.solved]
+        unsolved = [each.degree for each in scores.degrees if not each.solved] if scores is not None else []
         if unsolved:
             different = len(set(self.book.xs))
             words = f"Of the degrees 0 to {bound}, {len(unsolved)} could not be solved ({', '.join(map(str, unsolved))})"
@@ -530,12 +575,14 @@ class Season:
             else:
                 said.append(f"{words}: there are {counted(different, 'different value')} of x, and a degree needs one more than its number.")
         if report.df == 0:
-            said.append("There are as many coefficients as readings: the curve goes through all of them, and its errors and band say nothing.")
+            said.append(
+                f"There are as many coefficients as readings: the {report.shape} goes through all of them, and its errors and band say nothing."
+            )
         outside = sum(report.outliers)
         if outside:
             said.append(
-                f"{outside:,} of {counted(n, 'reading')} {'lies' if outside == 1 else 'lie'} outside the band. It is the band of the mean curve: it says where the"
-                " curve lies, not where single readings do, and grows narrower with more of them. So a mark is no sign of a bad reading."
+                f"{outside:,} of {counted(n, 'reading')} {'lies' if outside == 1 else 'lie'} outside the band. It is the band of the mean {report.shape}: it says where the"
+                f" {report.shape} lies, not where single readings do, and grows narrower with more of them. So a mark is no sign of a bad reading."
             )
         if split is not None and min(split.at, split.n - split.at) < MANY:
             said.append(
@@ -594,19 +641,32 @@ class Season:
         self._numbers.read([number for number in numbers if isinstance(number, str)])
         return [self._numbers[number] if isinstance(number, str) else float(number) for number in numbers]
 
-    def add(self, x: Number, y: Number, weight: Number = "1", source: Optional[str] = None, note: Optional[str] = None) -> Reading:
-        """One reading more."""
-        values = self._read(x, y, weight)
+    def _try(self, x: Number, y: Number, weight: Number, z: Optional[Number]) -> None:
+        """Adds a reading to the book alone."""
+        self._fits(z, weight)
+        self.book.add(*(self._read(x, y, weight) if z is None else self._read(x, z, y)))
+
+    def add(
+        self,
+        x: Number,
+        y: Number,
+        weight: Number = "1",
+        source: Optional[str] = None,
+        note: Optional[str] = None,
+        z: Optional[Number] = None,
+    ) -> Reading:
+        """One reading more. Of a surface it has a z, and no weight."""
         with self._writing() as descriptor:
-            self.book.add(*values)
-            body = f"add r{self._last_name + 1} {written(x)} {written(y)}" + ("" if weight == "1" else f" weight {written(weight)}")
+            self._try(x, y, weight, z)
+            body = f"add r{self._last_name + 1} {written(x)} {written(y)}" + ("" if z is None else f" z {written(z)}")
+            body += "" if weight == "1" else f" weight {written(weight)}"
             self._append(descriptor, [body + tail(source, note)])
             return self.readings[-1]
 
     def add_rows(
         self,
         rows: Sequence[NewRow],
-        columns: Sequence[Optional[str]] = (None, None, None),
+        columns: Sequence[Optional[str]] = (),
         source: Optional[str] = None,
         note: Optional[str] = None,
         progress: Callable[[int], None] = lambda done: None,
@@ -617,14 +677,15 @@ class Season:
         with self._writing() as descriptor:
             for i, row in enumerate(rows):
                 try:
-                    self.book.add(*self._read(row.x, row.y, row.weight or "1"))
+                    self._try(row.x, row.y, row.weight or "1", row.z)
                 except Refused as refused:
                     raise RefusedRow(refused.number, i) from None
                 progress(i + 1)
-            heads = "".join(f" {key} {quoted(name)}" for key, name in zip(("x", "y", "weight"), columns) if name)
+            named = dict(zip(("x", "y", "weight", "z"), columns))
+            heads = "".join(f" {key} {quoted(named[key] or '')}" for key in ("x", "y", "z", "weight") if named.get(key))
             bodies = [f"import {len(rows)}{heads}{tail(source, note)}"]
             for i, row in enumerate(rows, self._last_name + 1):
-                weight = f" weight {row.weight}" if row.weight else ""
+                weight = (f" z {row.z}" if row.z else "") + (f" weight {row.weight}" if row.weight else "")
                 line = f" line {row.line}" if row.line else ""
                 called = f" called {quoted(row.called)}" if row.called else ""
                 row_note = f" note {quoted(row.note)}" if row.note else ""
@@ -635,7 +696,7 @@ class Season:
     def _place(self, name: str) -> int:
         """A reading's place. One that has none is asked for behind the last, so that it is the library that refuses it."""
         reading = self._by_name.get(name)
-        return self.book.count if reading is None or reading.index is None else reading.index
+        return len(self.book) if reading is None or reading.index is None else reading.index
 
     def _missing(self, name: str) -> str:
         if name in self._gone:
@@ -671,7 +732,7 @@ class Season:
 
     def set(self, settings: Union[Settings, SettingsText], source: Optional[str] = None, note: Optional[str] = None) -> None:
         """Other settings from here on."""
-        text = _judged(settings, self._numbers)
+        text = _judged(settings, self._numbers, self.settings_text.surface)
         with self._writing() as descriptor:
             self._append(descriptor, [text.body + tail(source, note)])
 
@@ -704,6 +765,8 @@ class Check:
     #: Calls in force, and the readings that stand.
     calls: int = 0
     readings: int = 0
+    #: What a reading has, and so what is compared.
+    what: str = "x's, y's and weights and 272 sums"
     #: What was compared with the replayed book, and whether every bit was the same.
     compared: Tuple[Tuple[str, bool], ...] = ()
 
@@ -736,19 +799,21 @@ def check(path: Union[str, "os.PathLike[str]"], waiting: Optional[Callable[[], N
         return found
     season._load(data)
     found.torn, found.left_out = season.torn, [words for words in season.left_out if words != season.torn]
-    one_by_one, afresh = Book(), Book()
+    one_by_one, afresh = type(season.book)(), type(season.book)()
     calls = season.calls
-    for kind, index, x, y, weight in zip(calls.kinds, calls.indices, calls.xs, calls.ys, calls.ws):
+    for kind, index, x, y, weight, z in zip(calls.kinds, calls.indices, calls.xs, calls.ys, calls.ws, season._zs):
         if kind == 0:
-            one_by_one.add(x, y, weight)
+            one_by_one.add(*((x, z, y) if season.surface else (x, y, weight)))
         elif kind == 1:
             one_by_one.correct(index, y)
         else:
             one_by_one.withdraw(index)
     for reading in season.standing:
-        afresh.add(reading.x, reading.y, reading.weight)
+        afresh.add(*((reading.x, reading.z, reading.y) if season.surface else (reading.x, reading.y, reading.weight)))
     bits = season.book.bits()
     found.calls, found.readings = len(calls), season.book.count
+    if season.surface:
+        found.what = "x's, z's and y's"
     found.compared = (
         ("the same calls one by one", one_by_one.bits() == bits),
         ("the readings that stand, added to a new book", afresh.bits() == bits),

@@ -129,7 +129,7 @@ _NUMBER = r'([^ "]+)'
 _TEXT = r'("[^"\\\x00-\x1f]*(?:\\(?:["\\/bfnrt]|u[0-9a-fA-F]{4})[^"\\\x00-\x1f]*)*")'
 _TAIL = rf"(?: source {_TEXT})?(?: note {_TEXT})?(?: at ([0-9]{{4}}-[0-9]{{2}}-[0-9]{{2}}T[0-9]{{2}}:[0-9]{{2}}:[0-9]{{2}}Z))?"
 _SETTINGS = (
-    r"bound (conservative|relaxed|aggressive|0|[1-9][0-9]{0,8}) criterion (aic|bic) "
+    r"(surface )?bound (conservative|relaxed|aggressive|0|[1-9][0-9]{0,8}) criterion (aic|bic) "
     r'confidence (P80|P90|P95|P98|P99|P999|[^ "P][^ "]*) tolerance (none|(?:absolute|variance|measurement) [^ "]+) pruning (size|positive)'
 )
 #: What stands behind a line's number and word, by the word.
@@ -137,11 +137,11 @@ _FORMS = {
     word: re.compile(form)
     for word, form in (
         ("settings", _SETTINGS + _TAIL),
-        ("add", rf"{_NAME} {_NUMBER} {_NUMBER}(?: weight {_NUMBER})?{_TAIL}"),
+        ("add", rf"{_NAME} {_NUMBER} {_NUMBER}(?: z {_NUMBER})?(?: weight {_NUMBER})?{_TAIL}"),
         ("correct", rf"{_NAME} {_NUMBER}{_TAIL}"),
         ("withdraw", _NAME + _TAIL),
-        ("import", rf"{_WHOLE}(?: x {_TEXT})?(?: y {_TEXT})?(?: weight {_TEXT})?{_TAIL}"),
-        ("row", rf"{_NAME} {_NUMBER} {_NUMBER}(?: weight {_NUMBER})?(?: line {_WHOLE})?(?: called {_TEXT})?(?: note {_TEXT})?"),
+        ("import", rf"{_WHOLE}(?: x {_TEXT})?(?: y {_TEXT})?(?: z {_TEXT})?(?: weight {_TEXT})?{_TAIL}"),
+        ("row", rf"{_NAME} {_NUMBER} {_NUMBER}(?: z {_NUMBER})?(?: weight {_NUMBER})?(?: line {_WHOLE})?(?: called {_TEXT})?(?: note {_TEXT})?"),
         ("undo", _WHOLE + _TAIL),
         ("left-out", rf"{_WHOLE} {_WHOLE}{_TAIL}"),
     )
@@ -229,9 +229,11 @@ class SettingsText(NamedTuple):
     #: none, or a name, a space and a number.
     tolerance: str = "none"
     pruning: str = "size"
+    #: What is fitted: nothing for a curve, or surface. It is the season's for good.
+    surface: str = ""
 
     @classmethod
-    def of(cls, settings: Settings) -> "SettingsText":
+    def of(cls, settings: Settings, surface: str = "") -> "SettingsText":
         tolerance = "none" if settings.tolerance is None else f"{settings.tolerance[0]} {written(settings.tolerance[1])}"
         return cls(
             str(settings.bound),
@@ -239,6 +241,7 @@ class SettingsText(NamedTuple):
             settings.confidence if isinstance(settings.confidence, str) else written(settings.confidence),
             tolerance,
             settings.pruning,
+            surface,
         )
 
     @property
@@ -261,7 +264,7 @@ class SettingsText(NamedTuple):
 
     @property
     def body(self) -> str:
-        words = f"settings bound {self.bound} criterion {self.criterion} confidence {self.confidence}"
+        words = f"settings {self.surface}{' ' * bool(self.surface)}bound {self.bound} criterion {self.criterion} confidence {self.confidence}"
         return f"{words} tolerance {self.tolerance} pruning {self.pruning}"
 
 

@@ -3,7 +3,7 @@
 from types import SimpleNamespace
 from typing import Any, Callable, List, Optional, Sequence
 
-from stakebook import Book, Settings
+from stakebook import Book, Settings, Surface
 
 
 class Shown:
@@ -35,6 +35,18 @@ class Shown:
 
     def warnings(self, report: Any = None, scores: Any = None) -> List[str]:
         return self.said
+
+
+class ShownSurface(Shown):
+    """The same of a surface."""
+
+    def __init__(self, xs: Sequence[float], zs: Sequence[float], ys: Sequence[float], settings: Settings, **answers: Any) -> None:
+        super().__init__(xs, ys, None, settings, **answers)
+        self.z_name: Optional[str] = None
+        self.book: Any = Surface()
+        self.book.extend(xs, zs, ys)
+        for each, z in zip(self.readings, zs):
+            each.z, each.z_text = z, repr(z)
 
 
 def reading(name: str, x: float, y: float, weight: float, index: Optional[int]) -> Any:

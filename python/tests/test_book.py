@@ -38,6 +38,7 @@ sys.path.insert(0, str(ROOT / "python"))
 
 import stakebook
 from stakebook import Book, Calls, DegreeScore, LibraryError, Refused, Report, Scores, Settings, _library, book as book_module, results, settings
+from stakebook import surface as surface_module
 
 try:
     import numpy
@@ -46,6 +47,7 @@ except ImportError:
 
 NAN, INF = math.nan, math.inf
 HAS_SCORES = _library.library().scores is not None
+HAS_SURFACE = _library.library().surface_report is not None
 PIT = [0.1, 0.3, 0.5, 0.7, 0.9, 1.1], [212, 240.5, 251, 287, 290, 322.5]
 
 
@@ -1259,15 +1261,16 @@ class Found(unittest.TestCase):
 def load_tests(loader, tests, pattern):
     """The examples of the docstrings and of docs/PYTHON.md are tests too."""
     flags = doctest.ELLIPSIS
-    for module in (stakebook, _library, settings, results, book_module):
+    for module in (stakebook, _library, settings, results, book_module, surface_module):
         for case in doctest.DocTestSuite(module, optionflags=flags):
-            if HAS_SCORES or not case.id().endswith("Book.scores"):
+            if (HAS_SCORES or not case.id().endswith("Book.scores")) and (HAS_SURFACE or "Surface" not in case.id()):
                 tests.addTest(case)
     path = ROOT / "docs" / "PYTHON.md"
     # a fence ends an example as a blank line does
     text = re.sub(r"^```.*$", "", path.read_text("utf-8"), flags=re.M)
     for part, section in enumerate(re.split(r"^(?=## )", text, flags=re.M)):
-        if ">>>" in section and (HAS_SCORES or not re.search(r"^>>> .*\.scores\(", section, flags=re.M)):
+        lacking = [word for word, there in ((r"\.scores\(", HAS_SCORES), (r"Surface\(", HAS_SURFACE)) if not there]
+        if ">>>" in section and not any(re.search(rf"^>>> .*{word}", section, flags=re.M) for word in lacking):
             name = section.splitlines()[0].lstrip("# ")
             example = doctest.DocTestParser().get_doctest(section, {}, f"PYTHON.md: {name}", str(path), 0)
             tests.addTest(doctest.DocTestCase(example, optionflags=flags))

@@ -52,7 +52,7 @@ class WhatTheAlpsSend(unittest.TestCase):
                 read = table(encode(text))
                 self.assertEqual(numbers(read), ROWS)
                 self.assertEqual([row.line for row in read.rows], [2, 3, 4, 5])
-                self.assertEqual(read.columns, ("tiefe (m)", "Dichte [kg/m³]", None))
+                self.assertEqual(read.columns, ("tiefe (m)", "Dichte [kg/m³]", None, None))
                 self.assertEqual((read.delimiter, read.decimal_comma, read.encoding), (signs[sign], comma, name.strip()))
                 self.assertEqual(read.missing, [])
 
@@ -116,7 +116,7 @@ class Columns(unittest.TestCase):
         self.assertEqual(numbers(table(text, x="DEPTH")), [("2", "3")])
         self.assertEqual(numbers(table(text, x="year", y=" W ")), [("2026", "4")])
         read = table(text, x="Year", weight="w")
-        self.assertEqual((read.rows[0].weight, read.columns), ("4", ("Year", "y", "w")))
+        self.assertEqual((read.rows[0].weight, read.columns), ("4", ("Year", "y", "w", None)))
 
     def test_found_by_their_headings(self):
         for x, y in (("x", "y"), ("X", "Y"), ("Depth (m)", "Density [kg m-3]"), ("Tiefe", "Dichte"), ("profondeur", "densité"), ("profondità", "densità")):

@@ -20,8 +20,9 @@ import matplotlib.image
 import numpy
 
 from browser import Browser
-from shown import Shown, raising, reading
-from stakebook import DegreeScore, Refused, Scores, Settings, page
+from shown import Shown, ShownSurface, raising, reading
+from stakebook import DegreeScore, Refused, Scores, Settings, page, _library
+from stakebook.season import NewRow, Season
 
 WIDTHS = (360, 1280)
 BAD_NOTE = "<script>document.title='run'</script> & \"quoted\" <b>bold</b>"
@@ -367,6 +368,30 @@ class OtherSeasons(Shows):
         self.assertIn("There is no report. Refusal 12: the covariance can't be worked out.", shown)
         self.assertEqual(self.browser.ask("document.querySelectorAll('#picture-curve [id^=mark-r]').length"), 3)
         self.assertEqual(self.browser.ask("document.querySelectorAll('#readings tbody tr').length"), 3)
+
+    @unittest.skipUnless(_library.library().surface_band, "the library has no surfaces")
+    def test_a_surface(self):
+        xs, zs = [0.25 * (i // 6) for i in range(36)], [float(i % 6) for i in range(36)]
+        season = ShownSurface(xs, zs, [300 + 80 * x - 10 * z + (60 if i == 8 else 0) for i, (x, z) in enumerate(zip(xs, zs))], Settings(bound=1))
+        season.x_name, season.z_name, season.y_name = "depth (m)", "elevation", "density (kg m-3)"
+        shown = self.look(season)
+        for words in ("The surface has 3 coefficients", "z is elevation", "Density (kg m-3) by depth (m) and elevation.", "how wide the band is"):
+            self.assertIn(words, shown)
+        self.assertNotIn("Scores", shown)
+        self.assertEqual(self.browser.ask("document.querySelectorAll('#picture-curve [id^=mark-r]').length"), 36)
+        self.assertEqual(self.browser.ask("document.querySelectorAll('#curve tbody tr').length"), 3)
+        cells = self.browser.ask("[...document.querySelectorAll('#readings tbody tr')][8].innerText").split()
+        self.assertIn("above", cells)
+        season = ShownSurface([], [], [], Settings(bound=1))
+        self.assertIn("0 readings are in force", self.look(season))
+
+    def test_a_season_file_without_a_report(self):
+        """Of a real season, empty or with a bound that is refused, there is a page too."""
+        season = Season.create(os.path.join(self.folder.name, "empty.stake"), Settings(bound=1))
+        self.assertIn("0 readings are in force", page.render(season))
+        season = Season.create(os.path.join(self.folder.name, "refused.stake"), Settings(bound=1, criterion="aic"))
+        season.add_rows([NewRow("0", "0x1.fffffffffffffp+1023")] * 4)
+        self.assertIn("There is no report. <strong>Refusal 11:", page.render(season))
 
     def test_refusals_with_many_words(self):
         for number in (4, 8):

@@ -18,8 +18,8 @@ sys.path[:0] = [HERE, os.path.dirname(HERE)]
 import matplotlib
 import numpy
 
-from shown import Shown, raising, reading
-from stakebook import DegreeScore, Refused, Scores, Settings, pictures
+from shown import Shown, ShownSurface, raising, reading
+from stakebook import DegreeScore, Refused, Scores, Settings, _library, pictures
 
 SVG = "{http://www.w3.org/2000/svg}"
 NUMBER = r"-?[0-9.]+(?:e-?[0-9]+)?"
@@ -290,6 +290,99 @@ class Many(unittest.TestCase):
         self.assertLess(few.index("mark-curve"), few.index("mark-outside"))
 
 
+def sloped(**more):
+    """A plane with two readings far off it, of which a tolerance keeps all others within the band; no reading lies in one corner."""
+    rows = [(x / 4, z / 2, 300 + 80 * x / 4 - 10 * z / 2) for x in range(1, 7) for z in range(-4, 5) if (x, z) != (6, 4)]
+    ys = [y + (60 if i == 20 else -60 if i == 33 else 1 if i % 2 else -1) for i, (_, _, y) in enumerate(rows)]
+    settings = more.pop("settings", Settings(bound=1, tolerance=("absolute", 30)))
+    return ShownSurface([row[0] for row in rows], [row[1] for row in rows], ys, settings, **more)
+
+
+@unittest.skipUnless(_library.library().surface_band, "the library has no surfaces")
+class Maps(unittest.TestCase):
+    @classmethod
+    def setUpClass(cls):
+        cls.season = sloped()
+        cls.season.x_name, cls.season.z_name, cls.season.y_name = "depth (m)", "elevation", "density"
+        cls.drawn = Drawn(cls.season)
+
+    def test_each_reading_lies_at_its_x_and_z(self):
+        across, up = self.drawn.scale("axes_1", "x"), self.drawn.scale("axes_1", "y")
+        self.assertEqual(sorted(self.drawn.marks("mark")), sorted(each.name for each in self.season.readings))
+        for each in self.season.readings:
+            x, z = self.drawn.centre("mark-" + each.name)
+            self.assertAlmostEqual(across(x), each.x, delta=0.01)
+            self.assertAlmostEqual(up(z), each.z, delta=0.02)
+
+    def test_those_outside_are_named_and_no_other(self):
+        self.assertEqual(self.drawn.group("mark-outside"), ["r21", "r34"])  # those that were put 60 off
+        self.assertEqual(sorted(text for text in self.drawn.texts if re.fullmatch("r[0-9]+", text)), ["r21", "r34"])
+
+    def test_the_maps_are_least_squares_and_within_the_readings(self):
+        """The value and the band's width on the grid by numpy, and no point of it outside the least to greatest x and z."""
+        view = pictures.look(self.season)
+        xs, zs, ys = (numpy.array(values) for values in (self.season.book.xs, self.season.book.zs, self.season.book.ys))
+        terms = numpy.column_stack([numpy.ones(len(xs)), xs, zs])
+        fitted = numpy.linalg.lstsq(terms, ys, rcond=None)[0]
+        residuals = ys - terms @ fitted
+        covariance = numpy.linalg.inv(terms.T @ terms) * (residuals @ residuals) / (len(xs) - 3)
+        self.assertEqual((view.at[0][0], view.at[0][-1], view.at[1][0], view.at[1][-1]), (0.25, 1.5, -2.0, 2.0))
+        self.assertEqual(view.value.shape, (41, 41))
+        for i, j in ((0, 0), (40, 40), (0, 40), (7, 23)):
+            at = numpy.array([1, view.at[0][j], view.at[1][i]])
+            self.assertAlmostEqual(view.value[i, j], at @ fitted, places=8)
+            self.assertAlmostEqual(view.width[i, j], 2 * (1.959 * numpy.sqrt(at @ covariance @ at) + 30), places=8)
+
+    def test_both_maps_and_what_they_are(self):
+        for name in ("surface-0", "width-0"):
+            self.assertIn(name, self.drawn.ids)
+        for text in ("depth (m)", "elevation", "density", "width of the band, P95, ± 30", "outside the band: 2"):
+            self.assertIn(text, self.drawn.texts)
+        self.assertIn("shown: 53 readings, degree 1 by BIC, 2 outside the band", self.drawn.texts)
+        self.assertIn("r21: depth (m) 0.75, elevation -1.0, density 430.0", [element.text for element in self.drawn.root.iter(SVG + "title")])
+
+    def test_refusals_are_said_and_the_readings_drawn(self):
+        drawn = Drawn(sloped(settings=Settings(bound=5)))
+        self.assertEqual(len(drawn.group("mark-inside")), 53)
+        self.assertIn("refusal 8:", drawn.all_text.lower())
+        self.assertIn("No surface, no band.", drawn.texts)
+        self.assertNotIn("surface-0", drawn.ids)
+        self.assertIn("No readings are in force.", Drawn(ShownSurface([], [], [], Settings())).texts)
+
+    def test_readings_on_a_line_have_no_map(self):
+        for xs, zs, name in (([1.0] * 4, [0, 1, 2, 3], "x"), ([0, 1, 2, 3], [2.0] * 4, "z"), ([1.0], [2.0], "x")):
+            drawn = Drawn(ShownSurface(xs, zs, [1, 2, 3, 5][: len(xs)], Settings(bound=1)))
+            self.assertIn("All readings have one %s: there is no map" % name, drawn.texts)
+            self.assertNotIn("surface-0", drawn.ids)
+            self.assertEqual(len(drawn.marks("mark")), len(xs))
+
+    def test_odd_numbers(self):
+        """A flat surface, and coordinates and values near the ends of the doubles, are drawn all the same."""
+        season = sloped()
+        xs, zs, ys = season.book.xs, season.book.zs, season.book.ys
+        for season in (
+            ShownSurface(xs, zs, [5.0] * len(xs), Settings(bound=1)),
+            ShownSurface(xs, zs, [0.0] * len(xs), Settings(bound=1)),
+            ShownSurface([1e200 * x for x in xs], zs, ys, Settings(bound=1)),
+            ShownSurface(xs, zs, [1e300 * y for y in ys], Settings(bound=1)),
+        ):
+            with warnings.catch_warnings():
+                warnings.simplefilter("error")
+                self.assertEqual(len(Drawn(season).marks("mark")), len(xs))
+
+    def test_formats_and_only_surfaces(self):
+        with tempfile.TemporaryDirectory() as folder:
+            for suffix, begin in ((".png", b"\x89PNG"), (".pdf", b"%PDF"), (".svg", b"<?xml")):
+                path = os.path.join(folder, "map" + suffix)
+                pictures.plot_surface(self.season, path)
+                self.assertTrue(open_bytes(path).startswith(begin))
+            again = os.path.join(folder, "again.svg")
+            pictures.plot(self.season, again)
+            self.assertEqual(open_bytes(again), open_bytes(path))
+            with self.assertRaises(TypeError):
+                pictures.plot_surface(curved(), again)
+
+
 class Refusals(unittest.TestCase):
     def test_a_refusal_is_said_in_words_and_the_readings_are_drawn(self):
         why = Refused(12)
@@ -448,7 +541,7 @@ class Files(unittest.TestCase):
 
 
 class Committed(unittest.TestCase):
-    """What README shows is what its own five lines make, of examples/pit.csv."""
+    """What README shows is what its own five lines make, of examples/pit.csv; and what docs/STAKE.md shows of a surface what its lines make."""
 
     @classmethod
     def setUpClass(cls):
@@ -461,7 +554,8 @@ class Committed(unittest.TestCase):
         cls.made = Drawn.of(open_bytes(os.path.join(cls.folder.name, "pit.svg")))
 
     def test_the_committed_pictures_are_those_made_now(self):
-        for name in ("pit.svg", "pit.html"):
+        surface = ["glacier.svg"] if _library.library().surface_band else []
+        for name in ["pit.svg", "pit.html"] + surface:
             made, kept = open_bytes(os.path.join(self.folder.name, name)), open_bytes(os.path.join(ROOT, "docs", "pictures", name))
             if matplotlib.__version__.startswith("3.6."):  # Debian 12's: others may put a text a hair's breadth elsewhere
                 self.assertTrue(made == kept, "%s is not what is made now: tools/make_pictures.sh makes it anew" % name)

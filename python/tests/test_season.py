@@ -21,7 +21,7 @@ from unittest import mock
 ROOT = Path(__file__).resolve().parents[2]
 sys.path.insert(0, str(ROOT / "python"))
 
-from stakebook import Book, Refused, Settings, season as season_module, seasonfile
+from stakebook import Book, Refused, Settings, _library, season as season_module, seasonfile
 from stakebook.season import NewRow, RefusedName, RefusedRow, Season, check, leave_out
 from stakebook.seasonfile import Numbers, NotSaved, RefusedText, SeasonError, SettingsText, written
 
@@ -894,6 +894,133 @@ class Damage(Folder):
         with mock.patch.object(season_module.Book, "replay", other):
             found = check(self.path)
         self.assertEqual((found.good, [same for _, same in found.compared]), (False, [False, False]))
+
+
+@unittest.skipUnless(_library.library().surface_report, "the library has no surfaces")
+class Surfaces(Folder):
+    """Seasons whose readings have a z."""
+
+    def surface(self):
+        season = Season.create(self.path, SettingsText(bound="2"), surface=True)
+        rows = [NewRow("0.2", "251", None, 2, "A1", None, "-2"), NewRow("0.6", "293", None, 3, None, None, "-2"), NewRow("0.2", "251", z="0")]
+        season.add_rows(rows, ("depth (m)", "density", None, "elevation"), "pits.csv")
+        season.add("0.6", "268", z="0.5", note="windy")
+        season.correct("r4", "286")
+        season.withdraw("r1")
+        season.undo()
+        season.add(0.5, 241, z=0.1 + 0.2)
+        season.withdraw("r2")
+        season.set(Settings(bound=1, criterion="aic"))
+        return season
+
+    def test_lines(self):
+        """Each line as docs/SEASON.md has it."""
+        self.surface()
+        bodies = [
+            "settings surface bound 2 criterion bic confidence P95 tolerance none pruning size at " + AT,
+            f'import 3 x "depth (m)" y "density" z "elevation" source "pits.csv" at {AT}',
+            'row r1 0.2 251 z -2 line 2 called "A1"',
+            "row r2 0.6 293 z -2 line 3",
+            "row r3 0.2 251 z 0",
+            f'add r4 0.6 268 z 0.5 note "windy" at {AT}',
+            f"correct r4 286 at {AT}",
+            f"withdraw r1 at {AT}",
+            f"undo 9 at {AT}",
+            f"add r5 0x1p-1 241 z 0x1.3333333333334p-2 at {AT}",
+            f"withdraw r2 at {AT}",
+            "settings surface bound 1 criterion aic confidence P95 tolerance none pruning size at " + AT,
+        ]
+        self.assertEqual(self.data(), line(FIRST) + b"".join(line(f"{i} {body}") for i, body in enumerate(bodies, 2)))
+
+    def test_the_example_of_the_guide_is_a_season(self):
+        example = (ROOT / "docs" / "SEASON.md").read_text(encoding="utf-8").split("```\n")[3].encode()
+        self.put(example)
+        book = Season.open(self.path).book
+        self.assertEqual((book.xs, book.zs, book.ys), ([0.2, 1.5], [-2.0, 2.0], [251.0, 370.0]))
+
+    def test_opened_again(self):
+        made = self.surface()
+        for season in (made, Season.open(self.path)):
+            self.assertTrue(season.surface)
+            self.assertEqual((season.book.xs, season.book.zs, season.book.ys), ([0.2, 0.2, 0.6, 0.5], [-2.0, 0.0, 0.5, 0.1 + 0.2], [251.0, 251.0, 286.0, 241.0]))
+            self.assertEqual([reading.name for reading in season.standing], ["r1", "r3", "r4", "r5"])
+            self.assertEqual([(reading.z_text, reading.z) for reading in season.readings[:2]], [("-2", -2.0), ("-2", -2.0)])
+            self.assertEqual((season.x_name, season.z_name, season.y_name), ("depth (m)", "elevation", "density"))
+            self.assertEqual(season.settings, Settings(bound=1, criterion="aic"))
+            self.assertEqual(season.book.bits(), made.book.bits())
+            self.assertEqual(season.report().terms, ["1", "x", "z"][: len(season.report().coefficients)])
+        found = check(self.path)
+        self.assertTrue(found.good)
+        self.assertEqual((found.what, [same for _, same in found.compared]), ("x's, z's and y's", [True, True]))
+
+    def test_cut_off(self):
+        """A season that is cut off in its last line is the one before it."""
+        self.surface()
+        whole = self.data()
+        before = whole[: whole[:-1].rindex(b"\n") + 1]
+        for end in range(len(before), len(whole)):
+            self.put(whole[:end])
+            self.assertEqual(Season.open(self.path).settings, Settings(bound=2))
+
+    def test_one_kind_or_the_other(self):
+        season = self.surface()
+        data = self.data()
+        for words, call in (
+            ("has a z", lambda: season.add("1", "2")),
+            ("no weight", lambda: season.add("1", "2", "3", z="4")),
+            ("has a z", lambda: season.add_rows([NewRow("1", "2", z="3"), NewRow("1", "2")])),
+            ("no scores", season.scores),
+        ):
+            with self.assertRaisesRegex(SeasonError, words):
+                call()
+            self.assertEqual((self.data(), season.book.count), (data, 4))
+        curve = Season.create(self.path + "2")
+        with self.assertRaisesRegex(SeasonError, "no z"):
+            curve.add("1", "2", z="3")
+        with self.assertRaisesRegex(SeasonError, "no z"):
+            curve.add_rows([NewRow("1", "2", z="3")])
+        self.assertEqual(curve.book.count, 0)
+
+    def test_refused(self):
+        season = self.surface()
+        data = self.data()
+        for number, call in (
+            (4, lambda: season.add("1", "2", z=float("nan"))),
+            (13, lambda: season.add("1", "2", z="1e3")),
+            (14, lambda: season.add("1", "2", z="1.0000000000000000")),
+            (8, lambda: season.set(Settings(bound=5))),
+            (6, lambda: season.correct("r2", "1")),
+        ):
+            with self.assertRaises(Refused) as caught:
+                call()
+            self.assertEqual((caught.exception.number, self.data(), season.book.count), (number, data, 4))
+        with self.assertRaises(Refused) as caught:
+            Season.create(self.path + "2", Settings(bound=5), surface=True)
+        self.assertEqual((caught.exception.number, os.path.exists(self.path + "2")), (8, False))
+
+    def test_files_that_mix(self):
+        """Lines of the other kind make no season."""
+        head = "settings surface bound 2 criterion bic confidence P95 tolerance none pruning size"
+        curve = head.replace("surface ", "")
+        for bodies, words in (
+            ((head, "add r1 1 2"), "line 3: a reading of a surface has a z"),
+            ((head, "add r1 1 2 z 3 weight 2"), "line 3: a reading of a surface has no weight"),
+            ((head, "import 1", "row r1 1 2"), "line 4: a reading of a surface has a z"),
+            ((curve, "add r1 1 2 z 3"), "line 3: a reading of a curve has no z"),
+            ((head, curve), "line 3: a season is of curves or of a surface"),
+            ((curve, head), "line 3: a season is of curves or of a surface"),
+            ((head, "add r1 1 2 z 1e3"), "line 3: '1e3': refused by 13"),
+        ):
+            self.put(line(FIRST) + b"".join(line(f"{i} {body}") for i, body in enumerate(bodies, 2)))
+            with self.assertRaisesRegex(SeasonError, words):
+                Season.open(self.path)
+
+    def test_warnings(self):
+        season = Season.create(self.path, SettingsText(bound="relaxed"), surface=True)
+        season.add_rows([NewRow(str(i), str(i * i), z=str(i % 3)) for i in range(6)])
+        said = season.warnings()
+        self.assertIn("allows degree 0 alone at 6 readings", said[0])
+        self.assertIn("the mean surface", said[1])
 
 
 class Warnings(Folder):

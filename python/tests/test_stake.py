@@ -363,6 +363,87 @@ class Seasons(Command):
         self.assertEqual([told["history"][2][key] for key in ("name", "text", "note", "source")], ["r1", "correct r1: y 5, was 2", "n", "s"])
 
 
+@unittest.skipUnless(_library.library().surface_report, "the library has no surfaces")
+class SurfaceSeason(Command):
+    """Depth and elevation, end to end."""
+
+    def setUp(self):
+        super().setUp()
+        self.stake("new", self.season, "--surface", "--bound", "4")
+        # density = 200 + 100 depth - 10 elevation, but for one reading
+        rows = [(x, z, 200 + 100 * x - 10 * z + (40 if (x, z) == (2, 1) else 0)) for x in range(4) for z in range(4)]
+        self.table = self.file("pits.csv", "depth;elevation;density\n" + "".join(f"{x},5;{z};{y}\n" for x, z, y in rows))
+
+    def test_session(self):
+        said = self.stake("import", self.season, self.table, "--z", "elevation")
+        self.assertIn("16 readings saved from pits.csv, r1 to r16", said)
+        self.assertIn("z 'elevation'", said)
+        self.assertIn("r17 saved: x 1.5, z 2.5, y 275; 17 readings", self.stake("add", self.season, "1,5", "275", "--z", "2,5"))
+        self.assertIn("y 325", self.stake("correct", self.season, "r17", "325"))
+        self.stake("withdraw", self.season, "r17")
+        listed = self.stake("list", self.season).splitlines()
+        self.assertEqual(listed[0].split(), ["name", "x", "z", "y", "state", "source", "note"])
+        self.assertEqual(listed[1].split()[:4], ["r1", "0.5", "0", "200"])
+        report = self.json("report", self.season, "--bound", "1", "--at", "1", "--z", "2", "--tolerance", "absolute=20")
+        self.assertEqual((report["report"]["degree"], report["report"]["terms"], report["scores"]), (1, ["1", "x", "z"], None))
+        self.assertEqual(report["outside"], ["r10"])
+        # least squares of the plane by hand: the odd reading's 40 moves it by 40 / 16 and by its lever arms
+        level = 40 / 16
+        by_x, by_z = 40 * 0.5 / 20, 40 * -0.5 / 20
+        expected = 200 - 50 + 100 - 20 + level + by_x * (1 - 2) + by_z * (2 - 1.5)
+        self.assertAlmostEqual(report["bands"][0]["value"], expected, places=9)
+        text = self.stake("report", self.season, "--bound", "1", "--at", "1", "--z", "2")
+        for words in ("Total degree 1: the lowest whose BIC", "The surface (x is 'depth', z is 'elevation', y is 'density'):", "less 3 coefficients"):
+            self.assertIn(words, text)
+        self.assertIn("x's, z's and y's are the same, bit for bit", self.stake("check", self.season))
+        exported = self.stake("export", self.season).splitlines()
+        self.assertEqual((exported[0], exported[1]), ("reading,x,y,z,name,source,note", "r1,0.5,200,0,,pits.csv:2,"))
+        self.assertIn("a new season of a surface", self.stake("list", self.season, "--history"))
+
+    def test_csv_comes_back(self):
+        self.stake("import", self.season, self.table, "--z", "elevation")
+        out = self.file("again.csv", self.stake("export", self.season))
+        first = Season.open(self.season).book.bits()
+        self.season += "2"
+        self.stake("new", self.season, "--surface")
+        self.stake("import", self.season, out, "--z", "z")
+        self.assertEqual(Season.open(self.season).book.bits(), first)
+
+    def test_what_a_surface_has_not(self):
+        self.stake("import", self.season, self.table, "--z", "elevation")
+        before = self.data()
+        for status, words, call in (
+            (1, "has a z: give --z", ("add", self.season, "1", "2")),
+            (1, "no weight", ("add", self.season, "1", "2", "--z", "3", "--weight", "2")),
+            (1, "has a z: give --z", ("import", self.season, self.table)),
+            (1, "no column is headed 'height'", ("import", self.season, self.table, "--z", "height")),
+            (1, "can't be two of x, y, z", ("import", self.season, self.table, "--z", "depth")),
+            (1, "no scores of a surface", ("scores", self.season)),
+            (1, "no place for a z", ("export", self.season, "--format", "frame")),
+            (1, "no place for a z", ("export", self.season, "--format", "calls")),
+            (1, f"refused by 9: {WORDS['9']}", ("report", self.season, "--at", "1", "--z", "9")),
+            (1, f"refused by 8: {WORDS['8']}", ("settings", self.season, "--bound", "5")),
+            (1, f"refused by 8: {WORDS['8']}", ("report", self.season, "--bound", "5")),
+            (2, "give a --z for each --at", ("report", self.season, "--at", "1")),
+            (2, "neither validated nor broken", ("report", self.season, "--split")),
+            (2, "neither validated nor broken", ("report", self.season, "--folds", "2")),
+        ):
+            self.assertIn(words, self.fails(*call, status=status))
+            self.assertEqual(self.data(), before)
+
+    def test_a_number_that_is_none(self):
+        path = self.file("bad.csv", "x;z;y\n1;1e3;2\n")
+        self.assertIn("bad.csv:2: column 'z': '1e3': refused by 13", self.fails("import", self.season, path, "--z", "z"))
+
+    def test_a_curve_has_no_z(self):
+        self.season += "2"
+        self.stake("new", self.season, "--bound", "1")
+        self.assertIn("a reading of a curve has no z", self.fails("add", self.season, "1", "2", "--z", "3"))
+        self.assertIn("a reading of a curve has no z", self.fails("import", self.season, self.table, "--z", "elevation"))
+        self.stake("add", self.season, "1", "2")
+        self.assertIn("a curve has no z", self.fails("report", self.season, "--z", "3", status=2))
+
+
 def guide_blocks():
     text = GUIDE.read_text(encoding="utf-8")
     begin = text.index("```console\n") + len("```console\n")
