@@ -9,6 +9,7 @@ use journal::port::losses_into;
 use journal::{Answer, Call, Judge, Lent, Memory, Port, Side};
 use judge::fit::{Criterion, PruningRule, Settings};
 use judge::statistics::{Confidence, DegreeBound, Tolerance};
+use judge::surface::SurfaceSample;
 use judge::Sample;
 
 use crate::gsl;
@@ -578,6 +579,52 @@ fn print_splits() {
     said.iter().for_each(|line| println!("{line}"));
 }
 
+/// Reports of surfaces up to total degree 4, on so many samples of a bent surface with a ripple. polyfit and the limit have none; GSL's is `gsl_multifit_linear`
+/// at each total degree on the same term values, scored and estimated as its report of a curve is.
+fn print_surfaces() {
+    println!("\n### Surfaces");
+    let sides = [0, 1, 3];
+    print_head("Call", &sides);
+    for count in SPLIT_COUNTS {
+        let sample = |i: usize| {
+            let (x, z) =
+                (i as f64 / count as f64 * 2.0 - 1.0, (i * 7_919 % count) as f64 / count as f64);
+            SurfaceSample { x, z, y: 1.0 + x * z - z * z * x + (40.0 * x).sin() / 16.0 }
+        };
+        let samples: Vec<SurfaceSample> = (0..count).map(sample).collect();
+        let fresh = || Memory {
+            x: samples.iter().map(|sample| sample.x).collect(),
+            z: samples.iter().map(|sample| sample.z).collect(),
+            y: samples.iter().map(|sample| sample.y).collect(),
+            ..memory_of(&vec![Sample { x: 0.0, y: 0.0, weight: 1.0 }; count])
+        };
+        let call = Call::SurfaceReport(settings(4));
+        let (mut by_port, mut by_judge) = (fresh(), fresh());
+        let answer = Port.make(&call, count, lent(&mut by_port));
+        assert_eq!(answer, Judge.make(&call, count, lent(&mut by_judge)), "surface report");
+        let port: Timed = Box::new(|| drop(black_box(Port.make(&call, count, lent(&mut by_port)))));
+        let plain: Timed =
+            Box::new(|| drop(black_box(Judge.make(&call, count, lent(&mut by_judge)))));
+        let gsl: Option<Timed> = gsl::surface_report(&samples)
+            .map(|_| -> Timed { Box::new(|| drop(black_box(gsl::surface_report(&samples)))) });
+        let times = timing::best([Some(port), Some(plain), gsl], 3);
+        let shown = |time: Option<f64>| time.map_or(String::new(), |time| format!("{time:.1}"));
+        let by_port = times[0].unwrap_or(f64::NAN);
+        let ratio =
+            |time: Option<f64>| time.map_or(String::new(), |time| format!("{:.1}", time / by_port));
+        println!(
+            "| surface report, bound 4 | {} | {} | {} | {} | {} | {} | {} |",
+            thousands(count),
+            words(&answer),
+            shown(times[0]),
+            shown(times[1]),
+            shown(times[2]),
+            ratio(times[1]),
+            ratio(times[2])
+        );
+    }
+}
+
 /// The lines of a text that is timed: as many as fill a book.
 const LINES: usize = 4_096;
 
@@ -636,6 +683,7 @@ pub fn run() {
     print_folds();
     print_losses();
     print_splits();
+    print_surfaces();
     print_lines();
     let missing = [
         (cells.iter().any(|cell| cell.times[GSL].is_some()), "GSL"),

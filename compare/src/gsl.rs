@@ -4,6 +4,11 @@
 
 #[cfg(gsl)]
 use judge::statistics::huber_loss;
+use judge::surface::SurfaceSample;
+#[cfg(gsl)]
+use judge::surface::{terms_of, GREATEST_DEGREE, SURFACE_TERMS};
+#[cfg(gsl)]
+use judge::terms::{Observed, Place};
 use judge::Sample;
 
 /// What GSL's functions take and give. The layouts are those of gsl_vector_double.h and gsl_matrix_double.h.
@@ -94,6 +99,16 @@ impl Table {
         Self { rows, y: samples.iter().map(|sample| sample.y).collect(), columns }
     }
 
+    /// Rows of a surface's 15 term values.
+    fn of_surface(samples: &[SurfaceSample]) -> Self {
+        let terms = |sample: &SurfaceSample| {
+            let place = sample.place();
+            (0..SURFACE_TERMS).map(move |j| place.term(j))
+        };
+        let rows = samples.iter().flat_map(terms).collect();
+        Self { rows, y: samples.iter().map(|sample| sample.y).collect(), columns: SURFACE_TERMS }
+    }
+
     fn len(&self) -> usize {
         self.y.len()
     }
@@ -181,10 +196,21 @@ pub fn fit(samples: &[Sample], degree: usize) -> Option<Fit> {
 /// Each degree up to the bound fitted and scored; then the best one's value and its error at every sample, which is what a band is drawn from.
 #[cfg(gsl)]
 pub fn report(samples: &[Sample], bound: usize) -> Option<Vec<(f64, f64)>> {
-    let mut table = Table::new(samples, bound + 1);
-    let work = Work::new(table.len(), bound + 1);
+    reported(Table::new(samples, bound + 1), 1..=bound + 1)
+}
+
+/// The same of a surface, over the counts of its total degrees 0 to 4.
+#[cfg(gsl)]
+pub fn surface_report(samples: &[SurfaceSample]) -> Option<Vec<(f64, f64)>> {
+    reported(Table::of_surface(samples), (0..=GREATEST_DEGREE).map(terms_of))
+}
+
+#[cfg(gsl)]
+fn reported(mut table: Table, counts: impl Iterator<Item = usize>) -> Option<Vec<(f64, f64)>> {
+    let columns = table.columns;
+    let work = Work::new(table.len(), columns);
     let mut best: Option<(f64, Fit)> = None;
-    for k in 1..=bound + 1 {
+    for k in counts {
         let mut fit = fitted(&mut table, k, &work)?;
         let score = score(&mut fit, &mut table);
         if best.as_ref().map_or(true, |(least, _)| score < *least) {
@@ -202,7 +228,7 @@ pub fn report(samples: &[Sample], bound: usize) -> Option<Vec<(f64, f64)>> {
         unsafe { sys::gsl_multifit_linear_est(&x, &c, &cov, &mut y, &mut error) };
         (y, error)
     };
-    Some(table.rows.chunks_mut(bound + 1).map(at).collect())
+    Some(table.rows.chunks_mut(columns).map(at).collect())
 }
 
 /// Each fold left out in turn: each degree fitted to the others and scored on the fold; then the degree with the least mean score fitted to all.
@@ -231,6 +257,11 @@ pub fn fit(_: &[Sample], _: usize) -> Option<Vec<f64>> {
 
 #[cfg(not(gsl))]
 pub fn report(_: &[Sample], _: usize) -> Option<Vec<(f64, f64)>> {
+    None
+}
+
+#[cfg(not(gsl))]
+pub fn surface_report(_: &[SurfaceSample]) -> Option<Vec<(f64, f64)>> {
     None
 }
 

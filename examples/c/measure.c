@@ -133,6 +133,20 @@ static void one_report_by(void) {
     static const double values[] = {0, 0.1};
     stakebook_report_by(count, settings, 6, values, 2, LENT);
 }
+/* surfaces over the same x's, with a second coordinate of their own */
+static double zs[ROOM];
+static void surface_fit(void) { stakebook_surface_fit(count, 4, xs, ROOM, zs, ROOM, ys, ROOM, scratch, ROOM, coefficients, STAKEBOOK_TERMS); }
+static void surface_report(void) {
+    static const uint32_t settings[] = {STAKEBOOK_CUSTOM_DEGREE, 4, STAKEBOOK_AIC, STAKEBOOK_P95, STAKEBOOK_VARIANCE, STAKEBOOK_BY_SIZE};
+    static const double values[] = {0, 0.1};
+    stakebook_surface_report(count, settings, 6, values, 2, xs, ROOM, zs, ROOM, ys, ROOM, scratch, ROOM, coefficients, STAKEBOOK_TERMS, errors,
+                             STAKEBOOK_TERMS, pruned, STAKEBOOK_TERMS, lower, ROOM, upper, ROOM, outliers, ROOM);
+}
+static void surface_band(void) {
+    double numbers[STAKEBOOK_BAND];
+    stakebook_surface_band(count, 0.1, 0.5, 4, STAKEBOOK_P95, 0, STAKEBOOK_NO_TOLERANCE, 0, xs, ROOM, zs, ROOM, ys, ROOM, scratch, ROOM, numbers,
+                           STAKEBOOK_BAND);
+}
 /* settings by two lists: Custom `most`, AIC */
 static uint64_t split(uint32_t most) {
     const uint32_t words[] = {STAKEBOOK_CUSTOM_DEGREE, most};
@@ -279,6 +293,10 @@ int main(void) {
     show_cost("validate in 4,096 folds up to degree 15", all_folds_15, 3);
     show_cost("losses up to degree 15", one_losses, 100);
     show_cost("scores up to degree 15", one_scores, 100);
+    for (size_t i = 0; i < ROOM; i++) zs[i] = even();
+    show_cost("surface_fit of total degree 4", surface_fit, 100);
+    show_cost("surface_band of total degree 4", surface_band, 100);
+    show_cost("surface_report up to total degree 4", surface_report, 100);
     show_cost("split up to degree 3", split_3, 3);
     show_cost("split up to degree 8", split_8, 3);
     show_cost("split up to degree 15", split_15, 3);
