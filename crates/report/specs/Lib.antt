@@ -5,3 +5,5 @@ pub mod RefusalLaws
 pub mod Reports
 pub mod ChosenLaws
 pub mod ReportLaws
+pub mod Limited
+pub mod LimitedLaws

@@ -11,7 +11,7 @@ use reporting::Places;
 use settings::Settings;
 
 // 1, of a report: the sums, and all that it writes.
-fn report_short(n: usize, xs: usize, ys: usize, ws: usize, sums: usize, p: Places) -> bool
+pub fn report_short(n: usize, xs: usize, ys: usize, ws: usize, sums: usize, p: Places) -> bool
     ensures { λ r. ⌜ r ≡ tooShort n (xs ∷ ys ∷ ws ∷ []) (reportNeeds n sums p) ⌝ }
 {
     let bands = refusal::short(

@@ -2,3 +2,4 @@
 pub mod Choosing
 pub mod Writing
 pub mod Reporting
+pub mod Limiting

@@ -5,3 +5,5 @@ pub mod Chosen
 pub mod ChosenLaws
 pub mod Outputs
 pub mod Reports
+pub mod Limited
+pub mod LimitedLaws

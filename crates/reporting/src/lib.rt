@@ -22,6 +22,7 @@ ghost use Rattle.lent.specs.Slices.{before, after};
 ghost use Rattle.reporting.specs.Chosen.{Chooses};
 ghost use Rattle.reporting.specs.Outputs.{outputs};
 ghost use Rattle.reporting.specs.Reports.{Does, writtenBy};
+ghost use Rattle.reporting.specs.Limited.{DoesWithin, limitedOf};
 
 // How many places are lent of each memory that a report writes.
 pub struct Places {
@@ -43,6 +44,15 @@ pub enum ReportAnswer {
         pruned: usize,
     },
     Refused(u8),
+}
+
+// More pivot tests than any report makes: 16 degrees of at most 16 terms.
+pub const NO_LIMIT: usize = 256;
+
+// What a report within a limit answers, and the pivot tests that it takes: none where it is refused by 1 to 9 or by 16.
+pub struct Counted {
+    pub answer: ReportAnswer,
+    pub tests: usize,
 }
 
 // The choice, with the coefficients of the chosen degree and their covariance. A number other than 0 is that of a refusal, 11 or 12.
@@ -154,5 +164,72 @@ pub fn write(
         solved,
         outliers: marks,
         pruned: terms,
+    }
+}
+
+// A report past refusals 1 to 9, within a limit of pivot tests, of the degrees 0 to the last one. Nothing but scratch is written before 12 is ruled out.
+pub fn report_rows(
+    basis: Basis,
+    n: usize,
+    last: Degree,
+    settings: Settings,
+    limit: usize,
+    xs: &[f64],
+    zs: &[f64],
+    ys: &[f64],
+    sums: &[f64],
+    scratch: &mut [f64],
+    coefficients: &mut [f64],
+    errors: &mut [f64],
+    pruned: &mut [u8],
+    lower: &mut [f64],
+    upper: &mut [f64],
+    outliers: &mut [u8],
+) -> Counted
+    requires { ⌜ (n ≤ length (now xs)) × (n ≤ length (now zs)) × (n ≤ length (now ys)) × (sumPlaces ≤ length (now sums)) × (last .0 ≤ highestDegree) × (countOf basis (last .0) ≤ n) × (countOf basis (last .0) ≤ maxTerms) ⌝ }
+    requires { ⌜ (n ≤ length (now scratch)) × (termPlaces basis ≤ length (now coefficients)) × (termPlaces basis ≤ length (now errors)) × (termPlaces basis ≤ length (now pruned)) × (n ≤ length (now lower)) × (n ≤ length (now upper)) × (n ≤ length (now outliers)) ⌝ }
+    ensures { λ r. ⌜ DoesWithin (limitedOf basis n settings limit (rowsAt basis n (before xs) (before zs) (before ys)) (before sums) (choiceOf (settings .criterion) (before sums) (rowsAt basis n (before xs) (before zs) (before ys)) (countsOf basis (last .0)))) r (outputs scratch coefficients errors pruned lower upper outliers) ⌝ }
+{
+    let criterion = settings.criterion;
+    let m = choose(basis, n, last, criterion, xs, zs, ys, sums, &mut *scratch);
+    let choice = m.choice;
+    if limit < choice.tests {
+        lent::clear(scratch, n);
+        return Counted {
+            answer: ReportAnswer::Refused(16),
+            tests: 0,
+        };
+    }
+    if m.number != 0 {
+        lent::clear(scratch, n);
+        return Counted {
+            answer: ReportAnswer::Refused(m.number),
+            tests: choice.tests,
+        };
+    }
+    let c = m.c;
+    let v = m.covariance;
+    let answer = write(
+        basis,
+        n,
+        settings,
+        m.degree,
+        choice.solved,
+        c,
+        v,
+        xs,
+        zs,
+        ys,
+        scratch,
+        coefficients,
+        errors,
+        pruned,
+        lower,
+        upper,
+        outliers,
+    );
+    Counted {
+        answer,
+        tests: choice.tests,
     }
 }

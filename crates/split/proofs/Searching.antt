@@ -22,7 +22,7 @@ use Rattle.split.specs.declared.Best.{Best}
 use Rattle.split.specs.Search.{noBreak, better, bestOf, leftOf, rightOf, bestBreak, breakTests, searchTests}
 use Rattle.split.specs.SearchLaws.{break-tests, count-range}
 use Rattle.split.specs.Refusals.{searchRefusal}
-use Rattle.split.specs.Splits.{Searches}
+use Rattle.split.specs.Splits.{takenOf, Searches}
 
 -- what is left of the search at break b
 module _ (bound : DegreeBound) (criterion : Criterion) (rows : List WeightedRow) where
@@ -82,12 +82,12 @@ module _ (bound : DegreeBound) (criterion : Criterion) (rows : List WeightedRow)
   module _ (limit n : ℕ) (s t : List Float) (w : Within n s t) (tests : ℕ) (best : Best) where
     -- the count passes the limit
     pub searches-over : limit < tests → tests ≤ searchTests bound criterion rows
-        → Searches limit bound criterion rows n s t (record { number = 16; tests = tests; best = best })
-    unfolding searchRefusal firstOf
+        → Searches limit bound criterion rows n s t (record { number = 16; tests = 0; best = best })
+    unfolding searchRefusal firstOf takenOf
     searches-over h g =
         record {
           number = rw (lt-ltb limit (searchTests bound criterion rows) (omega arith));
-          tests = λ z. absurd (z refl);
+          tests = rw (lt-ltb limit (searchTests bound criterion rows) (omega arith));
           best = λ z. absurd (z refl);
           within = w;
         }
@@ -95,18 +95,18 @@ module _ (bound : DegreeBound) (criterion : Criterion) (rows : List WeightedRow)
     module _ (h : tests ≤ limit) (et : tests ≡ searchTests bound criterion rows) (eb : best ≡ bestBreak bound criterion rows) where
       -- every break is passed over
       pub searches-none : best .found ≡ false → Searches limit bound criterion rows n s t (record { number = 11; tests = tests; best = best })
-      unfolding searchRefusal firstOf
+      unfolding searchRefusal firstOf takenOf
       searches-none f =
           record {
             number = rw (← et, ← eb, le-ltb limit tests h, f);
-            tests = λ _. et;
+            tests = rw (← et, le-ltb limit tests h);
             best = λ _. eb;
             within = w;
           }
 
       pub searches-found : best .found ≡ true → Searches limit bound criterion rows n s t (record { number = 0; tests = tests; best = best })
-      unfolding searchRefusal firstOf
-      searches-found f = record { number = rw (← et, ← eb, le-ltb limit tests h, f); tests = λ _. et; best = λ _. eb; within = w }
+      unfolding searchRefusal firstOf takenOf
+      searches-found f = record { number = rw (← et, ← eb, le-ltb limit tests h, f); tests = rw (← et, le-ltb limit tests h); best = λ _. eb; within = w }
 
 -- the bound for n samples is that for their rows
 pub rows-bound : (bound : DegreeBound) (n : ℕ) (xs ys ws : List Float) → maxDegree bound n ≤ 15 → maxDegree bound (length (weightedRowsAt Curve n xs xs ys ws)) ≤ 15

@@ -29,9 +29,9 @@ use Rattle.split.specs.declared.SplitAnswer.the-variants as answers
 use Rattle.split.specs.Search.{sideFit, bestBreak, searchTests}
 use Rattle.split.specs.SearchLaws.{found-room}
 use Rattle.split.specs.Refusals.{splitRefusal, searchRefusal}
-use Rattle.split.specs.RefusalLaws.{split-room, search-found}
+use Rattle.split.specs.RefusalLaws.{split-room, search-within, search-found}
 use Rattle.split.specs.Rooms.{SplitRoom, FoundRoom}
-use Rattle.split.specs.Splits.{LentSplit, Does, Searches, splitAt, splitPast, splitOn, splitOut}
+use Rattle.split.specs.Splits.{LentSplit, Does, Searches, takenOf, splitAt, splitPast, splitOn, splitTaken, splitOut}
 
 length-fit : (rows : List WeightedRow) (d : Degree) → d .0 ≤ 15 → length (sideFit rows d) ≡ 16
 unfolding sideFit
@@ -52,11 +52,19 @@ module _ (n : ℕ) (settings : Settings) (limit : ℕ) (columns : Columns) (sums
   abbrev out : SplitAnswer → List Float → List Float → List Float → Type 0
   out r s′ b′ a′ = Does (splitOut n settings limit columns sums places) r (lent s s′ b b′ a a′)
 
+  abbrev taken : ℕ
+  taken = splitTaken n settings limit (samplesOf n columns) (lengths columns) sums places
+
   -- r is the number of a refusal from 1 to 9
   pub split-refused : (r : ℕ) → r ≡ refusal → (r ≡ 0 → ⊥) → out (answers.Refused r) s b a
   unfolding splitOn
   split-refused zero q h = absurd (h refl)
   split-refused (suc k) q h = rw (← q) (record { answer = refl; scratch = refl; before = refl; after = refl })
+
+  pub taken-refused : (r : ℕ) → r ≡ refusal → (r ≡ 0 → ⊥) → 0 ≡ taken
+  unfolding splitTaken
+  taken-refused zero q h = absurd (h refl)
+  taken-refused (suc k) q h = rw (← q)
 
   -- none of them holds
   module _ (r : ℕ) (is : r ≡ refusal) (none : r ≡ 0) where
@@ -74,6 +82,10 @@ module _ (n : ℕ) (settings : Settings) (limit : ℕ) (columns : Columns) (sums
       abbrev tests : ℕ
       tests = searchTests (settings .bound) (settings .criterion) rows
 
+      pub taken-past : m .tests ≡ taken
+      unfolding splitTaken
+      taken-past = rw (past, ← are) (se .tests)
+
       -- 16 or 11
       pub split-late : (m .number ≡ 0 → ⊥) → out (answers.Refused (m .number)) t b a
       unfolding splitOn splitPast
@@ -88,6 +100,10 @@ module _ (n : ℕ) (settings : Settings) (limit : ℕ) (columns : Columns) (sums
         not-16 : m .number ≡ 16 → ⊥
         not-16 e = let z : _≡_ {A = ℕ} 0 16 = sym found ∙ e in omega arith
 
+        all-taken : m .tests ≡ tests
+        unfolding takenOf
+        all-taken = rw (search-within limit tests best (sym (se .number) ∙ found)) at (se .tests)
+
         pub best-room : FoundRoom n (m .best)
         best-room =
             let f = not-false _ (search-found limit tests best (sym (se .number) ∙ found)) in
@@ -100,7 +116,7 @@ module _ (n : ℕ) (settings : Settings) (limit : ℕ) (columns : Columns) (sums
         unfolding splitOn splitPast splitAt
         split-whole b′ a′ eb ea =
             let z : searchRefusal limit tests best ≡ 0 = sym (se .number) ∙ found in
-            rw (past, ← are, z, ← (se .best not-16), ← (se .tests not-16))
+            rw (past, ← are, z, ← (se .best not-16), ← all-taken)
             (record {
               answer = refl;
               scratch = over-cleared n s s′ t (se .within) cleared;

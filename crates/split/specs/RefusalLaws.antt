@@ -2,6 +2,7 @@
 use mathlib.Core.Path.{_≡_, refl}
 use mathlib.Core.Bool.{false, not}
 use mathlib.Core.List.{List, [], _∷_, List·Memᴰ}
+use lib.Dec.{ltb}
 use Prim.Native.Nat.{ℕ}
 use borrow.Author.Tests.{ltb-false}
 use Rattle.samples.specs.Samples.{Sample}
@@ -41,7 +42,11 @@ module _ (limit tests : ℕ) (best : Best) where
   unfolding those isAmong
   search-in-order = refl
 
-  -- a search that is not refused found a break
+  -- a search that is not refused is within the limit, and found a break
+  pub search-within : searchRefusal limit tests best ≡ 0 → ltb limit tests ≡ false
+  unfolding searchRefusal
+  search-within e = first-none _ 15 _ e .0
+
   pub search-found : searchRefusal limit tests best ≡ 0 → not (best .found) ≡ false
   unfolding searchRefusal
   search-found e = first-none _ 10 _ (first-none _ 15 _ e .1) .0

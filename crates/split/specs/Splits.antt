@@ -1,7 +1,9 @@
 -- Document 02's split (E8): what it answers and writes, from samples and lengths. Definitions only.
 use mathlib.Core.Path.{_≡_}
+use mathlib.Core.Bool.{cond}
 use mathlib.Core.List.{List, []}
 use Prim.Native.Nat.{ℕ}
+use lib.Dec.{ltb}
 use lib.ListN.{length, take, drop}
 use lib.Ieee.{Float}
 use Rattle.loops.specs.Within.{Within}
@@ -15,6 +17,7 @@ use Rattle.lent.specs.Slices.{Contents, Slice, before, contents}
 use Rattle.lent.specs.Written.{over, zeros}
 use Rattle.settings.specs.declared.Settings.{Settings}
 use Rattle.split.specs.declared.Best.{Best}
+use Rattle.split.specs.declared.CountedSplit.{CountedSplit}
 use Rattle.split.specs.declared.Places.{Places}
 use Rattle.split.specs.declared.Searched.{Searched}
 use Rattle.split.specs.declared.SplitAnswer.{SplitAnswer}
@@ -62,6 +65,16 @@ splitOn n settings limit samples columns sums places =
     let r = splitRefusal n settings samples columns sums places in
     settle r (splitPast n (settings .bound) (settings .criterion) limit (weightedRows samples)) (splitRefused r [])
 
+-- The pivot tests that a split takes of those left, where its search needs so many: none at 16, and all of them else, also at 11.
+unfoldable pub takenOf : ℕ → ℕ → ℕ
+takenOf limit tests = cond (ltb limit tests) 0 tests
+
+-- none where it is refused by 1 to 9
+unfoldable pub splitTaken : ℕ → Settings → ℕ → List Sample → List ℕ → ℕ → Places → ℕ
+splitTaken n settings limit samples columns sums places =
+    settle (splitRefusal n settings samples columns sums places)
+    (takenOf limit (searchTests (settings .bound) (settings .criterion) (weightedRows samples))) 0
+
 -- the same on what stands in memory: what the call does
 abbrev pub splitOut : ℕ → Settings → ℕ → Columns → ℕ → Places → SplitOut
 splitOut n settings limit columns sums places = splitOn n settings limit (samplesOf n columns) (lengths columns) sums places
@@ -91,9 +104,14 @@ pub record Does (o : SplitOut) (r : SplitAnswer) (w : LentSplit) : Type 0 where
 abbrev pub SplitIs : ℕ → Settings → ℕ → Columns → List Float → SplitAnswer → LentSplit → Type 0
 SplitIs n settings limit columns sums r w = Does (splitOut n settings limit columns (length sums) (placesOf w)) r w
 
+-- and the pivot tests that it takes
+pub record SplitWithinIs (n : ℕ) (settings : Settings) (limit : ℕ) (columns : Columns) (sums : List Float) (r : CountedSplit) (w : LentSplit) : Type 0 where
+  pub does : SplitIs n settings limit columns sums (r .answer) w
+  pub taken : r .tests ≡ splitTaken n settings limit (samplesOf n columns) (lengths columns) (length sums) (placesOf w)
+
 -- of the code's search: r, and scratch s before and t after. Past the limit only 16 is said.
 pub record Searches (limit : ℕ) (bound : DegreeBound) (criterion : Criterion) (rows : List WeightedRow) (n : ℕ) (s t : List Float) (r : Searched) : Type 0 where
   pub number : r .number ≡ searchRefusal limit (searchTests bound criterion rows) (bestBreak bound criterion rows)
-  pub tests : (r .number ≡ 16 → ⊥) → r .tests ≡ searchTests bound criterion rows
+  pub tests : r .tests ≡ takenOf limit (searchTests bound criterion rows)
   pub best : (r .number ≡ 16 → ⊥) → r .best ≡ bestBreak bound criterion rows
   pub within : Within n s t

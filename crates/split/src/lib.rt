@@ -10,6 +10,7 @@ use basis::SUMS;
 use basis::TERMS;
 use book::Book;
 use fit::Choice;
+pub use refusals::split_short;
 use score::Criterion;
 use settings::Settings;
 use statistics::DegreeBound;
@@ -29,7 +30,7 @@ ghost use Rattle.monomial.specs.Corner.{SameCorner};
 ghost use Rattle.fit.specs.Chosen.{choiceOf, countsOf};
 ghost use Rattle.lent.specs.Slices.{before, after};
 ghost use Rattle.split.specs.Search.{sideFit, better as betterF, leftOf, rightOf};
-ghost use Rattle.split.specs.Splits.{Searches, SplitIs, lentSplit};
+ghost use Rattle.split.specs.Splits.{Searches, SplitIs, SplitWithinIs, lentSplit};
 
 // The best break so far: how many samples are before it, the total, and the degrees of its two sides. Nothing is said of them where none is found.
 pub struct Best {
@@ -161,7 +162,13 @@ fn tests_of(left: Choice, right: Choice) -> usize
     left.tests + right.tests
 }
 
-// What a search comes to: the number of the refusal, 16 or 11, or 0; and but for 16, the number of pivot tests and the best break.
+// What a split within a limit answers, and the pivot tests that it takes: none where it is refused by 1 to 9 or by 16.
+pub struct CountedSplit {
+    pub answer: SplitAnswer,
+    pub tests: usize,
+}
+
+// What a search comes to: the number of the refusal, 16 or 11, or 0; the pivot tests that it takes, none at 16; and but for 16 the best break.
 pub struct Searched {
     pub number: u8,
     pub tests: usize,
@@ -203,7 +210,7 @@ fn search(
         if limit < tests {
             return Searched {
                 number: 16,
-                tests,
+                tests: 0,
                 best,
             };
         }
@@ -262,7 +269,61 @@ fn write(
     lent::put_terms(side_fit(xs, ys, ws, at, n, e), later);
 }
 
-// A split of the book. The lent sums are judged and not read.
+// A split of the book, with the pivot tests that it takes. The lent sums are judged and not read.
+pub fn split_within(
+    book: Book,
+    settings: Settings,
+    limit: usize,
+    xs: &[f64],
+    ys: &[f64],
+    ws: &[f64],
+    sums: &[f64],
+    scratch: &mut [f64],
+    earlier: &mut [f64],
+    later: &mut [f64],
+) -> CountedSplit
+    ensures { λ r. ⌜ SplitWithinIs (book .count) settings limit (columnsOf (before xs) (before ys) (before ws)) (before sums) r (lentSplit scratch earlier later) ⌝ }
+{
+    let n = book.count;
+    let places = Places {
+        scratch: scratch.len(),
+        before: earlier.len(),
+        after: later.len(),
+    };
+    let refusal = refusals::split_refusal(n, settings, xs, ys, ws, sums.len(), places);
+    if refusal != 0 {
+        return CountedSplit {
+            answer: SplitAnswer::Refused(refusal),
+            tests: 0,
+        };
+    }
+    let bound = settings.bound;
+    let criterion = settings.criterion;
+    let s = search(n, bound, criterion, limit, xs, ys, ws, &mut *scratch);
+    lent::clear(scratch, n);
+    if s.number != 0 {
+        return CountedSplit {
+            answer: SplitAnswer::Refused(s.number),
+            tests: s.tests,
+        };
+    }
+    let best = s.best;
+    write(n, best, xs, ys, ws, earlier, later);
+    let d = best.before;
+    let e = best.after;
+    CountedSplit {
+        answer: SplitAnswer::Split {
+            total: best.total,
+            at: best.at,
+            tests: s.tests,
+            before: d,
+            after: e,
+        },
+        tests: s.tests,
+    }
+}
+
+// A split of the book.
 pub fn split(
     book: Book,
     settings: Settings,
@@ -277,32 +338,17 @@ pub fn split(
 ) -> SplitAnswer
     ensures { λ r. ⌜ SplitIs (book .count) settings limit (columnsOf (before xs) (before ys) (before ws)) (before sums) r (lentSplit scratch earlier later) ⌝ }
 {
-    let n = book.count;
-    let places = Places {
-        scratch: scratch.len(),
-        before: earlier.len(),
-        after: later.len(),
-    };
-    let refusal = refusals::split_refusal(n, settings, xs, ys, ws, sums.len(), places);
-    if refusal != 0 {
-        return SplitAnswer::Refused(refusal);
-    }
-    let bound = settings.bound;
-    let criterion = settings.criterion;
-    let s = search(n, bound, criterion, limit, xs, ys, ws, &mut *scratch);
-    lent::clear(scratch, n);
-    if s.number != 0 {
-        return SplitAnswer::Refused(s.number);
-    }
-    let best = s.best;
-    write(n, best, xs, ys, ws, earlier, later);
-    let d = best.before;
-    let e = best.after;
-    SplitAnswer::Split {
-        total: best.total,
-        at: best.at,
-        tests: s.tests,
-        before: d,
-        after: e,
-    }
+    let done = split_within(
+        book,
+        settings,
+        limit,
+        xs,
+        ys,
+        ws,
+        sums,
+        scratch,
+        earlier,
+        later,
+    );
+    done.answer
 }

@@ -11,7 +11,7 @@ use crate::Places;
 use settings::Settings;
 
 // 1, of a split: the sums, and all that it writes.
-fn split_short(n: usize, xs: usize, ys: usize, ws: usize, sums: usize, p: Places) -> bool
+pub fn split_short(n: usize, xs: usize, ys: usize, ws: usize, sums: usize, p: Places) -> bool
     ensures { λ r. ⌜ r ≡ tooShort n (xs ∷ ys ∷ ws ∷ []) (splitNeeds n sums p) ⌝ }
 {
     let fits = refusal::short(TERMS, p.before, refusal::short(TERMS, p.after, false));

@@ -8,3 +8,5 @@ pub mod RefusalLaws
 pub mod Surfaces
 pub mod TriedLaws
 pub mod SurfaceLaws
+pub mod Limited
+pub mod LimitedLaws

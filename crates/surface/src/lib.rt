@@ -7,6 +7,8 @@ use basis::Degree;
 use basis::SUMS;
 use measure::BandAnswer;
 use measure::FitAnswer;
+pub use refusals::report_short as surface_short;
+use reporting::Counted;
 use reporting::Places;
 use reporting::ReportAnswer;
 use settings::Settings;
@@ -27,6 +29,7 @@ ghost use Rattle.measure.specs.Bands.{BandIs};
 ghost use Rattle.reporting.specs.Outputs.{outputs};
 ghost use Rattle.surface.specs.Points.{pointColumns};
 ghost use Rattle.surface.specs.Refusals.{highestTotal};
+ghost use Rattle.surface.specs.Limited.{SurfaceWithinIs};
 ghost use Rattle.surface.specs.Surfaces.{lastTried, surfaceFitOut, surfaceBandOut, SurfaceReportIs};
 
 // The 272 sums over the samples, each at weight 1, from +0.
@@ -150,7 +153,65 @@ pub fn surface_band(
     )
 }
 
-// The report of the total degree that is chosen among those tried. Nothing but scratch is written before 12 is ruled out.
+// The report of the total degree that is chosen among those tried, within a limit of pivot tests. Nothing but scratch is written before 12 is ruled out.
+pub fn surface_report_within(
+    count: usize,
+    settings: Settings,
+    limit: usize,
+    xs: &[f64],
+    zs: &[f64],
+    ys: &[f64],
+    scratch: &mut [f64],
+    coefficients: &mut [f64],
+    errors: &mut [f64],
+    pruned: &mut [u8],
+    lower: &mut [f64],
+    upper: &mut [f64],
+    outliers: &mut [u8],
+) -> Counted
+    ensures { λ r. ⌜ SurfaceWithinIs count settings limit (pointColumns (before xs) (before zs) (before ys)) r (outputs scratch coefficients errors pruned lower upper outliers) ⌝ }
+{
+    let places = Places {
+        scratch: scratch.len(),
+        coefficients: coefficients.len(),
+        errors: errors.len(),
+        pruned: pruned.len(),
+        lower: lower.len(),
+        upper: upper.len(),
+        outliers: outliers.len(),
+    };
+    let refusal = refusals::report_refusal(count, settings, xs, zs, ys, places);
+    if refusal != 0 {
+        return Counted {
+            answer: ReportAnswer::Refused(refusal),
+            tests: 0,
+        };
+    }
+    let bound = settings.bound;
+    let most = statistics::max_degree(bound, count);
+    let last = last_tried(count, most);
+    let sums = sums_of(count, xs, zs, ys);
+    reporting::report_rows(
+        Basis::Surface,
+        count,
+        last,
+        settings,
+        limit,
+        xs,
+        zs,
+        ys,
+        &sums,
+        scratch,
+        coefficients,
+        errors,
+        pruned,
+        lower,
+        upper,
+        outliers,
+    )
+}
+
+// The report of the total degree that is chosen among those tried.
 pub fn surface_report(
     count: usize,
     settings: Settings,
@@ -167,50 +228,10 @@ pub fn surface_report(
 ) -> ReportAnswer
     ensures { λ r. ⌜ SurfaceReportIs count settings (pointColumns (before xs) (before zs) (before ys)) r (outputs scratch coefficients errors pruned lower upper outliers) ⌝ }
 {
-    let places = Places {
-        scratch: scratch.len(),
-        coefficients: coefficients.len(),
-        errors: errors.len(),
-        pruned: pruned.len(),
-        lower: lower.len(),
-        upper: upper.len(),
-        outliers: outliers.len(),
-    };
-    let refusal = refusals::report_refusal(count, settings, xs, zs, ys, places);
-    if refusal != 0 {
-        return ReportAnswer::Refused(refusal);
-    }
-    let bound = settings.bound;
-    let criterion = settings.criterion;
-    let most = statistics::max_degree(bound, count);
-    let last = last_tried(count, most);
-    let sums = sums_of(count, xs, zs, ys);
-    let m = reporting::choose(
-        Basis::Surface,
-        count,
-        last,
-        criterion,
-        xs,
-        zs,
-        ys,
-        &sums,
-        &mut *scratch,
-    );
-    if m.number != 0 {
-        lent::clear(scratch, count);
-        return ReportAnswer::Refused(m.number);
-    }
-    let choice = m.choice;
-    let c = m.c;
-    let v = m.covariance;
-    reporting::write(
-        Basis::Surface,
+    let done = surface_report_within(
         count,
         settings,
-        m.degree,
-        choice.solved,
-        c,
-        v,
+        reporting::NO_LIMIT,
         xs,
         zs,
         ys,
@@ -221,5 +242,6 @@ pub fn surface_report(
         lower,
         upper,
         outliers,
-    )
+    );
+    done.answer
 }

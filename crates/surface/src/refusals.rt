@@ -29,7 +29,7 @@ fn fit_short(n: usize, xs: usize, zs: usize, ys: usize, scratch: usize, coeffici
 }
 
 // 1, of a report: all that it writes.
-fn report_short(n: usize, xs: usize, zs: usize, ys: usize, p: Places) -> bool
+pub fn report_short(n: usize, xs: usize, zs: usize, ys: usize, p: Places) -> bool
     ensures { λ r. ⌜ r ≡ tooShort n (xs ∷ zs ∷ ys ∷ []) (surfaceReportNeeds n p) ⌝ }
 {
     let bands = refusal::short(
