@@ -21,12 +21,12 @@ use Rattle.ledger.proofs.Steps.{Holds, Leaves, leaves-all, held-by, ste
 
 module _ {R W : Type 0} (readOn : Reading R W) (m : Lent) (rest : List Float) where
   -- one call, on both sides
-  leaves-next : (s : State) (l : List Sample) (c : Call R) → Holds m rest l s → Leaves m rest s (ledgerNext m l c) (next s c)
+  pub leaves-next : (s : State) (l : List Sample) (c : Call R) → Holds m rest l s → Leaves m rest s (ledgerNext m l c) (next s c)
   unfolding next ledgerNext
   leaves-next s l (changes c) h = step m rest l s h c .leaves
   leaves-next s l (reads q) h = leaves-all m rest l s h
 
-  reply-next : (s : State) (l : List Sample) (c : Call R) → Holds m rest l s → reply readOn s c ≡ ledgerReply readOn m l c
+  pub reply-next : (s : State) (l : List Sample) (c : Call R) → Holds m rest l s → reply readOn s c ≡ ledgerReply readOn m l c
   unfolding reply ledgerReply
   reply-next s l (changes c) h = ap said (step m rest l s h c .answer)
   reply-next s l (reads q) h =
@@ -85,6 +85,12 @@ opened-holds columns sums h =
   where
     none : (k : Column) → take 0 (columns k) ≡ map (value k) []
     none k = refl
+
+-- so a book just opened holds the empty ledger
+pub opened-now : (columns : Columns) (sums : List Float) → openOut sums .answer ≡ bookOf 0 → Holds (lentOf columns sums) (drop 272 sums) [] (opened columns sums)
+opened-now columns sums h =
+    let e = not-refused sums (openRefusal (length sums)) refl h in
+    subst (λ (t : State). Holds (lentOf columns sums) (drop 272 sums) [] t) (opened-is columns sums e) (opened-holds columns sums (open-room (length sums) e))
 
 pub whole-list : {R W : Type 0} (readOn : Reading R W) → WholeList readOn
 whole-list readOn columns sums h cs =

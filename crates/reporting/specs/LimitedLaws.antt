@@ -1,6 +1,6 @@
--- Laws of a report within a limit: no report makes more than 256 pivot tests, and within such a limit it is the report.
-use mathlib.Core.Path.{_≡_, ap, _∙_}
-use mathlib.Core.Bool.{cond}
+-- Laws of a report within a limit: no report makes more than 256 pivot tests, within such a limit it is the report, and no report past the limit is refused by 16.
+use mathlib.Core.Path.{_≡_, refl, ap, _∙_}
+use mathlib.Core.Bool.{Bool, true, false, cond}
 use mathlib.Core.List.{List, map}
 use Prim.Native.Nat.{ℕ, zero, suc, _+_, _*_, _≤_, _<_}
 use native.Mathlib.Omega.{arith}
@@ -14,13 +14,18 @@ use Rattle.loops.specs.PlaceLaws.{map-table}
 use Rattle.basis.specs.Counts.{countOf}
 use Rattle.basis.specs.CountLaws.{count-mono}
 use Rattle.basis.specs.declared.Basis.{Basis}
+use Rattle.basis.specs.declared.OptionDegree.{OptionDegree}
+use Rattle.basis.specs.declared.OptionDegree.the-variants.{Some, None}
 use Rattle.monomial.specs.Rows.{Row}
 use Rattle.fit.specs.Chosen.{countsOf, testsOf}
 use Rattle.fit.specs.Solved.{pivotTests}
 use Rattle.fit.specs.declared.Choice.{Choice}
+use Rattle.measure.specs.Measures.{inverseFails}
 use Rattle.settings.specs.declared.Settings.{Settings}
 use Rattle.reporting.specs.Limited.{limitedOf}
-use Rattle.reporting.specs.Reports.{reportOf}
+use Rattle.reporting.specs.Chosen.{chosenRefusal}
+use Rattle.reporting.specs.ChosenLaws.{of-number}
+use Rattle.reporting.specs.Reports.{reportNumber, refusedLate, writtenBy, reportOf}
 
 at-most : (sums : List Float) (k : ℕ) → pivotTests sums k ≤ k
 unfolding pivotTests
@@ -54,3 +59,27 @@ pub within-limit : (basis : Basis) (n : ℕ) (settings : Settings) (limit : ℕ)
     → limitedOf basis n settings limit rows sums choice ≡ record { does = reportOf basis n settings rows sums (choice .solved) (choice .chosen); taken = choice .tests }
 unfolding limitedOf
 within-limit basis n settings limit rows sums choice h = rw (le-ltb limit (choice .tests) h)
+
+-- ---- a report's number past 1 to 9
+
+written-number : (basis : Basis) (n : ℕ) (settings : Settings) (rows : List Row) (degree solved : ℕ) (c v : List Float)
+    → reportNumber (writtenBy basis n settings rows degree solved c v .answer) ≡ 0
+unfolding writtenBy
+written-number basis n settings rows degree solved c v = refl
+
+-- it is that of the choice,
+pub report-number : (basis : Basis) (n : ℕ) (settings : Settings) (rows : List Row) (sums : List Float) (solved : ℕ) (o : OptionDegree)
+    → reportNumber (reportOf basis n settings rows sums solved o .answer) ≡ chosenRefusal basis o sums
+unfolding reportOf
+report-number basis n settings rows sums solved =
+    of-number basis sums (refusedLate n) _ (λ w. reportNumber (w .answer)) (λ r. refl) (λ d. written-number basis n settings rows (d .0) solved _ _)
+
+-- which is never 16
+pub chosen-not-16 : (basis : Basis) (o : OptionDegree) (sums : List Float) → chosenRefusal basis o sums ≡ 16 → ⊥
+unfolding chosenRefusal
+chosen-not-16 basis None sums e = omega arith
+chosen-not-16 basis (Some d) sums e = go (inverseFails sums (countOf basis (d .0))) e
+  where
+    go : (t : Bool) → _≡_ {A = ℕ} (cond t 12 0) 16 → ⊥
+    go true q = omega arith
+    go false q = omega arith

@@ -1,0 +1,116 @@
+-- What is claimed of eight groups that share one table. The theorems are proved in proofs/Groups.antt. Definitions only.
+use mathlib.Core.Path.{_≡_}
+use mathlib.Core.List.{List, [], _∷_, _++_, map}
+use Prim.Native.Nat.{ℕ, _+_, _≤_, _<_}
+use lib.ListN.{length, take}
+use lib.Ieee.{Float}
+use Rattle.basis.specs.Sizes.{sumPlaces}
+use Rattle.loops.specs.Fold.{fold}
+use Rattle.runs.specs.Runs.{replies, only, pick, along}
+use Rattle.samples.specs.Samples.{Sample}
+use Rattle.samples.specs.Columns.{Column, value, Columns}
+use Rattle.monomial.specs.Rows.{weightedRows}
+use Rattle.monomial.specs.Sums.{sumsOf}
+use Rattle.refusal.specs.Refusals.{settle}
+use Rattle.settings.specs.declared.Settings.{Settings}
+use Rattle.reporting.specs.declared.Places.{Places}
+use Rattle.reporting.specs.Reports.{ReportOut, reportNumber}
+use Rattle.split.specs.Splits.{splitNumber}
+use Rattle.measure.specs.Fits.{fitNumber}
+use Rattle.measure.specs.Bands.{bandNumber}
+use Rattle.losses.specs.Losses.{lossNumber}
+use Rattle.scores.specs.Scores.{scoresNumber}
+use Rattle.book.specs.Calls.{State, bookOf, openOut}
+use Rattle.ledger.specs.Ledger.{Lent, lentOf, opened}
+use Rattle.ledger.specs.ReadCalls.{Told, fitReply, bandReply, reportReply, splitReply, lossReply, scoresReply}
+use Rattle.ledger.specs.Words.{Words}
+use Rattle.allowance.specs.Table.{groups, tablePlaces, startOut}
+use Rattle.allowance.specs.declared.TableAnswer.the-variants as answers
+use Rattle.groups.specs.Calls.{CostCall, groupReports, GroupCall, books, surfaces, costs, costOf, costReply}
+use Rattle.groups.specs.Ledger.{Fed, starts, renews, calls, GroupLedger, refusedBy, costing, costTold, groupNext, groupLedger}
+use Rattle.groups.specs.Shared.{Shared, SharedCall, sharedNext, shared, mine, seenBy}
+
+-- ---- isolation
+
+-- A group's answers may depend on its own samples, settings, calls, the lengths of memory lent in them, the quota and the renewals, in their order, and on
+-- nothing of the other seven: where it sees the same at first, and is fed the same, it gets the same replies, every value written among them, and ends with
+-- the same book, columns, sums and counter. ds may be the list without the others' calls.
+abbrev pub Isolated : Type 0
+Isolated =
+    (group : ℕ) → group < groups → (s t : Shared) → tablePlaces ≤ length (s .table) → length (s .table) ≡ length (t .table) → seenBy group s ≡ seenBy group t
+    → (cs ds : List SharedCall) → only (mine group) cs ≡ only (mine group) ds
+    → (pick (mine group) cs (replies shared s cs) ≡ pick (mine group) ds (replies shared t ds))
+    × (seenBy group (fold sharedNext s cs) ≡ seenBy group (fold sharedNext t ds))
+
+-- ---- the ledger
+
+-- what the program keeps of a group is what the group's ledger has
+pub record Keeps (group : ℕ) (s : Shared) (g : GroupLedger) : Type 0 where
+  pub book : s .books group .count ≡ length (g .samples)
+  pub below : (k : Column) → take (s .books group .count) (s .books group .columns k) ≡ map (value k) (g .samples)
+  pub sums : take sumPlaces (s .books group .sums) ≡ sumsOf (weightedRows (g .samples))
+  pub counter : seenBy group s .counter ≡ g .counter
+  pub quota : seenBy group s .quota ≡ g .quota
+
+-- books just opened, and a table just started with the quota
+abbrev pub begun : (ℕ → Columns) → (ℕ → List Float) → ℕ → List ℕ → Shared
+begun columns sums quota table = record { books = λ h. opened (columns h) (sums h); table = startOut quota table .table }
+
+abbrev pub newLedger : ℕ → GroupLedger
+newLedger quota = record { samples = []; counter = quota; quota = quota }
+
+-- Take any list of starts, renewals and calls of all groups, refused ones included, in any order, from books just opened and a table just started. A group's
+-- replies are those of its ledger, which is fed the quota, the renewals and the group's own calls, and keeps the counter by the rule.
+abbrev pub AnyGroups : Type 0
+AnyGroups =
+    (columns : ℕ → Columns) (sums : ℕ → List Float) (quota : ℕ) (table : List ℕ) → startOut quota table .answer ≡ answers.Done
+    → (group : ℕ) → group < groups → openOut (sums group) .answer ≡ bookOf 0 → (cs : List SharedCall)
+    → let m = lentOf (columns group) (sums group) in
+    let fed = only (mine group) cs in
+    (pick (mine group) cs (replies shared (begun columns sums quota table) cs) ≡ replies (groupLedger group (length table) m) (newLedger quota) fed)
+    × Keeps group (fold sharedNext (begun columns sums quota table) cs) (fold (groupNext group (length table) m) (newLedger quota) fed)
+
+-- ---- a call that costs, by the ledger
+
+-- the number of an answer: 0 where it is none
+unfoldable pub toldNumber : Told → ℕ
+toldNumber (fitReply o) = fitNumber (o .answer)
+toldNumber (bandReply o) = bandNumber (o .answer)
+toldNumber (reportReply o) = reportNumber (o .answer)
+toldNumber (splitReply o) = splitNumber (o .answer)
+toldNumber (lossReply o) = lossNumber (o .answer)
+toldNumber (scoresReply o) = scoresNumber (o .answer)
+
+-- group is the group's number, table the length of the table, l the ledger's samples
+module _ (group table : ℕ) (m : Lent) (counter : ℕ) (l : List Sample) where
+  pub record Costs (q : CostCall) : Type 0 where
+    -- 16 comes exactly where 1 to 9 do not, and the ledger's counter is below the cost
+    pub over : refusedBy group table m l q ≡ 0 → counter < costing group table m l q → toldNumber (costTold group table m counter l q) ≡ 16
+    pub only-over : toldNumber (costTold group table m counter l q) ≡ 16 → (refusedBy group table m l q ≡ 0) × (counter < costing group table m l q)
+
+  -- Demand 3 speaks of the reports that 16 and 17 let through: its words hold of them.
+  abbrev pub ReportLetThrough : Settings → Places → Type 0
+  ReportLetThrough settings places =
+      refusedBy group table m l (groupReports settings places) ≡ 0 → costing group table m l (groupReports settings places) ≤ counter
+      → (o : ReportOut) × (costTold group table m counter l (groupReports settings places) ≡ reportReply o) × Words settings l o
+
+-- ---- right after a renewal
+
+-- the group's ledger made so many calls, of no start or renewal
+abbrev pub afterCalls : ℕ → ℕ → Lent → GroupLedger → GroupCall → GroupLedger
+afterCalls group table m g c = groupNext group table m g (calls c)
+
+-- what a call costs: nothing, unless it is one that costs and 1 to 9 let it through
+abbrev pub costFor : ℕ → ℕ → Lent → GroupLedger → GroupCall → ℕ
+costFor group table m g (books c) = 0
+costFor group table m g (surfaces q) = 0
+costFor group table m g (costs q) = settle (refusedBy group table m (g .samples) q) (costing group table m (g .samples) q) 0
+
+-- Work that costs at most the quota gets through right after a renewal: of a list of calls whose costs add up to at most the quota none is refused by 16.
+abbrev pub GetsThrough : Type 0
+GetsThrough =
+    (group table : ℕ) (m : Lent) (g : GroupLedger) → tablePlaces ≤ table → (before : List GroupCall) (q : CostCall) (after : List GroupCall)
+    → let start = groupNext group table m g renews in
+    along (afterCalls group table m) (costFor group table m) start (before ++ (costs q ∷ after)) ≤ g .quota
+    → let then = fold (afterCalls group table m) start before in
+    toldNumber (costTold group table m (then .counter) (then .samples) q) ≡ 16 → ⊥
