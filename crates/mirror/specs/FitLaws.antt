@@ -1,7 +1,7 @@
 -- The fit of rows alike but for the sign of y: residuals are opposite, so that their sizes, their losses, the solved degrees, every score and the choice are equal,
 -- bit for bit.
-use mathlib.Core.Path.{_≡_, refl, sym, ap, ap₂, fun-ext, _∙_}
-use mathlib.Core.Bool.{Bool, _&&_}
+use mathlib.Core.Path.{_≡_, sym, ap, ap₂, fun-ext, _∙_}
+use mathlib.Core.Bool.{_&&_}
 use mathlib.Core.List.{List, map}
 use Prim.Native.Nat.{ℕ, _+_, min}
 use lib.Dec.{eqb}
@@ -25,7 +25,7 @@ use Rattle.fit.specs.Chosen.{tried, testsOf, flagsOf, scoresOf, choiceOf}
 use Rattle.signs.specs.Opposite.{Opposite}
 use Rattle.signs.specs.OppositeLaws.{opposite-nan}
 use Rattle.signs.specs.Steps.{sub-opposite, mul-opposite-left, abs-opposite, finite-opposite}
-use Rattle.mirror.specs.PairLaws.{pairs-length, pairs-at, pairs-table, pairs-map, pairs-equal, pairs-fold}
+use Rattle.mirror.specs.PairLaws.{pairs-length, pairs-at, pairs-table, pairs-map, pairs-equal, pairs-all}
 use Rattle.mirror.specs.Mirror.{MirrorRows, Opposites, MirrorSums}
 use Rattle.mirror.specs.SumLaws.{total-opposite}
 use Rattle.mirror.specs.SolveLaws.{held-mirror, coefficients-mirror}
@@ -44,7 +44,7 @@ module _ {l m : List Float} (o : Opposites l m) where
   variance-mirror k = sym (variance-sizes k l) ∙ ap (residualVariance k) sizes-mirror ∙ variance-sizes k m
 
   pub finite-mirror : allOf finite l ≡ allOf finite m
-  finite-mirror = pairs-fold (λ (b c : Bool). b ≡ c) (λ b a. b && finite a) (λ b a. b && finite a) (λ b c x y e q. ap₂ _&&_ e (finite-opposite q)) refl o
+  finite-mirror = pairs-all finite finite (λ a b q. finite-opposite q) o
 
 -- ---- fitted values and residuals
 

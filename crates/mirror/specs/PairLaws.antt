@@ -1,10 +1,11 @@
 -- Laws of Pairs.antt.
 use mathlib.Core.Path.{_≡_, refl, ap, ap₂}
+use mathlib.Core.Bool.{Bool, _&&_}
 use mathlib.Core.List.{List, [], _∷_, _++_, map}
 use Prim.Native.Nat.{ℕ, zero, suc, _<_}
 use native.Mathlib.Omega.{arith}
 use lib.ListN.{length, getD, set, take, drop, replicate}
-use Rattle.loops.specs.Fold.{fold}
+use Rattle.loops.specs.Fold.{fold, allOf}
 use Rattle.loops.specs.Places.{each, table}
 use Rattle.runs.specs.Runs.{Each}
 use Rattle.mirror.specs.Pairs.{Pairs, none, and}
@@ -66,6 +67,10 @@ module _ {A B : Type 0} {R : A → B → Type 0} where
   unfolding fold
   pairs-fold Q f g h q none = q
   pairs-fold Q f g h q (and r p) = pairs-fold Q f g h (h _ _ _ _ q r) p
+
+  -- a test of every element
+  pub pairs-all : (f : A → Bool) (g : B → Bool) → ((a : A) (b : B) → R a b → f a ≡ g b) → {l : List A} {m : List B} → Pairs R l m → allOf f l ≡ allOf g m
+  pairs-all f g h p = pairs-fold (λ (b c : Bool). b ≡ c) (λ b a. b && f a) (λ c a. c && g a) (λ b c x y e r. ap₂ _&&_ e (h x y r)) refl p
 
 pub pairs-replicate : {A B : Type 0} (R : A → B → Type 0) {a : A} {b : B} → R a b → (n : ℕ) → Pairs R (replicate n a) (replicate n b)
 pairs-replicate R r zero = none
