@@ -10,3 +10,6 @@ pub mod FrameLaws
 pub mod Calls
 pub mod CallLaws
 pub mod Image
+pub mod Flipped
+pub mod TextLaws
+pub mod FlippedLaws
