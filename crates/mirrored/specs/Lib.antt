@@ -13,3 +13,5 @@ pub mod Image
 pub mod Flipped
 pub mod TextLaws
 pub mod FlippedLaws
+pub mod OldRule
+pub mod OldRuleLaws
