@@ -3,7 +3,6 @@ use mathlib.Core.Path.{_≡_, ap, fun-ext}
 use mathlib.Core.List.{List}
 use Prim.Native.Nat.{ℕ, _+_, _-_}
 use lib.ListN.{length}
-use lib.Ieee.{Float}
 use Rattle.loops.specs.Places.{table}
 use Rattle.value.specs.Total.{totalF}
 use Rattle.basis.specs.Counts.{countOf}

@@ -1,5 +1,5 @@
 -- The sums of rows alike but for the sign of y: the 256 places of A are equal, and those of g are opposite.
-use mathlib.Core.Path.{_≡_, sym, ap₂, subst₂}
+use mathlib.Core.Path.{sym, ap₂, subst₂}
 use mathlib.Core.List.{List}
 use Prim.Native.Nat.{ℕ}
 use lib.ListN.{getD}

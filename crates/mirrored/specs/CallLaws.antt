@@ -1,36 +1,31 @@
 -- Laws of Calls.antt: what one call and its mirror image leave and reply, by the ledger, and so a list of them.
-use mathlib.Core.Path.{_≡_, refl}
+use mathlib.Core.Path.{_≡_}
 use mathlib.Core.Bool.{Bool, true, false, cond}
-use mathlib.Core.List.{List, [], _∷_}
+use mathlib.Core.List.{List}
 use Prim.Native.Nat.{ℕ, zero, suc, _+_}
 use lib.Dec.{eqb}
 use lib.ListN.{length}
 use lib.Ieee.{Float}
 use Rattle.loops.specs.Fold.{fold}
 use Rattle.runs.specs.Runs.{Machine, replies}
-use Rattle.basis.specs.Counts.{countOf}
-use Rattle.basis.specs.declared.Basis.the-variants.{Curve}
 use Rattle.samples.specs.Samples.{Sample}
 use Rattle.monomial.specs.Rows.{weightedRows}
 use Rattle.monomial.specs.Sums.{sumsOf}
 use Rattle.refusal.specs.Tests.{capacity}
-use Rattle.settings.specs.declared.Settings.{Settings}
 use Rattle.book.specs.Refusals.{addRefusal, correctRefusal, withdrawRefusal, frameAddRefusal, linesAddRefusal}
 use Rattle.book.specs.Window.{windowRefusal}
-use Rattle.ledger.specs.Ledger.{Change, Call, changes, reads, told, Lent, newY, without, changed, refusalOf, ledgerNext, ledgerReply, ledgerEnd, ledgerReplies}
+use Rattle.ledger.specs.Ledger.{Change, Call, changes, Lent, newY, without, changed, refusalOf, ledgerNext, ledgerReply}
 use Rattle.ledger.specs.ReadCalls.{ReadCall, readOn}
-use Rattle.ledger.specs.Words.{scored}
 use Rattle.signs.specs.Opposite.{Opposite}
 use Rattle.signs.specs.Steps.{finite-opposite}
 use Rattle.mirror.specs.Pairs.{Pairs, none, and}
 use Rattle.mirror.specs.PairLaws.{pairs-length, pairs-append, pairs-take, pairs-drop}
-use Rattle.mirror.specs.FitLaws.{scored-mirror}
-use Rattle.mirrored.specs.Samples.{MirrorSample, MirrorSamples}
-use Rattle.mirrored.specs.SampleLaws.{rows-mirror, book-sums-mirror, sample-finite-mirror, weight-above-mirror, all-finite-mirror, all-above-mirror}
+use Rattle.mirrored.specs.Samples.{MirrorSamples}
+use Rattle.mirrored.specs.SampleLaws.{book-sums-mirror, sample-finite-mirror, weight-above-mirror, all-finite-mirror, all-above-mirror}
 use Rattle.mirrored.specs.Replies.{MirrorTold, PrunesBySize}
 use Rattle.mirrored.specs.ReplyLaws.{settle-mirror}
 use Rattle.mirrored.specs.ReadLaws.{read-on-mirror}
-use Rattle.mirrored.specs.Calls.{MirrorChange, adding, correcting, withdrawing, framing, writing, windowing, MirrorCall, changing, reading, MirrorCalls, MirrorReply, answer, reply, ByCall, noCall, nextCall}
+use Rattle.mirrored.specs.Calls.{MirrorChange, adding, correcting, withdrawing, framing, writing, windowing, MirrorCall, changing, reading, MirrorReply, answer, reply, ByCall, noCall, nextCall}
 
 -- ---- a call that changes a book
 

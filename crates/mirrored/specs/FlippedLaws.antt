@@ -3,20 +3,18 @@ use mathlib.Core.Path.{_≡_, refl, sym, _∙_}
 use mathlib.Core.Bool.{cond}
 use mathlib.Core.Logic.{inl, inr}
 use mathlib.Core.List.{List, [], _∷_, map}
-use Prim.Native.Nat.{ℕ, _+_, _%_, _<_}
+use Prim.Native.Nat.{ℕ, _%_, _<_}
 use native.Mathlib.Omega.{arith}
 use borrow.Author.Tests.{eq-eqb, ne-eqb}
 use lib.Dec.{eqb}
 use lib.ListN.{length, getD, List·getD-eq-default}
-use lib.Ieee.{neg}
 use Rattle.loops.specs.All.{All}
 use Rattle.loops.specs.AllLaws.{all-at}
 use Rattle.loops.specs.Cases.{either}
-use Rattle.loops.specs.Places.{table}
 use Rattle.loops.specs.PlaceLaws.{length-table, table-at}
 use Rattle.samples.specs.Samples.{Sample}
 use Rattle.frame.specs.Frame.{weighted, sampleBytes}
-use Rattle.ledger.specs.Ledger.{Change, adds, corrects, withdraws, frames, texts, windows, Call, changes, reads}
+use Rattle.ledger.specs.Ledger.{adds, corrects, withdraws, frames, texts, windows, Call, changes, reads}
 use Rattle.ledger.specs.ReadCalls.{ReadCall}
 use Rattle.signs.specs.OppositeLaws.{opposite-of}
 use Rattle.mirror.specs.Pairs.{none, and}

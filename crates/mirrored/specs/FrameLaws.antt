@@ -1,7 +1,7 @@
 -- Laws of Frames.antt: frames whose bytes differ in the sign of every y hold samples that do.
 use mathlib.Core.Path.{_≡_, refl, sym, ap, ap₂, subst, _∙_}
 use mathlib.Core.Bool.{Bool, true, false, cond}
-use mathlib.Core.Logic.{_⊎_, inl, inr}
+use mathlib.Core.Logic.{inl, inr}
 use mathlib.Core.List.{List, [], _∷_}
 use Prim.Native.Nat.{ℕ, suc, _+_, _-_, _*_, _/_, _%_, _^_, _≤_, _<_, min}
 use native.Mathlib.Nat.{mul-le-mul-right, pow-succ'}
@@ -10,7 +10,7 @@ use native.Mathlib.Omega.{arith}
 use lib.Dec.{eqb}
 use lib.ListN.{length, getD, take, drop, length-take, length-drop}
 use lib.Seq.{ext-getD, getD-take, getD-drop, drop-cons, length-take-le}
-use lib.Ieee.{Float, binary64, ofBits}
+use lib.Ieee.{binary64, ofBits}
 use Rattle.loops.specs.All.{All}
 use Rattle.loops.specs.AllLaws.{all-part}
 use Rattle.loops.specs.Digits.{number}
@@ -19,12 +19,11 @@ use Rattle.loops.specs.Fold.{fold}
 use Rattle.loops.specs.Places.{table}
 use Rattle.value.specs.Numbers.{oneF}
 use Rattle.frame.specs.Bytes.{word, floatAt}
-use Rattle.frame.specs.Frame.{weighted, sampleBytes, placeOf, sampleFrom, wrongLength, wrongVersion, decode}
+use Rattle.frame.specs.Frame.{weighted, sampleBytes, placeOf, sampleFrom, decode}
 use Rattle.signs.specs.Opposite.{Opposite}
 use Rattle.signs.specs.OppositeLaws.{opposite-sym}
 use Rattle.signs.specs.Bits.{bits-opposite}
 use Rattle.mirror.specs.PairLaws.{pairs-table}
-use Rattle.mirrored.specs.Samples.{MirrorSample, MirrorSamples}
 use Rattle.mirrored.specs.Frames.{MirrorFrame, Flipped, SignsFlipped}
 
 -- a word is read from its own bytes

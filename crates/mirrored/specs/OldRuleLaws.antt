@@ -1,10 +1,7 @@
 -- OldRule.antt, computed.
-use mathlib.Core.Path.{_≡_, refl}
-use mathlib.Core.Bool.{true, false, cond, _&&_}
-use mathlib.Core.List.{List, _∷_}
-use Prim.Native.Nat.{ℕ}
+use mathlib.Core.Path.{refl}
 use lib.Count.{trailingZeros}
-use lib.Ieee.{Float, ofBits, toBits, round, size, span, climb, odd, units, sum, add, sub, mul, div, neg, lt, le, eq, isNan, ofInt}
+use lib.Ieee.{ofBits, toBits, round, size, span, climb, odd, units, sum, add, sub, mul, div, neg, lt, le, eq, isNan, ofInt}
 use Rattle.loops.specs.Loop.{from, turns, while, tries, seek, seeks}
 use Rattle.loops.specs.Places.{each, table}
 use Rattle.loops.specs.Fold.{fold}

@@ -1,5 +1,5 @@
 -- Each call that reads a book, asked alike of samples alike but for the sign of every y, with sums to match: one law a call, and `read-on-mirror` for any.
-use mathlib.Core.Path.{_≡_, refl, ap, ap₂}
+use mathlib.Core.Path.{_≡_, refl}
 use mathlib.Core.List.{List}
 use Prim.Native.Nat.{ℕ}
 use lib.Ieee.{Float}
@@ -7,21 +7,16 @@ use Rattle.basis.specs.Counts.{countOf}
 use Rattle.basis.specs.declared.Basis.the-variants.{Curve}
 use Rattle.basis.specs.declared.OptionDegree.{OptionDegree}
 use Rattle.basis.specs.declared.OptionDegree.the-variants.{Some, None}
-use Rattle.value.specs.Total.{totalF}
 use Rattle.statistics.specs.Degrees.{maxDegree}
 use Rattle.statistics.specs.declared.Confidence.{Confidence}
 use Rattle.statistics.specs.declared.DegreeBound.{DegreeBound}
 use Rattle.statistics.specs.declared.Tolerance.{Tolerance}
 use Rattle.samples.specs.Samples.{Sample}
-use Rattle.monomial.specs.Rows.{Row, rowsOf, weightedRows}
+use Rattle.monomial.specs.Rows.{rowsOf, weightedRows}
 use Rattle.score.specs.declared.Criterion.{Criterion}
-use Rattle.score.specs.Score.{scoreOf}
 use Rattle.fit.specs.Chosen.{countsOf}
-use Rattle.fit.specs.declared.Choice.{Choice}
 use Rattle.folds.specs.Folds.{validatedChoice}
-use Rattle.lent.specs.Written.{zeros}
 use Rattle.settings.specs.declared.Settings.{Settings}
-use Rattle.measure.specs.Fits.{FitOut, fitRefused}
 use Rattle.query.specs.Refusals.{fitRefusal, validateRefusal, bandRefusal}
 use Rattle.query.specs.Fits.{fitOn, validatePast, validateOn}
 use Rattle.query.specs.Bands.{bandFor}
@@ -32,9 +27,9 @@ use Rattle.split.specs.declared.Places.{Places as SplitPlaces}
 use Rattle.split.specs.Refusals.{splitRefusal}
 use Rattle.split.specs.Splits.{splitOn}
 use Rattle.losses.specs.Refusals.{lossRefusal}
-use Rattle.losses.specs.Losses.{LossOut, lossRefused, lossLate, lossesAt, lossesBy, lossOf, lossPast, lossOn}
+use Rattle.losses.specs.Losses.{LossOut, lossLate, lossesAt, lossesBy, lossOf, lossPast, lossOn}
 use Rattle.scores.specs.Refusals.{scoresRefusal}
-use Rattle.scores.specs.Scores.{ScoresOut, scoresRefused, scoresLate, scoresBy, scoresOf, scoresPast, scoresOn}
+use Rattle.scores.specs.Scores.{ScoresOut, scoresLate, scoresBy, scoresOf, scoresPast, scoresOn}
 use Rattle.ledger.specs.ReadCalls.{ReadCall, fits, validates, bands, reports, splits, losses, scores, readOn}
 use Rattle.mirror.specs.Pairs.{none}
 use Rattle.mirror.specs.Mirror.{MirrorSums}

@@ -1,7 +1,6 @@
 -- What the calls that read answer and write, of samples alike but for the sign of every y: what is equal, bit for bit, and what changes sign. Losses and scores
 -- are equal whole. Definitions only.
 use mathlib.Core.Path.{_≡_}
-use mathlib.Core.List.{List}
 use Prim.Native.Nat.{ℕ}
 use Rattle.basis.specs.declared.Degree.{Degree}
 use Rattle.covariance.specs.declared.Band.{Band}

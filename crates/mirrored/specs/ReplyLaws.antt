@@ -4,7 +4,6 @@ use mathlib.Core.Bool.{Bool, true, false, cond}
 use mathlib.Core.List.{List}
 use Prim.Native.Nat.{ℕ, zero, suc}
 use lib.Ieee.{Float}
-use lib.ListN.{take, drop}
 use Rattle.basis.specs.Counts.{countOf}
 use Rattle.basis.specs.declared.Basis.{Basis}
 use Rattle.basis.specs.declared.Degree.{Degree}
@@ -26,14 +25,14 @@ use Rattle.refusal.specs.Refusals.{settle}
 use Rattle.settings.specs.declared.Settings.{Settings}
 use Rattle.measure.specs.Places.{termPlaces}
 use Rattle.measure.specs.Measures.{inverseFails, measureRefusal, covarianceAt}
-use Rattle.measure.specs.Fits.{FitOut, fitRefused, fitPast}
-use Rattle.measure.specs.Bands.{BandOut, bandRefused, bandOn, bandPast}
+use Rattle.measure.specs.Fits.{fitRefused, fitPast}
+use Rattle.measure.specs.Bands.{bandRefused, bandOn, bandPast}
 use Rattle.reporting.specs.Chosen.{ofChosen}
-use Rattle.reporting.specs.Reports.{ReportOut, refusedEarly, refusedLate, writtenBy, reportOf}
+use Rattle.reporting.specs.Reports.{refusedEarly, refusedLate, writtenBy, reportOf}
 use Rattle.split.specs.declared.Best.{Best}
 use Rattle.split.specs.Refusals.{searchRefusal}
 use Rattle.split.specs.Search.{bestBreak, searchTests}
-use Rattle.split.specs.Splits.{SplitOut, splitRefused, splitAt, splitPast}
+use Rattle.split.specs.Splits.{splitRefused, splitAt, splitPast}
 use Rattle.mirror.specs.Pairs.{none}
 use Rattle.mirror.specs.PairLaws.{pairs-take, pairs-drop}
 use Rattle.mirror.specs.Mirror.{MirrorRows, MirrorWeights, Opposites, MirrorSums, MirrorBand}
@@ -43,7 +42,7 @@ use Rattle.mirror.specs.CovarianceLaws.{fails-mirror, measure-mirror, covarianc
 use Rattle.mirror.specs.BandLaws.{rows-deviation-mirror, band-mirror, lowers-mirror, uppers-mirror, outliers-mirror}
 use Rattle.mirror.specs.PruningLaws.{pruned-mirror}
 use Rattle.mirror.specs.SplitLaws.{side-fit-mirror, best-mirror, search-mirror}
-use Rattle.mirrored.specs.Replies.{MirrorFit, MirrorBandAnswer, band, refused, MirrorBandOut, MirrorOutputs, MirrorReport, MirrorAnswer, report, MirrorSplit, BySize}
+use Rattle.mirrored.specs.Replies.{MirrorFit, MirrorBandAnswer, band, refused, MirrorBandOut, MirrorReport, MirrorAnswer, report, MirrorSplit, BySize}
 
 -- ---- the same number refuses both, or neither
 

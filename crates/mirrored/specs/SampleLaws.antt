@@ -1,13 +1,11 @@
 -- Laws of Samples.antt: the rows of such samples, their sums, and the tests that refuse them.
 use mathlib.Core.Path.{_≡_, refl, ap, ap₂}
-use mathlib.Core.Bool.{Bool, _&&_}
 use mathlib.Core.List.{List}
-use lib.Ieee.{Float, lt}
+use lib.Ieee.{lt}
 use Rattle.basis.specs.Sizes.{maxTerms}
 use Rattle.basis.specs.declared.Basis.the-variants.{Surface}
 use Rattle.loops.specs.Places.{table}
 use Rattle.value.specs.Power.{powerF}
-use Rattle.value.specs.Finite.{finite}
 use Rattle.value.specs.Numbers.{zeroF}
 use Rattle.samples.specs.Samples.{Sample, xsOf}
 use Rattle.monomial.specs.Terms.{termsAt}

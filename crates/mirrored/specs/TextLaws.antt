@@ -1,26 +1,25 @@
 -- Laws of `flipText`: of every text, well formed or not, it is the mirror image.
 use mathlib.Core.Path.{_≡_, refl, sym, ap, ap₂, subst, _∙_}
-use mathlib.Core.Bool.{Bool, true, false, cond, not, _&&_}
+use mathlib.Core.Bool.{Bool, true, false, cond, not}
 use mathlib.Core.List.{List, [], _∷_, _++_, map, append-assoc}
-use Prim.Native.Nat.{ℕ, zero, suc, _+_, _≤_, _<_, _^_}
+use Prim.Native.Nat.{ℕ, zero, suc, _+_, _<_, _^_}
 use native.Mathlib.Omega.{arith}
 use borrow.Author.Tests.{ne-eqb, eqb-true}
 use lib.Dec.{eqb}
-use lib.ListN.{length, getD, take, drop, length-append, drop-of-length-le}
+use lib.ListN.{length, take, drop, length-append}
 use lib.Seq.{take-at, drop-at}
-use lib.Ieee.{Float, nan, binary64, round}
+use lib.Ieee.{Float, binary64, round}
 use Rattle.bytes.specs.Bytes.{indexOf, indexAfter}
 use Rattle.loops.specs.All.{All}
-use Rattle.loops.specs.Cases.{by-test, either, and-first, never}
+use Rattle.loops.specs.Cases.{by-test, and-first, never}
 use Rattle.loops.specs.FoldLaws.{all-cons}
 use Rattle.samples.specs.Samples.{Sample}
-use Rattle.value.specs.Numbers.{oneF}
 use Rattle.decimal.specs.Characters.{minusByte, pointByte, spaceByte, newlineByte}
-use Rattle.decimal.specs.IndexLaws.{split, drop-behind}
+use Rattle.decimal.specs.IndexLaws.{drop-behind}
 use Rattle.decimal.specs.Digits.{isDigit, digitsOnly}
 use Rattle.decimal.specs.DigitLaws.{digit-range, only-digits}
 use Rattle.decimal.specs.Nearest.{nearestTo}
-use Rattle.decimal.specs.Readings.{hasMinus, behindSign, pointIn, wholeOf, fractionOf, formed, tooMany, unsignedOf, readingOf}
+use Rattle.decimal.specs.Readings.{hasMinus, behindSign, wholeOf, formed, tooMany, unsignedOf, readingOf}
 use Rattle.decimal.specs.Lines.{pairOf, bodyOf, spaceIn, newlineIn, lineOf, inFront, linesIn, joined, entryRefusal, orLater, firstRefusal, linesRefusal, sampleOf, readLines}
 use Rattle.decimal.specs.LineLaws.{line-with, line-without}
 use Rattle.decimal.specs.declared.readings.Decimal.{Decimal}
@@ -28,7 +27,7 @@ use Rattle.decimal.specs.declared.readings.Decimal.the-variants as decimal
 use Rattle.decimal.specs.declared.lines.Entry.{Entry}
 use Rattle.decimal.specs.declared.lines.Entry.the-variants as entry
 use Rattle.signs.specs.Opposite.{Opposite}
-use Rattle.signs.specs.OppositeLaws.{opposite-of, opposite-sym, opposite-nan}
+use Rattle.signs.specs.OppositeLaws.{opposite-of, opposite-nan}
 use Rattle.signs.specs.Negated.{round-neg}
 use Rattle.mirror.specs.Pairs.{Pairs, none, and}
 use Rattle.mirror.specs.PairLaws.{pairs-map}

@@ -1,6 +1,5 @@
 -- When two doubles are the same number, and when they are opposite. Definitions only.
 use mathlib.Core.Path.{_≡_}
-use mathlib.Core.Bool.{Bool}
 use mathlib.Core.Logic.{_⊎_}
 use lib.IntN.{pos}
 use lib.Ieee.{Float, nan, inf, fin, neg}
