@@ -1,5 +1,5 @@
--- The standard deviation, bands and marks of rows alike but for the sign of y, under every tolerance: lower and upper change places and sign, and the marks are
--- equal.
+-- The standard deviation, bands and marks of rows alike but for the sign of y, under every tolerance: lower and upper change places and sign, and the
+-- marks are equal.
 use mathlib.Core.Path.{_≡_, refl, ap, ap₂, _∙_}
 use mathlib.Core.Bool.{Bool, true, false, _||_}
 use mathlib.Core.List.{List}

@@ -1,5 +1,5 @@
--- The fit of rows alike but for the sign of y: residuals are opposite, so that their sizes, their losses, the solved degrees, every score and the choice are equal,
--- bit for bit.
+-- The fit of rows alike but for the sign of y: residuals are opposite, so that their sizes, their losses, the solved degrees, every score and the
+-- choice are equal, bit for bit.
 use mathlib.Core.Path.{_≡_, sym, ap, ap₂, fun-ext, _∙_}
 use mathlib.Core.Bool.{_&&_}
 use mathlib.Core.List.{List, map}
@@ -96,8 +96,8 @@ pub scored-mirror : (criterion : Criterion) {s t : List Float} → MirrorSums s 
 unfolding scoredBy
 scored-mirror criterion h p o k = rw (solved-mirror h p k, score-mirror h o criterion k)
 
--- The whole choice, of any counts to try: the chosen degree or none, its score, the least score, the number of solved degrees and of pivot tests, and of every
--- degree whether it is solved and its score
+-- The whole choice, of any counts to try: the chosen degree or none, its score, the least score, the number of solved degrees and of pivot tests, and
+-- of every degree whether it is solved and its score
 module _ (criterion : Criterion) {s t : List Float} (h : MirrorSums s t) {rs qs : List Row} (p : MirrorRows rs qs) (counts : List ℕ) where
   pub tried-mirror : tried criterion s rs counts ≡ tried criterion t qs counts
   unfolding tried

@@ -1,5 +1,5 @@
--- The mirror image of the numerics: rows alike but for the sign of y, from their sums up to choices, bands, folds and splits. Rows are lists of term values, so
--- that curve and surface are said once.
+-- The mirror image of the numerics: rows alike but for the sign of y, from their sums up to choices, bands, folds and splits. Rows are lists of term
+-- values, so that curve and surface are said once.
 pub mod Pairs
 pub mod PairLaws
 pub mod Mirror

@@ -1,5 +1,5 @@
--- The split of rows alike but for the sign of y: every side's choice, the best break with its total and degrees, and the pivot tests of the search are equal, and
--- both fits are opposite.
+-- The split of rows alike but for the sign of y: every side's choice, the best break with its total and degrees, and the pivot tests of the search
+-- are equal, and both fits are opposite.
 use mathlib.Core.Path.{_≡_, ap₂, fun-ext}
 use mathlib.Core.List.{List}
 use Prim.Native.Nat.{ℕ, _+_, _-_}

@@ -1,5 +1,5 @@
--- The mirror image of any list of calls: every y with its sign changed, in adds and corrections as a number, in frames as a bit, and in texts as a minus. Calls
--- that read stay as they are. Definitions only.
+-- The mirror image of any list of calls: every y with its sign changed, in adds and corrections as a number, in frames as a bit, and in texts as a
+-- minus. Calls that read stay as they are. Definitions only.
 use mathlib.Core.Bool.{cond}
 use mathlib.Core.List.{List, _∷_, _++_, map}
 use Prim.Native.Nat.{ℕ, _+_, _%_, _<_}

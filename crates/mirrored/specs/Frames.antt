@@ -26,8 +26,8 @@ pub record MirrorText (f g : List ℕ) : Type 0 where
 abbrev pub Flipped : ℕ → ℕ → Type 0
 Flipped a b = ((a < 128) × (b ≡ a + 128)) ⊎ ((b < 128) × (a ≡ b + 128))
 
--- The first byte of a y, which has its sign, stands 8 behind the place where the sample begins: at 11, 27, 43, .. where a sample has 16 bytes, and at 11, 35, 59, ..
--- where it has 24. These bytes differ in the high bit, and all others are equal.
+-- The first byte of a y, which has its sign, stands 8 behind the place where the sample begins: at 11, 27, 43, .. where a sample has 16 bytes, and at
+-- 11, 35, 59, .. where it has 24. These bytes differ in the high bit, and all others are equal.
 pub record SignsFlipped (f g : List ℕ) : Type 0 where
   pub bytes : All (λ b. b < 256) f
   pub long : length f ≡ length g

@@ -1,7 +1,8 @@
--- What document 01's rule of pruning does under the mirror, by the smallest example: the two samples (0, 0) and (1, 2), and a report of degree 0. The fitted value is
--- the mean, 1, with error 1, so that t is 1, and the t score at one degree of freedom is 12.706. Measured from the base the coefficient is 1, above 2⁻⁵², and is
--- pruned. Measured from the surface it is −1, which is not above 2⁻⁵², and stays: the reports differ in the number of pruned terms. With the rule by size they do
--- not. One sample would not do: its error is 0 and its t infinite. Definitions only. `OldRuleLaws.antt` computes them.
+-- What document 01's rule of pruning does under the mirror, by the smallest example: the two samples (0, 0) and (1, 2), and a report of degree 0. The
+-- fitted value is the mean, 1, with error 1, so that t is 1, and the t score at one degree of freedom is 12.706. Measured from the base the
+-- coefficient is 1, above 2⁻⁵², and is pruned. Measured from the surface it is −1, which is not above 2⁻⁵², and stays: the reports differ in the
+-- number of pruned terms. With the rule by size they do not. One sample would not do: its error is 0 and its t infinite. Definitions only.
+-- `OldRuleLaws.antt` computes them.
 use mathlib.Core.Path.{_≡_}
 use mathlib.Core.List.{List, [], _∷_, map}
 use Prim.Native.Nat.{ℕ}

@@ -1,4 +1,5 @@
--- Each call that reads a book, asked alike of samples alike but for the sign of every y, with sums to match: one law a call, and `read-on-mirror` for any.
+-- Each call that reads a book, asked alike of samples alike but for the sign of every y, with sums to match: one law a call, and `read-on-mirror` for
+-- any.
 use mathlib.Core.Path.{_≡_, refl}
 use mathlib.Core.List.{List}
 use Prim.Native.Nat.{ℕ}

@@ -1,5 +1,5 @@
--- What the calls that read answer and write, of samples alike but for the sign of every y: what is equal, bit for bit, and what changes sign. Losses and scores
--- are equal whole. Definitions only.
+-- What the calls that read answer and write, of samples alike but for the sign of every y: what is equal, bit for bit, and what changes sign. Losses
+-- and scores are equal whole. Definitions only.
 use mathlib.Core.Path.{_≡_}
 use Prim.Native.Nat.{ℕ}
 use Rattle.basis.specs.declared.Degree.{Degree}
@@ -9,11 +9,11 @@ use Rattle.settings.specs.declared.Settings.{Settings}
 use Rattle.measure.specs.Fits.{FitOut}
 use Rattle.measure.specs.Bands.{BandOut}
 use Rattle.measure.specs.declared.BandAnswer.{BandAnswer}
-use Rattle.measure.specs.declared.BandAnswer.the-variants as bands
+use Rattle.measure.specs.declared.BandAnswer.the-variants as bandAnswers
 use Rattle.reporting.specs.Outputs.{Outputs}
 use Rattle.reporting.specs.Reports.{ReportOut}
 use Rattle.reporting.specs.declared.ReportAnswer.{ReportAnswer}
-use Rattle.reporting.specs.declared.ReportAnswer.the-variants as reports
+use Rattle.reporting.specs.declared.ReportAnswer.the-variants as reportAnswers
 use Rattle.split.specs.Splits.{SplitOut}
 use Rattle.losses.specs.Losses.{LossOut}
 use Rattle.scores.specs.Scores.{ScoresOut}
@@ -28,21 +28,21 @@ pub record MirrorFit (a b : FitOut) : Type 0 where
 
 -- a band: value, lower and upper change sign, lower and upper change places; refusals agree by number
 pub data MirrorBandAnswer : BandAnswer → BandAnswer → Type 0 where
-  band : {a b : Band} → MirrorBand a b → MirrorBandAnswer (bands.Band a) (bands.Band b)
-  refused : (k : ℕ) → MirrorBandAnswer (bands.Refused k) (bands.Refused k)
+  band : {a b : Band} → MirrorBand a b → MirrorBandAnswer (bandAnswers.Band a) (bandAnswers.Band b)
+  refused : (k : ℕ) → MirrorBandAnswer (bandAnswers.Refused k) (bandAnswers.Refused k)
 
 pub record MirrorBandOut (a b : BandOut) : Type 0 where
   pub answer : MirrorBandAnswer (a .answer) (b .answer)
   pub scratch : a .scratch ≡ b .scratch
 
--- What a report answers: the degree, the number of solved degrees and that of outliers are equal, and refusals agree by number. The number of pruned terms is
--- equal where pruning is by size, which is `sized`.
+-- What a report answers: the degree, the number of solved degrees and that of outliers are equal, and refusals agree by number. The number of pruned
+-- terms is equal where pruning is by size, which is `sized`.
 pub data MirrorAnswer (sized : Type 0) : ReportAnswer → ReportAnswer → Type 0 where
-  report : (d : Degree) (solved outliers : ℕ) {p q : ℕ} → (sized → p ≡ q) → MirrorAnswer sized (reports.Report d solved outliers p) (reports.Report d solved outliers q)
-  refused : (k : ℕ) → MirrorAnswer sized (reports.Refused k) (reports.Refused k)
+  report : (d : Degree) (solved outliers : ℕ) {p q : ℕ} → (sized → p ≡ q) → MirrorAnswer sized (reportAnswers.Report d solved outliers p) (reportAnswers.Report d solved outliers q)
+  refused : (k : ℕ) → MirrorAnswer sized (reportAnswers.Refused k) (reportAnswers.Refused k)
 
--- what it writes: coefficients change sign, errors are equal, lower and upper change places and sign, the outlier marks are equal, and so are the pruning bytes
--- where pruning is by size
+-- what it writes: coefficients change sign, errors are equal, lower and upper change places and sign, the outlier marks are equal, and so are the
+-- pruning bytes where pruning is by size
 pub record MirrorOutputs (sized : Type 0) (a b : Outputs) : Type 0 where
   pub scratch : a .scratch ≡ b .scratch
   pub coefficients : Opposites (a .coefficients) (b .coefficients)
