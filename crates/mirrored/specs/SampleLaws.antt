@@ -1,7 +1,9 @@
 -- Laws of Samples.antt: the rows of such samples, their sums, and the tests that refuse them.
 use mathlib.Core.Path.{_≡_, refl, ap, ap₂}
 use mathlib.Core.List.{List}
-use lib.Ieee.{lt}
+use Prim.Native.Nat.{ℕ}
+use lib.ListN.{getD}
+use lib.Ieee.{nan, lt}
 use Rattle.basis.specs.Sizes.{maxTerms}
 use Rattle.basis.specs.declared.Basis.the-variants.{Surface}
 use Rattle.loops.specs.Places.{table}
@@ -13,13 +15,14 @@ use Rattle.monomial.specs.Rows.{rowOf, rowsOf, weightedOf, weightedRows}
 use Rattle.monomial.specs.Plain.{atOne}
 use Rattle.monomial.specs.Sums.{sumsOf}
 use Rattle.refusal.specs.Tests.{sampleFinite, allFinite, weightAbove, allAbove}
-use Rattle.surface.specs.Points.{Point, xsIn, zsIn, rowOfPoint, rowsOfPoints, surfaceSums}
+use Rattle.surface.specs.Points.{Point, PointColumns, pointLengths, pointAt, pointsOf, xsIn, zsIn, rowOfPoint, rowsOfPoints, surfaceSums}
 use Rattle.surface.specs.Refusals.{pointFinite, pointsFinite}
+use Rattle.signs.specs.OppositeLaws.{opposite-nan}
 use Rattle.signs.specs.Steps.{finite-opposite}
-use Rattle.mirror.specs.PairLaws.{pairs-map, pairs-equal, pairs-all}
+use Rattle.mirror.specs.PairLaws.{pairs-length, pairs-at, pairs-table, pairs-map, pairs-equal, pairs-all}
 use Rattle.mirror.specs.Mirror.{MirrorRow, MirrorRows, MirrorWeighted, MirrorWeights, MirrorSums}
 use Rattle.mirror.specs.SumLaws.{sums-mirror}
-use Rattle.mirrored.specs.Samples.{MirrorSample, MirrorSamples, MirrorPoint, MirrorPoints}
+use Rattle.mirrored.specs.Samples.{MirrorSample, MirrorSamples, MirrorPoint, MirrorPoints, MirrorPointColumns}
 
 -- ---- a book's samples
 
@@ -74,3 +77,14 @@ module _ {ps qs : List Point} (p : MirrorPoints ps qs) where
 
   pub points-finite-mirror : pointsFinite ps ≡ pointsFinite qs
   points-finite-mirror = pairs-all pointFinite pointFinite (λ a b h. rw (h .x, h .z, finite-opposite (h .y))) p
+
+-- read off columns: the points, and the lengths that refusals judge
+module _ {c d : PointColumns} (h : MirrorPointColumns c d) where
+  pub points-of-mirror : (n : ℕ) → MirrorPoints (pointsOf n c) (pointsOf n d)
+  unfolding pointsOf
+  points-of-mirror n =
+      pairs-table (pointAt c) (pointAt d) n
+      (λ t l. record { x = ap (λ s. getD s t nan) (h .xs); z = ap (λ s. getD s t nan) (h .zs); y = pairs-at (h .ys) opposite-nan t })
+
+  pub point-lengths-mirror : pointLengths c ≡ pointLengths d
+  point-lengths-mirror = rw (h .xs, h .zs, pairs-length (h .ys))

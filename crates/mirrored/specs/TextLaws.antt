@@ -12,11 +12,12 @@ use lib.Ieee.{Float, binary64, round}
 use Rattle.bytes.specs.Bytes.{indexOf, indexAfter}
 use Rattle.loops.specs.All.{All}
 use Rattle.loops.specs.Cases.{by-test, and-first, never}
+use Rattle.loops.specs.Fold.{fold}
 use Rattle.loops.specs.FoldLaws.{all-cons}
 use Rattle.samples.specs.Samples.{Sample}
 use Rattle.decimal.specs.Characters.{minusByte, pointByte, spaceByte, newlineByte}
 use Rattle.decimal.specs.IndexLaws.{drop-behind}
-use Rattle.decimal.specs.Digits.{isDigit, digitsOnly}
+use Rattle.decimal.specs.Digits.{isDigit, digitsOnly, remaining, spells}
 use Rattle.decimal.specs.DigitLaws.{digit-range, only-digits}
 use Rattle.decimal.specs.Nearest.{nearestTo}
 use Rattle.decimal.specs.Readings.{hasMinus, behindSign, wholeOf, formed, tooMany, unsignedOf, readingOf}
@@ -302,3 +303,12 @@ text-mirror t =
       refusal = rw e (refusals-mirror p);
       samples = rw e (pairs-map MirrorSample (λ l. sampleOf (lineOf l)) (λ l. sampleOf (lineOf l)) (λ l m h. h .sample) p);
     }
+
+-- 1 2 and 3 -4 become 1 -2 and 3 4; 1 --2 is refused, and stays
+pub text-example : flipText (49 ∷ 32 ∷ 50 ∷ 10 ∷ 51 ∷ 32 ∷ 45 ∷ 52 ∷ 10 ∷ []) ≡ 49 ∷ 32 ∷ 45 ∷ 50 ∷ 10 ∷ 51 ∷ 32 ∷ 52 ∷ 10 ∷ []
+unfolding flipText flipLine flipBody flipReading linesIn inFront lineOf bodyOf pairOf readingOf unsignedOf formed tooMany hasMinus digitsOnly isDigit remaining spells entryRefusal indexOf indexAfter fold
+text-example = refl
+
+pub refused-example : flipText (49 ∷ 32 ∷ 45 ∷ 45 ∷ 50 ∷ 10 ∷ []) ≡ 49 ∷ 32 ∷ 45 ∷ 45 ∷ 50 ∷ 10 ∷ []
+unfolding flipText flipLine flipBody flipReading linesIn inFront lineOf bodyOf pairOf readingOf unsignedOf formed tooMany hasMinus digitsOnly isDigit remaining spells entryRefusal indexOf indexAfter fold
+refused-example = refl
