@@ -1,0 +1,2 @@
+-- The mirror image of the program's replies.
+pub mod Image
