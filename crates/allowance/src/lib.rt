@@ -164,11 +164,11 @@ pub fn group_surface_report(
     if refusal != 0 {
         return ReportAnswer::Refused(refusal);
     }
-    let left = table[group];
+    let rest = table[group];
     let done = surface::surface_report_within(
         count,
         settings,
-        left,
+        rest,
         xs,
         zs,
         ys,
@@ -180,7 +180,7 @@ pub fn group_surface_report(
         upper,
         outliers,
     );
-    table[group] = left - done.tests;
+    table[group] = rest - done.tests;
     done.answer
 }
 
@@ -211,11 +211,11 @@ pub fn group_split(
     if refusal != 0 {
         return SplitAnswer::Refused(refusal);
     }
-    let left = table[group];
+    let limit = table[group];
     let done = split::split_within(
         book,
         settings,
-        left,
+        limit,
         xs,
         ys,
         ws,
@@ -224,6 +224,6 @@ pub fn group_split(
         earlier,
         later,
     );
-    table[group] = left - done.tests;
+    table[group] = limit - done.tests;
     done.answer
 }

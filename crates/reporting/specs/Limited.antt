@@ -7,6 +7,7 @@ use lib.Dec.{ltb}
 use lib.Ieee.{Float}
 use Rattle.basis.specs.declared.Basis.{Basis}
 use Rattle.monomial.specs.Rows.{Row}
+use Rattle.fit.specs.Chosen.{choiceOf, countsOf}
 use Rattle.fit.specs.declared.Choice.{Choice}
 use Rattle.settings.specs.declared.Settings.{Settings}
 use Rattle.reporting.specs.declared.Counted.{Counted}
@@ -24,6 +25,11 @@ unfoldable pub limitedOf : Basis → ℕ → Settings → ℕ → List Row → L
 limitedOf basis n settings limit rows sums choice =
     cond (ltb limit (choice .tests)) (record { does = refusedLate n 16; taken = 0 })
     (record { does = reportOf basis n settings rows sums (choice .solved) (choice .chosen); taken = choice .tests })
+
+-- of the choice among the degrees 0 to the last one
+abbrev pub limitedUpTo : Basis → ℕ → Settings → ℕ → ℕ → List Row → List Float → Limited
+limitedUpTo basis n settings limit last rows sums =
+    limitedOf basis n settings limit rows sums (choiceOf (settings .criterion) sums rows (countsOf basis last))
 
 -- refused by 1 to 9: nothing is written, and nothing is taken
 abbrev pub limitedEarly : ℕ → Limited

@@ -22,7 +22,7 @@ ghost use Rattle.lent.specs.Slices.{before, after};
 ghost use Rattle.reporting.specs.Chosen.{Chooses};
 ghost use Rattle.reporting.specs.Outputs.{outputs};
 ghost use Rattle.reporting.specs.Reports.{Does, writtenBy};
-ghost use Rattle.reporting.specs.Limited.{DoesWithin, limitedOf};
+ghost use Rattle.reporting.specs.Limited.{DoesWithin, limitedUpTo};
 
 // How many places are lent of each memory that a report writes.
 pub struct Places {
@@ -188,7 +188,7 @@ pub fn report_rows(
 ) -> Counted
     requires { ⌜ (n ≤ length (now xs)) × (n ≤ length (now zs)) × (n ≤ length (now ys)) × (sumPlaces ≤ length (now sums)) × (last .0 ≤ highestDegree) × (countOf basis (last .0) ≤ n) × (countOf basis (last .0) ≤ maxTerms) ⌝ }
     requires { ⌜ (n ≤ length (now scratch)) × (termPlaces basis ≤ length (now coefficients)) × (termPlaces basis ≤ length (now errors)) × (termPlaces basis ≤ length (now pruned)) × (n ≤ length (now lower)) × (n ≤ length (now upper)) × (n ≤ length (now outliers)) ⌝ }
-    ensures { λ r. ⌜ DoesWithin (limitedOf basis n settings limit (rowsAt basis n (before xs) (before zs) (before ys)) (before sums) (choiceOf (settings .criterion) (before sums) (rowsAt basis n (before xs) (before zs) (before ys)) (countsOf basis (last .0)))) r (outputs scratch coefficients errors pruned lower upper outliers) ⌝ }
+    ensures { λ r. ⌜ DoesWithin (limitedUpTo basis n settings limit (last .0) (rowsAt basis n (before xs) (before zs) (before ys)) (before sums)) r (outputs scratch coefficients errors pruned lower upper outliers) ⌝ }
 {
     let criterion = settings.criterion;
     let m = choose(basis, n, last, criterion, xs, zs, ys, sums, &mut *scratch);

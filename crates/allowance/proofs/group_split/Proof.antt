@@ -28,13 +28,13 @@ returns c =
     let at-args = c .before .before .before .before .before .before .before .before .before .before .before .args in
     split-refused-early (at-args .group) (at-args .table .now) (c .before .group-refusal .result) (groupSplitRefusal (at-args .group) (length (at-args .table .now)) (at-args .book .count) (at-args .settings) (samplesOf (at-args .book .count) (columnsOf (at-args .xs .now) (at-args .ys .now) (at-args .ws .now))) (length (at-args .xs .now) ∷ length (at-args .ys .now) ∷ length (at-args .ws .now) ∷ []) (length (at-args .sums .now)) (record { scratch = length (at-args .scratch .now); before = length (at-args .earlier .now); after = length (at-args .later .now) })) (group-refused (at-args .group) (length (at-args .table .now)) (tooShort (at-args .book .count) (length (at-args .xs .now) ∷ length (at-args .ys .now) ∷ length (at-args .ws .now) ∷ []) (splitNeeds (at-args .book .count) (length (at-args .sums .now)) (record { scratch = length (at-args .scratch .now); before = length (at-args .earlier .now); after = length (at-args .later .now) }))) (settingsTests (at-args .book .count) (at-args .settings) (samplesOf (at-args .book .count) (columnsOf (at-args .xs .now) (at-args .ys .now) (at-args .ws .now))) (ltb (at-args .book .count) 4)) (c .before .group-refusal .result) (subst (λ (b : Bool). c .before .group-refusal .result ≡ firstOf (by (ltb (length (at-args .table .now)) 9 || b) 1 ∷ by (noGroup (at-args .group)) 17 ∷ [])) (c .before .before .split-short .ensures) (c .before .group-refusal .ensures)) (c .if1 .taken)) (c .if1 .taken) (splitPast (at-args .book .count) (at-args .settings .bound) (at-args .settings .criterion) (getD (at-args .table .now) (at-args .group) 0) (weightedRows (samplesOf (at-args .book .count) (columnsOf (at-args .xs .now) (at-args .ys .now) (at-args .ws .now))))) (takenOf (getD (at-args .table .now) (at-args .group) 0) (searchTests (at-args .settings .bound) (at-args .settings .criterion) (weightedRows (samplesOf (at-args .book .count) (columnsOf (at-args .xs .now) (at-args .ys .now) (at-args .ws .now)))))) (at-args .scratch .now) (at-args .earlier .now) (at-args .later .now)
 
-mul-left : tie.Need-mul-left
-mul-left c =
+mul-limit : tie.Need-mul-limit
+mul-limit c =
     let at-args = c .before .before .before .before .before .before .before .before .before .before .before .args in
     let p = group-passed (at-args .group) (length (at-args .table .now)) (tooShort (at-args .book .count) (length (at-args .xs .now) ∷ length (at-args .ys .now) ∷ length (at-args .ws .now) ∷ []) (splitNeeds (at-args .book .count) (length (at-args .sums .now)) (record { scratch = length (at-args .scratch .now); before = length (at-args .earlier .now); after = length (at-args .later .now) }))) (settingsTests (at-args .book .count) (at-args .settings) (samplesOf (at-args .book .count) (columnsOf (at-args .xs .now) (at-args .ys .now) (at-args .ws .now))) (ltb (at-args .book .count) 4)) (c .before .group-refusal .result) (subst (λ (b : Bool). c .before .group-refusal .result ≡ firstOf (by (ltb (length (at-args .table .now)) 9 || b) 1 ∷ by (noGroup (at-args .group)) 17 ∷ [])) (c .before .before .split-short .ensures) (c .before .group-refusal .ensures)) (c .if1 .left) in record { fits = omega (arith, p .1) }
 
-slice-read-left : tie.Need-slice-read-left
-slice-read-left c =
+slice-read-limit : tie.Need-slice-read-limit
+slice-read-limit c =
     let at-args = c .before .before .before .before .before .before .before .before .before .before .before .before .args in
     let at-split-short = c .before .before .before .split-short in
     let p = group-passed (at-args .group) (length (at-args .table .now)) (tooShort (at-args .book .count) (length (at-args .xs .now) ∷ length (at-args .ys .now) ∷ length (at-args .ws .now) ∷ []) (splitNeeds (at-args .book .count) (length (at-args .sums .now)) (record { scratch = length (at-args .scratch .now); before = length (at-args .earlier .now); after = length (at-args .later .now) }))) (settingsTests (at-args .book .count) (at-args .settings) (samplesOf (at-args .book .count) (columnsOf (at-args .xs .now) (at-args .ys .now) (at-args .ws .now))) (ltb (at-args .book .count) 4)) (c .before .before .group-refusal .result) (subst (λ (b : Bool). c .before .before .group-refusal .result ≡ firstOf (by (ltb (length (at-args .table .now)) 9 || b) 1 ∷ by (noGroup (at-args .group)) 17 ∷ [])) (at-split-short .ensures) (c .before .before .group-refusal .ensures)) (c .before .if1 .left) in omega (arith, p .0, p .1)
@@ -79,8 +79,8 @@ group-split-spec =
     (λ c κs. search needs)
     (λ c κs. search needs)
     returns
-    mul-left
-    slice-read-left
+    mul-limit
+    slice-read-limit
     (λ c κs. search needs)
     sub-table
     mul-table

@@ -27,13 +27,13 @@ returns c =
     let at-args = c .before .before .before .before .before .before .before .before .before .before .before .before .before .before .args in
     report-refused (at-args .group) (at-args .table .now) (c .before .group-refusal .result) (groupSurfaceRefusal (at-args .group) (length (at-args .table .now)) (at-args .count) (at-args .settings) (pointsOf (at-args .count) (pointColumns (at-args .xs .now) (at-args .zs .now) (at-args .ys .now))) (length (at-args .xs .now) ∷ length (at-args .zs .now) ∷ length (at-args .ys .now) ∷ []) (record { scratch = length (at-args .scratch .now); coefficients = length (at-args .coefficients .now); errors = length (at-args .errors .now); pruned = length (at-args .pruned .now); lower = length (at-args .lower .now); upper = length (at-args .upper .now); outliers = length (at-args .outliers .now) })) (group-refused (at-args .group) (length (at-args .table .now)) (tooShort (at-args .count) (length (at-args .xs .now) ∷ length (at-args .zs .now) ∷ length (at-args .ys .now) ∷ []) (surfaceReportNeeds (at-args .count) (record { scratch = length (at-args .scratch .now); coefficients = length (at-args .coefficients .now); errors = length (at-args .errors .now); pruned = length (at-args .pruned .now); lower = length (at-args .lower .now); upper = length (at-args .upper .now); outliers = length (at-args .outliers .now) }))) (by (not (scoreFinite (at-args .settings .confidence) && toleranceFinite (at-args .settings .tolerance) && pointsFinite (pointsOf (at-args .count) (pointColumns (at-args .xs .now) (at-args .zs .now) (at-args .ys .now))))) 4 ∷ by (noSamples (at-args .count)) 7 ∷ by (totalBoundTooHigh (at-args .settings .bound) (at-args .count)) 8 ∷ []) (c .before .group-refusal .result) (subst (λ (b : Bool). c .before .group-refusal .result ≡ firstOf (by (ltb (length (at-args .table .now)) 9 || b) 1 ∷ by (noGroup (at-args .group)) 17 ∷ [])) (c .before .before .report-short .ensures) (c .before .group-refusal .ensures)) (c .if1 .taken)) (c .if1 .taken) (surfaceWithinPast (at-args .count) (at-args .settings) (getD (at-args .table .now) (at-args .group) 0) (rowsOfPoints (pointsOf (at-args .count) (pointColumns (at-args .xs .now) (at-args .zs .now) (at-args .ys .now)))) (surfaceSums (pointsOf (at-args .count) (pointColumns (at-args .xs .now) (at-args .zs .now) (at-args .ys .now))))) (record { scratch = at-args .scratch .now; coefficients = at-args .coefficients .now; errors = at-args .errors .now; pruned = at-args .pruned .now; lower = at-args .lower .now; upper = at-args .upper .now; outliers = at-args .outliers .now })
 
-mul-left : tie.Need-mul-left
-mul-left c =
+mul-rest : tie.Need-mul-rest
+mul-rest c =
     let at-args = c .before .before .before .before .before .before .before .before .before .before .before .before .before .before .args in
     let p = group-passed (at-args .group) (length (at-args .table .now)) (tooShort (at-args .count) (length (at-args .xs .now) ∷ length (at-args .zs .now) ∷ length (at-args .ys .now) ∷ []) (surfaceReportNeeds (at-args .count) (record { scratch = length (at-args .scratch .now); coefficients = length (at-args .coefficients .now); errors = length (at-args .errors .now); pruned = length (at-args .pruned .now); lower = length (at-args .lower .now); upper = length (at-args .upper .now); outliers = length (at-args .outliers .now) }))) (by (not (scoreFinite (at-args .settings .confidence) && toleranceFinite (at-args .settings .tolerance) && pointsFinite (pointsOf (at-args .count) (pointColumns (at-args .xs .now) (at-args .zs .now) (at-args .ys .now))))) 4 ∷ by (noSamples (at-args .count)) 7 ∷ by (totalBoundTooHigh (at-args .settings .bound) (at-args .count)) 8 ∷ []) (c .before .group-refusal .result) (subst (λ (b : Bool). c .before .group-refusal .result ≡ firstOf (by (ltb (length (at-args .table .now)) 9 || b) 1 ∷ by (noGroup (at-args .group)) 17 ∷ [])) (c .before .before .report-short .ensures) (c .before .group-refusal .ensures)) (c .if1 .left) in record { fits = omega (arith, p .1) }
 
-slice-read-left : tie.Need-slice-read-left
-slice-read-left c =
+slice-read-rest : tie.Need-slice-read-rest
+slice-read-rest c =
     let at-args = c .before .before .before .before .before .before .before .before .before .before .before .before .before .before .before .args in
     let at-report-short = c .before .before .before .report-short in
     let p = group-passed (at-args .group) (length (at-args .table .now)) (tooShort (at-args .count) (length (at-args .xs .now) ∷ length (at-args .zs .now) ∷ length (at-args .ys .now) ∷ []) (surfaceReportNeeds (at-args .count) (record { scratch = length (at-args .scratch .now); coefficients = length (at-args .coefficients .now); errors = length (at-args .errors .now); pruned = length (at-args .pruned .now); lower = length (at-args .lower .now); upper = length (at-args .upper .now); outliers = length (at-args .outliers .now) }))) (by (not (scoreFinite (at-args .settings .confidence) && toleranceFinite (at-args .settings .tolerance) && pointsFinite (pointsOf (at-args .count) (pointColumns (at-args .xs .now) (at-args .zs .now) (at-args .ys .now))))) 4 ∷ by (noSamples (at-args .count)) 7 ∷ by (totalBoundTooHigh (at-args .settings .bound) (at-args .count)) 8 ∷ []) (c .before .before .group-refusal .result) (subst (λ (b : Bool). c .before .before .group-refusal .result ≡ firstOf (by (ltb (length (at-args .table .now)) 9 || b) 1 ∷ by (noGroup (at-args .group)) 17 ∷ [])) (at-report-short .ensures) (c .before .before .group-refusal .ensures)) (c .before .if1 .left) in omega (arith, p .0, p .1)
@@ -78,8 +78,8 @@ group-surface-report-spec =
     (λ c κs. search needs)
     (λ c κs. search needs)
     returns
-    mul-left
-    slice-read-left
+    mul-rest
+    slice-read-rest
     (λ c κs. search needs)
     sub-table
     mul-table
