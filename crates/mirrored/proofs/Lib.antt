@@ -1,2 +1,3 @@
 -- The mirror image of the program's replies.
 pub mod Image
+pub mod Groups

@@ -1,4 +1,4 @@
--- Laws of Flipped.antt: every list of calls with the sign of every y changed is its mirror image.
+-- Laws of Flipped.antt: every list of calls with the sign of every y changed is its mirror image, of a book and of eight groups.
 use mathlib.Core.Path.{_≡_, refl, sym, _∙_}
 use mathlib.Core.Bool.{cond}
 use mathlib.Core.Logic.{inl, inr}
@@ -8,21 +8,27 @@ use native.Mathlib.Omega.{arith}
 use borrow.Author.Tests.{eq-eqb, ne-eqb}
 use lib.Dec.{eqb}
 use lib.ListN.{length, getD, List·getD-eq-default}
+use lib.Ieee.{Float, neg}
 use Rattle.loops.specs.All.{All}
 use Rattle.loops.specs.AllLaws.{all-at}
 use Rattle.loops.specs.Cases.{either}
 use Rattle.loops.specs.PlaceLaws.{length-table, table-at}
 use Rattle.samples.specs.Samples.{Sample}
+use Rattle.surface.specs.Points.{PointColumns}
 use Rattle.frame.specs.Frame.{weighted, sampleBytes}
 use Rattle.ledger.specs.Ledger.{adds, corrects, withdraws, frames, texts, windows, Call, changes, reads}
 use Rattle.ledger.specs.ReadCalls.{ReadCall}
+use Rattle.groups.specs.Calls.{SurfaceCall, surfaceFits, surfaceReports, surfaceBands, CostCall, groupReports, groupSurfaces, groupSplits, books, surfaces, costs}
+use Rattle.groups.specs.Shared.{SharedCall, startAll, renewAll, of}
 use Rattle.signs.specs.OppositeLaws.{opposite-of}
-use Rattle.mirror.specs.Pairs.{none, and}
-use Rattle.mirrored.specs.Samples.{MirrorSample}
+use Rattle.mirror.specs.Pairs.{Pairs, none, and}
+use Rattle.mirror.specs.Mirror.{Opposites}
+use Rattle.mirrored.specs.Samples.{MirrorSample, MirrorPointColumns}
 use Rattle.mirrored.specs.Frames.{Flipped, SignsFlipped}
 use Rattle.mirrored.specs.FrameLaws.{frame-mirror}
 use Rattle.mirrored.specs.Calls.{adding, correcting, withdrawing, framing, writing, windowing, MirrorCall, changing, reading, MirrorCalls}
-use Rattle.mirrored.specs.Flipped.{flipSample, flipByte, flipFrame, flipChange, flipCall, InBytes}
+use Rattle.mirrored.specs.Groups.{MirrorSurface, surfaceFitting, surfaceReporting, surfaceBanding, MirrorCost, groupReporting, groupSurfacing, groupSplitting, ofBook, ofSurface, ofCost, MirrorShared, startingAll, renewingAll, made}
+use Rattle.mirrored.specs.Flipped.{flipSample, flipByte, flipFrame, flipChange, flipCall, InBytes, flipPoints, flipSurface, flipCost, flipGroup, flipShared, SharedInBytes}
 use Rattle.mirrored.specs.TextLaws.{text-mirror}
 
 flip-byte : (b : ℕ) → b < 256 → Flipped b (flipByte b)
@@ -72,6 +78,43 @@ flip-call (changes (texts t)) b = changing (writing (text-mirror t))
 flip-call (changes (windows p)) b = changing (windowing (flip-sample p))
 flip-call (reads q) b = reading q
 
+-- each of a list, by what is known of it
+each-flipped : {C : Type 0} (R : C → C → Type 0) (Known : C → Type 0) (flip : C → C) → ((c : C) → Known c → R c (flip c)) → (cs : List C) → All Known cs
+    → Pairs R cs (map flip cs)
+each-flipped R Known flip h [] b = none
+each-flipped R Known flip h (c ∷ cs) b = and (h c (b .0)) (each-flipped R Known flip h cs (b .1))
+
 pub flip-calls : (cs : List (Call ReadCall)) → All InBytes cs → MirrorCalls cs (map flipCall cs)
-flip-calls [] b = none
-flip-calls (c ∷ cs) b = and (flip-call c (b .0)) (flip-calls cs (b .1))
+flip-calls = each-flipped MirrorCall InBytes flipCall flip-call
+
+-- ---- a call of a group
+
+flip-ys : (l : List Float) → Opposites l (map neg l)
+flip-ys [] = none
+flip-ys (y ∷ l) = and (opposite-of y) (flip-ys l)
+
+flip-points : (c : PointColumns) → MirrorPointColumns c (flipPoints c)
+flip-points c = record { xs = refl; zs = refl; ys = flip-ys (c .ys) }
+
+flip-surface : (q : SurfaceCall) → MirrorSurface q (flipSurface q)
+unfolding flipSurface
+flip-surface (surfaceFits n degree columns scratch coefficients) = surfaceFitting n degree (flip-points columns) scratch coefficients
+flip-surface (surfaceReports n settings columns places) = surfaceReporting n settings (flip-points columns) places
+flip-surface (surfaceBands n x z degree confidence tolerance columns scratch) = surfaceBanding n x z degree confidence tolerance (flip-points columns) scratch
+
+flip-cost : (q : CostCall) → MirrorCost q (flipCost q)
+unfolding flipCost
+flip-cost (groupReports settings places) = groupReporting settings places
+flip-cost (groupSurfaces n settings columns places) = groupSurfacing n settings (flip-points columns) places
+flip-cost (groupSplits settings places) = groupSplitting settings places
+
+pub flip-shared : (c : SharedCall) → SharedInBytes c → MirrorShared c (flipShared c)
+unfolding flipShared flipGroup
+flip-shared (startAll quota) b = startingAll quota
+flip-shared renewAll b = renewingAll
+flip-shared (of group (books c)) b = made group (ofBook (flip-call c b))
+flip-shared (of group (surfaces q)) b = made group (ofSurface (flip-surface q))
+flip-shared (of group (costs q)) b = made group (ofCost (flip-cost q))
+
+pub flip-shared-calls : (cs : List SharedCall) → All SharedInBytes cs → Pairs MirrorShared cs (map flipShared cs)
+flip-shared-calls = each-flipped MirrorShared SharedInBytes flipShared flip-shared

@@ -10,6 +10,8 @@ pub mod FrameLaws
 pub mod Calls
 pub mod CallLaws
 pub mod Image
+pub mod Groups
+pub mod GroupLaws
 pub mod Flipped
 pub mod TextLaws
 pub mod FlippedLaws

@@ -3,6 +3,7 @@ use mathlib.Core.Path.{_≡_, refl, ap}
 use mathlib.Core.Bool.{Bool, true, false, cond}
 use mathlib.Core.List.{List}
 use Prim.Native.Nat.{ℕ, zero, suc}
+use lib.Dec.{ltb}
 use lib.Ieee.{Float}
 use Rattle.basis.specs.Counts.{countOf}
 use Rattle.basis.specs.declared.Basis.{Basis}
@@ -17,6 +18,7 @@ use Rattle.statistics.specs.declared.Tolerance.{Tolerance}
 use Rattle.monomial.specs.Terms.{termsAt}
 use Rattle.monomial.specs.Rows.{Row, ysIn, WeightedRow}
 use Rattle.score.specs.declared.Criterion.{Criterion}
+use Rattle.fit.specs.declared.Choice.{Choice}
 use Rattle.fit.specs.Solved.{isSolved}
 use Rattle.covariance.specs.Covariance.{errorsOf}
 use Rattle.covariance.specs.Marks.{ones}
@@ -28,6 +30,7 @@ use Rattle.measure.specs.Measures.{inverseFails, measureRefusal, covarianceAt}
 use Rattle.measure.specs.Fits.{fitRefused, fitPast}
 use Rattle.measure.specs.Bands.{bandRefused, bandOn, bandPast}
 use Rattle.reporting.specs.Chosen.{ofChosen}
+use Rattle.reporting.specs.Limited.{Limited, limitedOf}
 use Rattle.reporting.specs.Reports.{refusedEarly, refusedLate, writtenBy, reportOf}
 use Rattle.split.specs.declared.Best.{Best}
 use Rattle.split.specs.Refusals.{searchRefusal}
@@ -151,6 +154,14 @@ module _ (basis : Basis) {s t : List Float} (h : MirrorSums s t) where
         (λ d.
         let k = countOf basis (d .0) in
         rw (covariance-mirror h p k) (written-mirror n settings (d .0) solved (covarianceAt t qs k) (coefficients-mirror h k))) o
+
+    -- and within a limit of pivot tests, where too few left is 16
+    pub limited-mirror : (n : ℕ) (settings : Settings) (limit : ℕ) (c : Choice)
+        → MirrorReport (BySize settings) (limitedOf basis n settings limit rs s c .does) (limitedOf basis n settings limit qs t c .does)
+    unfolding limitedOf
+    limited-mirror n settings limit c =
+        either-mirror (λ (a b : Limited). MirrorReport (BySize settings) (a .does) (b .does)) (ltb limit (c .tests)) (report-late (BySize settings) n 16)
+        (report-of-mirror n settings (c .solved) (c .chosen))
 
 -- ---- a split
 

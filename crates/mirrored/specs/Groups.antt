@@ -1,0 +1,127 @@
+-- Document 02's mirror image with eight course groups on one table: two lists of starts, renewals and calls of all groups, alike but for the sign of
+-- every y, and what a group is replied. The theorem, `group-mirror`, is proved in proofs/Groups.antt, and so is `flipped-groups`, that every list of
+-- such calls has its mirror image. Definitions only.
+use mathlib.Core.Path.{_≡_}
+use mathlib.Core.List.{List}
+use Prim.Native.Nat.{ℕ, _<_}
+use lib.ListN.{length, take}
+use lib.Ieee.{Float}
+use Rattle.loops.specs.Fold.{fold}
+use Rattle.runs.specs.Runs.{replies, only, pick}
+use Rattle.statistics.specs.declared.Confidence.{Confidence}
+use Rattle.statistics.specs.declared.Tolerance.{Tolerance}
+use Rattle.samples.specs.Samples.{Sample}
+use Rattle.samples.specs.Columns.{Columns, samplesOf}
+use Rattle.settings.specs.declared.Settings.{Settings}
+use Rattle.reporting.specs.declared.Places.{Places}
+use Rattle.surface.specs.Points.{PointColumns}
+use Rattle.split.specs.declared.Places.{Places as SplitPlaces}
+use Rattle.book.specs.Calls.{bookOf, openOut}
+use Rattle.ledger.specs.Ledger.{Call, Reply, told, lentOf}
+use Rattle.ledger.specs.ReadCalls.{ReadCall, Told}
+use Rattle.ledger.specs.Words.{scored}
+use Rattle.allowance.specs.Table.{groups, startOut}
+use Rattle.allowance.specs.declared.TableAnswer.{TableAnswer}
+use Rattle.allowance.specs.declared.TableAnswer.the-variants as answers
+use Rattle.groups.specs.Calls.{SurfaceCall, surfaceFits, surfaceReports, surfaceBands, CostCall, groupReports, groupSurfaces, groupSplits, GroupCall, books, surfaces, costs, GroupReply, tabled, replied}
+use Rattle.groups.specs.Ledger.{Fed, starts, renews, calls, GroupLedger}
+use Rattle.groups.specs.Shared.{Shared, SharedCall, startAll, renewAll, of, sharedNext, shared, mine, seenBy}
+use Rattle.groups.specs.Claims.{begun}
+use Rattle.mirror.specs.Pairs.{Pairs}
+use Rattle.mirrored.specs.Samples.{MirrorSamples, MirrorPointColumns}
+use Rattle.mirrored.specs.Replies.{MirrorTold, BySize}
+use Rattle.mirrored.specs.Calls.{MirrorCall, MirrorReply, ByCall}
+
+-- ---- the calls
+
+-- a surface's samples come with its call: x and z are equal, and every y has its sign changed; all else is asked alike
+pub data MirrorSurface : SurfaceCall → SurfaceCall → Type 0 where
+  surfaceFitting : (n degree : ℕ) {c d : PointColumns} → MirrorPointColumns c d → (scratch coefficients : ℕ)
+      → MirrorSurface (surfaceFits n degree c scratch coefficients) (surfaceFits n degree d scratch coefficients)
+  surfaceReporting : (n : ℕ) (settings : Settings) {c d : PointColumns} → MirrorPointColumns c d → (places : Places)
+      → MirrorSurface (surfaceReports n settings c places) (surfaceReports n settings d places)
+  surfaceBanding : (n : ℕ) (x z : Float) (degree : ℕ) (confidence : Confidence) (tolerance : Tolerance) {c d : PointColumns} → MirrorPointColumns c d
+      → (scratch : ℕ) → MirrorSurface (surfaceBands n x z degree confidence tolerance c scratch) (surfaceBands n x z degree confidence tolerance d scratch)
+
+-- calls that cost are asked alike
+pub data MirrorCost : CostCall → CostCall → Type 0 where
+  groupReporting : (settings : Settings) (places : Places) → MirrorCost (groupReports settings places) (groupReports settings places)
+  groupSurfacing : (n : ℕ) (settings : Settings) {c d : PointColumns} → MirrorPointColumns c d → (places : Places)
+      → MirrorCost (groupSurfaces n settings c places) (groupSurfaces n settings d places)
+  groupSplitting : (settings : Settings) (places : SplitPlaces) → MirrorCost (groupSplits settings places) (groupSplits settings places)
+
+pub data MirrorGroupCall : GroupCall → GroupCall → Type 0 where
+  ofBook : {c d : Call ReadCall} → MirrorCall c d → MirrorGroupCall (books c) (books d)
+  ofSurface : {c d : SurfaceCall} → MirrorSurface c d → MirrorGroupCall (surfaces c) (surfaces d)
+  ofCost : {c d : CostCall} → MirrorCost c d → MirrorGroupCall (costs c) (costs d)
+
+-- quota and renewals included: the quota is the same, and so is the group that makes a call
+pub data MirrorShared : SharedCall → SharedCall → Type 0 where
+  startingAll : (quota : ℕ) → MirrorShared (startAll quota) (startAll quota)
+  renewingAll : MirrorShared renewAll renewAll
+  made : (group : ℕ) {c d : GroupCall} → MirrorGroupCall c d → MirrorShared (of group c) (of group d)
+
+-- what one group is fed of them
+pub data MirrorFed : Fed → Fed → Type 0 where
+  starting : (quota : ℕ) → MirrorFed (starts quota) (starts quota)
+  renewing : MirrorFed renews renews
+  calling : {c d : GroupCall} → MirrorGroupCall c d → MirrorFed (calls c) (calls d)
+
+-- ---- the replies
+
+-- where a surface's call, or one that costs, prunes, it prunes by size
+abbrev pub SurfaceBySize : SurfaceCall → Type 0
+SurfaceBySize (surfaceFits n degree columns scratch coefficients) = Unit {0}
+SurfaceBySize (surfaceReports n settings columns places) = BySize settings
+SurfaceBySize (surfaceBands n x z degree confidence tolerance columns scratch) = Unit {0}
+
+abbrev pub CostBySize : CostCall → Type 0
+CostBySize (groupReports settings places) = BySize settings
+CostBySize (groupSurfaces n settings columns places) = BySize settings
+CostBySize (groupSplits settings places) = Unit {0}
+
+-- the replies to what a group is fed and to its mirror image: start and renew answer the same, and all else is mirrored as without a group
+pub data MirrorGroupReply : Fed → GroupReply → GroupReply → Type 0 where
+  startReply : (quota : ℕ) (a : TableAnswer) → MirrorGroupReply (starts quota) (tabled a) (tabled a)
+  renewReply : (a : TableAnswer) → MirrorGroupReply renews (tabled a) (tabled a)
+  bookReply : {c : Call ReadCall} {a b : Reply Told} → MirrorReply c a b → MirrorGroupReply (calls (books c)) (replied a) (replied b)
+  surfaceReply : (q : SurfaceCall) {a b : Told} → MirrorTold (SurfaceBySize q) a b → MirrorGroupReply (calls (surfaces q)) (replied (told a)) (replied (told b))
+  chargedReply : (q : CostCall) {a b : Told} → MirrorTold (CostBySize q) a b → MirrorGroupReply (calls (costs q)) (replied (told a)) (replied (told b))
+
+-- ---- a group's ledger: the samples are mirrored, counter and quota equal
+
+pub record MirrorLedger (g k : GroupLedger) : Type 0 where
+  pub samples : MirrorSamples (g .samples) (k .samples)
+  pub counter : g .counter ≡ k .counter
+  pub quota : g .quota ≡ k .quota
+
+-- ---- what is claimed
+
+-- the samples that stand in a group's columns
+abbrev pub heldBy : ℕ → Shared → List Sample
+heldBy group s = samplesOf (s .books group .count) (s .books group .columns)
+
+-- of one group, where s and t are what the program begins with
+pub record GroupImage (group : ℕ) (s t : Shared) (cs ds : List SharedCall) : Type 0 where
+  -- the group is fed calls alike but for the sign of every y,
+  pub fed : Pairs MirrorFed (only (mine group) cs) (only (mine group) ds)
+  -- its replies, in the run of all groups' calls, are mirrored call by call, 16 and the other refusals by number,
+  pub replied : ByCall MirrorGroupReply (only (mine group) cs) (pick (mine group) cs (replies shared s cs)) (pick (mine group) ds (replies shared t ds))
+  -- and after the first n calls of both its counter is equal,
+  pub counters : (n : ℕ) → seenBy group (fold sharedNext s (take n cs)) .counter ≡ seenBy group (fold sharedNext t (take n ds)) .counter
+  -- its samples are mirrored,
+  pub samples : (n : ℕ) → MirrorSamples (heldBy group (fold sharedNext s (take n cs))) (heldBy group (fold sharedNext t (take n ds)))
+  -- and of every degree whether it is solved, and its score, are equal.
+  pub scores : (n : ℕ) (settings : Settings) (d : ℕ)
+      → scored settings (heldBy group (fold sharedNext s (take n cs))) d ≡ scored settings (heldBy group (fold sharedNext t (take n ds))) d
+
+-- Take two lists of starts, renewals and calls of all groups, refused ones included, in any order, alike but for the sign of every y, from books just
+-- opened and tables just started with the same quota, whose lent memory has the same lengths and held anything.
+abbrev pub AnyGroupMirror : Type 0
+AnyGroupMirror =
+    (columns columns′ : ℕ → Columns) (sums sums′ : ℕ → List Float) (quota : ℕ) (table table′ : List ℕ) → length table ≡ length table′
+    → startOut quota table .answer ≡ answers.Done → startOut quota table′ .answer ≡ answers.Done
+    → (group : ℕ) → group < groups → lentOf (columns group) (sums group) ≡ lentOf (columns′ group) (sums′ group)
+    → openOut (sums group) .answer ≡ bookOf 0 → openOut (sums′ group) .answer ≡ bookOf 0
+    → (cs ds : List SharedCall) → Pairs MirrorShared cs ds
+    → GroupImage group (begun columns sums quota table) (begun columns′ sums′ quota table′) cs ds
