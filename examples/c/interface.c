@@ -1,5 +1,5 @@
 /* Checks of the C interface that no list of calls reaches: a frame read sample by sample, a window of the latest samples, a replay beside its single calls,
- * the calls of two columns beside those of three at weight 1, a book carried over from two columns to three, what a split, the losses and the scores write, and a surface by its settings. What is expected is worked out by hand here, or is what
+ * the calls of two columns beside those of three at weight 1, a book carried over from two columns to three, what a split, the losses and the scores write, a surface by its settings, and course groups that use up their allowance. What is expected is worked out by hand here, or is what
  * the other calls leave. It prints what fails, and ends with 1 if anything does. */
 #include <math.h>
 #include <stdio.h>
@@ -523,6 +523,63 @@ static void check_scores(void) {
     CHECK(solved[0] == 1 && solved[1] == 0 && solved[2] == 0 && scores[0] == least[0] && scores[1] == 0 && scores[2] == 0);
 }
 
+/* two groups and a table: what each call takes, and what is refused. The split of check_split_and_losses costs 30, a report of these samples up to degree 1
+ * three pivot tests, and one of a surface up to total degree 1 four: 1 and 3 */
+static void check_groups(void) {
+    static const double xs[8] = {0, 1, 2, 3, 4, 5, 6, 7}, ys[8] = {0, 1.1, 1.9, 3.05, 2.95, 2.1, 0.9, 0.02}, zs[8] = {0, 1, 0, 1, 0, 1, 0, 1};
+    static const uint32_t words[2] = {STAKEBOOK_CUSTOM_DEGREE, 1};
+    static const double values[1];
+    double columns[3][8], sums[STAKEBOOK_SUMS], scratch[8], coefficients[STAKEBOOK_TERMS], errors[STAKEBOOK_TERMS], lower[8], upper[8];
+    double before[STAKEBOOK_TERMS], after[STAKEBOOK_TERMS], total[1], plain[STAKEBOOK_TERMS];
+    uint8_t pruned[STAKEBOOK_TERMS], outliers[8];
+    size_t table[STAKEBOOK_TABLE + 1];
+    for (size_t i = 0; i <= STAKEBOOK_TABLE; i++) table[i] = 77;
+    size_t count = stakebook_count(stakebook_open(sums, STAKEBOOK_SUMS));
+    for (size_t i = 0; i < 8; i++)
+        count = stakebook_count(stakebook_add(count, xs[i], ys[i], 1, columns[0], 8, columns[1], 8, columns[2], 8, sums, STAKEBOOK_SUMS));
+#define LENT_REPORT scratch, 8, coefficients, STAKEBOOK_TERMS, errors, STAKEBOOK_TERMS, pruned, STAKEBOOK_TERMS, lower, 8, upper, 8, outliers, 8
+#define CURVE words, 2, values, 0, columns[0], 8, columns[1], 8, columns[2], 8, sums, STAKEBOOK_SUMS
+#define GROUP_REPORT(group, table_len) stakebook_group_report(group, count, CURVE, LENT_REPORT, table, table_len)
+#define GROUP_SPLIT(group, total_len) \
+    stakebook_group_split(group, count, CURVE, scratch, 8, before, STAKEBOOK_TERMS, after, STAKEBOOK_TERMS, total, total_len, table, STAKEBOOK_TABLE)
+#define GROUP_SURFACE(group) \
+    stakebook_group_surface_report(group, 8, words, 2, values, 0, xs, 8, zs, 8, ys, 8, LENT_REPORT, table, STAKEBOOK_TABLE)
+    /* a start and a renewal need nine places, and write no tenth; the quota is refilled to, whatever is left */
+    CHECK(stakebook_start(7, table, STAKEBOOK_TABLE - 1) == (uint64_t)1 << 56 && stakebook_renew(table, STAKEBOOK_TABLE - 1) == (uint64_t)1 << 56);
+    CHECK(table[0] == 77 && table[8] == 77 && stakebook_start(7, table, STAKEBOOK_TABLE + 1) == 0);
+    for (size_t i = 0; i < STAKEBOOK_TABLE; i++) CHECK(table[i] == 7);
+    CHECK(table[STAKEBOOK_TABLE] == 77);
+
+    /* a report is the one without a group, and takes 3 of the 7 from its own counter */
+    uint64_t answer = stakebook_report_by(count, CURVE, LENT_REPORT);
+    memcpy(plain, coefficients, sizeof plain);
+    memset(coefficients, 1, sizeof coefficients);
+    CHECK(stakebook_refusal(answer) == 0 && GROUP_REPORT(2, STAKEBOOK_TABLE) == answer && same_numbers(coefficients, plain, STAKEBOOK_TERMS));
+    CHECK(table[2] == 4 && table[1] == 7 && table[3] == 7 && table[8] == 7 && GROUP_REPORT(2, STAKEBOOK_TABLE) == answer && table[2] == 1);
+    /* the quota used up: 16, the counter stands, scratch alone is written; another group goes on */
+    scratch[0] = scratch[7] = lower[0] = 5;
+    CHECK(GROUP_REPORT(2, STAKEBOOK_TABLE) == (uint64_t)16 << 56 && table[2] == 1 && scratch[0] == 0 && scratch[7] == 0 && lower[0] == 5);
+    CHECK(GROUP_REPORT(7, STAKEBOOK_TABLE) == answer && table[7] == 4 && table[2] == 1);
+    /* a group above 7, after a table too short, before no samples: nothing is written */
+    scratch[0] = 5;
+    CHECK(GROUP_REPORT(STAKEBOOK_GROUPS, STAKEBOOK_TABLE) == (uint64_t)17 << 56 && GROUP_REPORT(SIZE_MAX, STAKEBOOK_TABLE) == (uint64_t)17 << 56);
+    CHECK(GROUP_REPORT(STAKEBOOK_GROUPS, STAKEBOOK_TABLE - 1) == (uint64_t)1 << 56 && GROUP_SPLIT(8, 1) == (uint64_t)17 << 56);
+    CHECK(GROUP_SURFACE(8) == (uint64_t)17 << 56 && scratch[0] == 5 && table[7] == 4 && table[8] == 7);
+    /* a renewal lets it through */
+    CHECK(stakebook_renew(table, STAKEBOOK_TABLE) == 0 && table[2] == 7 && table[7] == 7 && GROUP_REPORT(2, STAKEBOOK_TABLE) == answer && table[2] == 4);
+
+    /* a surface's report takes 1 and 3 */
+    answer = stakebook_surface_report(8, words, 2, values, 0, xs, 8, zs, 8, ys, 8, LENT_REPORT);
+    CHECK(stakebook_refusal(answer) == 0 && GROUP_SURFACE(2) == answer && table[2] == 0 && GROUP_SURFACE(2) == (uint64_t)16 << 56 && table[2] == 0);
+
+    /* a split is that of its counter as the limit: 30 tests, and 16 at 29 */
+    CHECK(stakebook_start(29, table, STAKEBOOK_TABLE) == 0 && GROUP_SPLIT(5, 1) == (uint64_t)16 << 56 && table[5] == 29);
+    CHECK(stakebook_start(30, table, STAKEBOOK_TABLE) == 0 && GROUP_SPLIT(5, 0) == (uint64_t)1 << 56 && table[5] == 30);
+    answer = GROUP_SPLIT(5, 1);
+    CHECK(stakebook_refusal(answer) == 0 && stakebook_break(answer) == 3 && stakebook_tests(answer) == 30 && total[0] == -113.35496093152223);
+    CHECK(table[5] == 0 && table[4] == 30 && table[8] == 30 && before[1] > 0.9 && after[1] < -0.8);
+}
+
 int main(void) {
     check_surface();
     check_weights();
@@ -533,6 +590,7 @@ int main(void) {
     check_carry();
     check_split_and_losses();
     check_scores();
+    check_groups();
     printf("C interface: %d checks, %d failed\n", checks, failures);
     return failures != 0;
 }

@@ -147,6 +147,22 @@ static void surface_band(void) {
     stakebook_surface_band(count, 0.1, 0.5, 4, STAKEBOOK_P95, 0, STAKEBOOK_NO_TOLERANCE, 0, xs, ROOM, zs, ROOM, ys, ROOM, scratch, ROOM, numbers,
                            STAKEBOOK_BAND);
 }
+/* of a group whose allowance never ends */
+static size_t table[STAKEBOOK_TABLE];
+static void group_report(void) {
+    const uint32_t words[] = {STAKEBOOK_CUSTOM_DEGREE, 15};
+    stakebook_group_report(0, count, words, 2, no_values, 0, LENT, table, STAKEBOOK_TABLE);
+}
+static void group_surface_report(void) {
+    const uint32_t words[] = {STAKEBOOK_CUSTOM_DEGREE, 4};
+    stakebook_group_surface_report(0, count, words, 2, no_values, 0, xs, ROOM, zs, ROOM, ys, ROOM, scratch, ROOM, coefficients, STAKEBOOK_TERMS, errors,
+                                   STAKEBOOK_TERMS, pruned, STAKEBOOK_TERMS, lower, ROOM, upper, ROOM, outliers, ROOM, table, STAKEBOOK_TABLE);
+}
+static void group_split(void) {
+    const uint32_t words[] = {STAKEBOOK_CUSTOM_DEGREE, 3};
+    stakebook_group_split(0, count, words, 2, no_values, 0, xs, ROOM, ys, ROOM, ws, ROOM, sums, STAKEBOOK_SUMS, scratch, ROOM, coefficients,
+                          STAKEBOOK_TERMS, errors, STAKEBOOK_TERMS, numbers, 1, table, STAKEBOOK_TABLE);
+}
 /* settings by two lists: Custom `most`, AIC */
 static uint64_t split(uint32_t most) {
     const uint32_t words[] = {STAKEBOOK_CUSTOM_DEGREE, most};
@@ -297,6 +313,10 @@ int main(void) {
     show_cost("surface_fit of total degree 4", surface_fit, 100);
     show_cost("surface_band of total degree 4", surface_band, 100);
     show_cost("surface_report up to total degree 4", surface_report, 100);
+    stakebook_start(SIZE_MAX, table, STAKEBOOK_TABLE);
+    show_cost("group_report up to degree 15", group_report, 100);
+    show_cost("group_surface_report up to total degree 4", group_surface_report, 100);
+    show_cost("group_split up to degree 3", group_split, 3);
     show_cost("split up to degree 3", split_3, 3);
     show_cost("split up to degree 8", split_8, 3);
     show_cost("split up to degree 15", split_15, 3);

@@ -22,6 +22,9 @@ use Rattle.reporting.specs.Outputs.{LentOutputs}
 use Rattle.split.specs.declared.SplitAnswer.{SplitAnswer}
 use Rattle.split.specs.declared.SplitAnswer.the-variants as splits
 use Rattle.split.specs.Splits.{SplitOut, LentSplit, splitRefused, Does as SplitDoes}
+use Rattle.allowance.specs.declared.TableAnswer.{TableAnswer}
+use Rattle.allowance.specs.Table.{TableOut, TableIs}
+use Rattle.allowance.specs.Charges.{Charged, ReportCharged, SplitCharged}
 use Rattle.losses.specs.declared.LossAnswer.{LossAnswer}
 use Rattle.losses.specs.Losses.{LossOut, LossIs}
 use Rattle.scores.specs.declared.ScoresAnswer.{ScoresAnswer}
@@ -31,7 +34,7 @@ use Rattle.replay.specs.Records.{callsOf}
 use Rattle.replay.specs.Replay.{LentMemory, Ran, ReplayIs}
 use Rattle.lent.specs.Slices.{Slice, before, after, contents}
 use Rattle.lent.specs.Written.{over}
-use Rattle.capi.specs.Packed.{packedRefusal, packedBook, packedFit, packedBand, packedReport, packedLosses, bandNumbers, bandInto, lossNumbers, lossInto, BookPacked, PairPacked, FitPacked, BandPacked, ReportPacked, LossPacked, packedSplit, splitTotal, splitInto, SplitPacked, packedScores, leastNumber, scoresInto, ScoresPacked, packedRead, readNumbers, ReadPacked, packedReplay, ReplayPacked}
+use Rattle.capi.specs.Packed.{packedRefusal, packedBook, packedFit, packedBand, packedReport, packedLosses, bandNumbers, bandInto, lossNumbers, lossInto, BookPacked, PairPacked, FitPacked, BandPacked, ReportPacked, LossPacked, packedSplit, splitTotal, splitInto, SplitPacked, packedTable, TablePacked, ReportChargedPacked, SplitChargedPacked, chargedInto, packedScores, leastNumber, scoresInto, ScoresPacked, packedRead, readNumbers, ReadPacked, packedReplay, ReplayPacked}
 use Rattle.samples.specs.Columns.{Columns}
 
 pub book-packed : {o : Out} {a : Answer} {r : ℕ} {columns : Columns} {sums : List Float} → Is o a columns sums → r ≡ packedBook a → BookPacked o r columns sums
@@ -93,6 +96,37 @@ module _ (o : SplitOut) (places : ℕ) (w : LentSplit) (v : Slice Float) where
         answer = e ∙ ap packedSplit (i .answer);
         lent = record { answer = refl; scratch = i .scratch; before = i .before; after = i .after };
         total = n ∙ ap (λ (b : SplitAnswer). over (splitTotal b) (before v)) (i .answer);
+      })
+
+-- a table that was started or renewed
+pub table-packed : {o : TableOut} {a : TableAnswer} {r : ℕ} (t : Slice ℕ) → TableIs o a (after t) → r ≡ packedTable a → TablePacked o r t
+table-packed t i e = record { answer = e ∙ ap packedTable (i .answer); table = i .table }
+
+-- a report that is charged to a group
+pub report-charged-packed : {o : Charged ReportOut} {a : ReportAnswer} {r : ℕ} {w : LentOutputs} (t : Slice ℕ) → ReportCharged o a w (after t) → r ≡ packedReport a
+    → ReportChargedPacked o r w t
+report-charged-packed t i q = record { does = report-packed (i .does) q; table = i .table }
+
+-- a group's split whose total has no place, and one
+module _ (o : Charged SplitOut) (places : ℕ) (w : LentSplit) (v : Slice Float) (t : Slice ℕ) where
+  pub split-charged-short : ltb places 1 ≡ true → (left-alone : SplitDoes (splitRefused 1 []) (splits.Refused 1) w) → after v ≡ before v → after t ≡ before t → (r : ℕ)
+      → r ≡ packedRefusal 1 → SplitChargedPacked (chargedInto places (before t) o) r w v t
+  unfolding chargedInto packedSplit splitTotal
+  split-charged-short h alone ev et r e = rw h (record { does = record { answer = e; lent = alone; total = ev }; table = et })
+
+  pub split-charged-packed : ltb places 1 ≡ false → (a : SplitAnswer) (r : ℕ) → SplitCharged o a w (after t) → r ≡ packedSplit a
+      → after v ≡ over (splitTotal a) (before v) → SplitChargedPacked (chargedInto places (before t) o) r w v t
+  unfolding chargedInto
+  split-charged-packed h a r i e n =
+      rw h
+      (record {
+        does =
+            record {
+              answer = e ∙ ap packedSplit (i .does .answer);
+              lent = record { answer = refl; scratch = i .does .scratch; before = i .does .before; after = i .does .after };
+              total = n ∙ ap (λ (b : SplitAnswer). over (splitTotal b) (before v)) (i .does .answer);
+            };
+        table = i .table;
       })
 
 -- two places are written

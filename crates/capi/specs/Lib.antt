@@ -11,3 +11,4 @@ pub mod ReportByLaws
 pub mod SplitFitting
 pub mod ScoresFitting
 pub mod SurfaceFitting
+pub mod GroupFitting

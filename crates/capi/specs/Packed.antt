@@ -5,9 +5,9 @@ use mathlib.Core.List.{List, [], _∷_}
 use Prim.Native.Nat.{ℕ, _+_, _*_, _≤_, _<_}
 use lib.Dec.{ltb}
 use lib.Ieee.{Float}
-use lib.ListN.{length}
+use lib.ListN.{length, take}
 use Rattle.refusal.specs.Refusals.{mostNumber}
-use Rattle.basis.specs.Sizes.{maxSamples, maxTerms}
+use Rattle.basis.specs.Sizes.{maxSamples, maxTerms, sumPlaces}
 use Rattle.frame.specs.declared.cursor.Opened.{Opened}
 use Rattle.frame.specs.declared.cursor.Opened.the-variants as readers
 use Rattle.frame.specs.declared.cursor.Read.{Read}
@@ -23,17 +23,23 @@ use Rattle.measure.specs.declared.BandAnswer.{BandAnswer}
 use Rattle.measure.specs.declared.BandAnswer.the-variants as bands
 use Rattle.measure.specs.Fits.{FitOut, FitIs}
 use Rattle.measure.specs.Bands.{BandOut, BandIs, bandRefused}
+use Rattle.reporting.specs.declared.Places.{Places}
 use Rattle.reporting.specs.declared.ReportAnswer.{ReportAnswer}
 use Rattle.reporting.specs.declared.ReportAnswer.the-variants as reports
 use Rattle.reporting.specs.Reports.{ReportOut, Does}
 use Rattle.report.specs.Reports.{reportOut}
 use Rattle.reporting.specs.Outputs.{LentOutputs, placesOf}
-use Rattle.surface.specs.Points.{PointColumns}
+use Rattle.surface.specs.Points.{PointColumns, pointsOf, pointLengths}
 use Rattle.surface.specs.Surfaces.{surfaceReportOut}
+use Rattle.split.specs.declared.Places.{Places as SplitPlaces}
 use Rattle.split.specs.declared.SplitAnswer.{SplitAnswer}
 use Rattle.split.specs.declared.SplitAnswer.the-variants as splits
 use Rattle.split.specs.Rooms.{mostTests}
 use Rattle.split.specs.Splits.{SplitOut, LentSplit, splitRefused, splitOut, placesOf as splitPlaces, Does as SplitDoes}
+use Rattle.allowance.specs.declared.TableAnswer.{TableAnswer}
+use Rattle.allowance.specs.declared.TableAnswer.the-variants as tables
+use Rattle.allowance.specs.Table.{TableOut}
+use Rattle.allowance.specs.Charges.{Charged, groupReportOn, groupSurfaceOn, groupSplitOn}
 use Rattle.losses.specs.declared.LossAnswer.{LossAnswer}
 use Rattle.losses.specs.declared.LossAnswer.the-variants as losses
 use Rattle.losses.specs.Losses.{LossOut, LossIs, lossRefused}
@@ -47,7 +53,7 @@ use Rattle.replay.specs.Records.{callsOf, wellFormed}
 use Rattle.replay.specs.Replay.{LentMemory, buffersIn, Ran}
 use Rattle.lent.specs.Slices.{Slice, before, after, contents}
 use Rattle.lent.specs.Written.{over}
-use Rattle.samples.specs.Columns.{Columns}
+use Rattle.samples.specs.Columns.{Columns, samplesOf, lengths}
 
 -- ---- packed answers
 
@@ -101,6 +107,15 @@ splitTotal (splits.Refused k) = []
 -- a split whose total has so many places: 1 judges them with the other lengths, before all else
 unfoldable pub splitInto : ℕ → SplitOut → SplitOut
 splitInto places o = cond (ltb places 1) (splitRefused 1 []) o
+
+-- the same of a group's split, refused before the table is touched
+unfoldable pub chargedInto : ℕ → List ℕ → Charged SplitOut → Charged SplitOut
+chargedInto places table o = cond (ltb places 1) (record { does = splitRefused 1 []; table = table }) o
+
+-- a table that was started or renewed: 0
+unfoldable pub packedTable : TableAnswer → ℕ
+packedTable tables.Done = 0
+packedTable (tables.Refused k) = packedRefusal k
 
 -- the losses: the degree, as a fit's; total and score are written
 unfoldable pub packedLosses : LossAnswer → ℕ
@@ -235,6 +250,46 @@ pub record SplitPacked (o : SplitOut) (r : ℕ) (w : LentSplit) (v : Slice Float
 abbrev pub SplitPackedIs : ℕ → Settings → ℕ → Columns → List Float → ℕ → LentSplit → Slice Float → Type 0
 SplitPackedIs n settings limit columns sums r w v =
     SplitPacked (splitInto (length (before v)) (splitOut n settings limit columns (length sums) (splitPlaces w))) r w v
+
+-- t: the table
+pub record TablePacked (o : TableOut) (r : ℕ) (t : Slice ℕ) : Type 0 where
+  pub answer : r ≡ packedTable (o .answer)
+  pub table : after t ≡ o .table
+
+-- of a call that is charged to a group: o is what it does, and the table after it
+pub record ReportChargedPacked (o : Charged ReportOut) (r : ℕ) (w : LentOutputs) (t : Slice ℕ) : Type 0 where
+  pub does : ReportPacked (o .does) r w
+  pub table : after t ≡ o .table
+
+pub record SplitChargedPacked (o : Charged SplitOut) (r : ℕ) (w : LentSplit) (v : Slice Float) (t : Slice ℕ) : Type 0 where
+  pub does : SplitPacked (o .does) r w v
+  pub table : after t ≡ o .table
+
+-- a report of these columns and sums, of a group and the table
+abbrev pub groupReportOut : ℕ → List ℕ → ℕ → Settings → Columns → List Float → Places → Charged ReportOut
+groupReportOut group table n settings columns sums places =
+    groupReportOn group table n settings (samplesOf n columns) (take sumPlaces sums) (lengths columns) (length sums) places
+
+abbrev pub GroupReportPackedIs : ℕ → ℕ → Settings → Columns → List Float → ℕ → LentOutputs → Slice ℕ → Type 0
+GroupReportPackedIs group n settings columns sums r w t =
+    ReportChargedPacked (groupReportOut group (before t) n settings columns sums (placesOf (w .found))) r w t
+
+-- of a surface's report
+abbrev pub groupSurfaceOut : ℕ → List ℕ → ℕ → Settings → PointColumns → Places → Charged ReportOut
+groupSurfaceOut group table n settings columns places = groupSurfaceOn group table n settings (pointsOf n columns) (pointLengths columns) places
+
+abbrev pub GroupSurfacePackedIs : ℕ → ℕ → Settings → PointColumns → ℕ → LentOutputs → Slice ℕ → Type 0
+GroupSurfacePackedIs group n settings columns r w t =
+    ReportChargedPacked (groupSurfaceOut group (before t) n settings columns (placesOf (w .found))) r w t
+
+-- of a split
+abbrev pub groupSplitOut : ℕ → List ℕ → ℕ → Settings → Columns → ℕ → SplitPlaces → Charged SplitOut
+groupSplitOut group table n settings columns sums places = groupSplitOn group table n settings (samplesOf n columns) (lengths columns) sums places
+
+abbrev pub GroupSplitPackedIs : ℕ → ℕ → Settings → Columns → List Float → ℕ → LentSplit → Slice Float → Slice ℕ → Type 0
+GroupSplitPackedIs group n settings columns sums r w v t =
+    SplitChargedPacked
+    (chargedInto (length (before v)) (before t) (groupSplitOut group (before t) n settings columns (length sums) (splitPlaces w))) r w v t
 
 -- s, l and v: scratch, the losses, and the lent places for their total and score
 pub record LossPacked (o : LossOut) (r : ℕ) (s l v : Slice Float) : Type 0 where

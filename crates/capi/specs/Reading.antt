@@ -15,6 +15,8 @@ use Rattle.reporting.specs.declared.ReportAnswer.{ReportAnswer}
 use Rattle.reporting.specs.declared.ReportAnswer.the-variants as reports
 use Rattle.split.specs.declared.SplitAnswer.{SplitAnswer}
 use Rattle.split.specs.declared.SplitAnswer.the-variants as splits
+use Rattle.allowance.specs.declared.TableAnswer.{TableAnswer}
+use Rattle.allowance.specs.declared.TableAnswer.the-variants as tables
 use Rattle.losses.specs.declared.LossAnswer.{LossAnswer}
 use Rattle.losses.specs.declared.LossAnswer.the-variants as losses
 use Rattle.scores.specs.declared.ScoresAnswer.{ScoresAnswer}
@@ -79,6 +81,10 @@ unfoldable pub SplitRead : ℕ → SplitAnswer → Type 0
 SplitRead p (splits.Split total at tests d e) =
     (numberIn p ≡ 0) × (degreeIn p ≡ d .0) × (afterIn p ≡ e .0) × (breakIn p ≡ at) × (testsIn p ≡ tests)
 SplitRead p (splits.Refused k) = numberIn p ≡ k
+
+unfoldable pub TableRead : ℕ → TableAnswer → Type 0
+TableRead p tables.Done = numberIn p ≡ 0
+TableRead p (tables.Refused k) = numberIn p ≡ k
 
 unfoldable pub LossRead : ℕ → LossAnswer → Type 0
 LossRead p (losses.Losses d total score) = (numberIn p ≡ 0) × (degreeIn p ≡ d .0)

@@ -43,7 +43,7 @@ split-into places o h = go (ltb places 1)
     go false = h
 
 module _ (n : ℕ) (settings : Settings) (limit : ℕ) (rows : List WeightedRow) (four : 4 ≤ length rows) (few : length rows ≤ 4096) (most : maxDegree (settings .bound) (length rows) ≤ 15) where
-  past-fits : SplitFits (splitPast n (settings .bound) (settings .criterion) limit rows .answer)
+  pub past-fits : SplitFits (splitPast n (settings .bound) (settings .criterion) limit rows .answer)
   unfolding splitPast splitAt SplitFits
   past-fits =
       let best = bestBreak (settings .bound) (settings .criterion) rows in
@@ -69,7 +69,7 @@ split-fits n settings limit columns sums places =
 
 -- ---- read back
 
-split-read : (a : SplitAnswer) → SplitFits a → SplitRead (packedSplit a) a
+pub split-read : (a : SplitAnswer) → SplitFits a → SplitRead (packedSplit a) a
 unfolding SplitFits SplitRead packedSplit
 split-read (splits.Split total at tests d e) h =
     let hd : d .0 < 0x100 = omega (arith, h .0) in

@@ -30,11 +30,12 @@ ghost use Rattle.losses.specs.Losses.{lossOut};
 ghost use Rattle.scores.specs.Scores.{scoresOut};
 ghost use Rattle.carried.specs.Carry.{carryOut};
 ghost use Rattle.split.specs.Splits.{lentSplit};
+ghost use Rattle.allowance.specs.Table.{startOut, renewOut};
 ghost use Rattle.two_column.specs.Pairs.{columns as pairColumns};
 ghost use Rattle.two_column.specs.Calls.{openOut as pairOpenOut, addOut as pairAddOut, correctOut as pairCorrectOut, withdrawOut as pairWithdrawOut, addFrameOut as pairFrameOut};
 ghost use Rattle.replay.specs.Replay.{memory};
 ghost use Rattle.settings.specs.Numbers.{boundOf, criterionOf, confidenceOf, toleranceOf, settingsOf, settingsIn};
-ghost use Rattle.capi.specs.Packed.{packedFields, packedReport, ReportFits, packedBand, bandNumbers, BookPacked, PairPacked, FitPacked, BandPacked, bandInto, ReportPackedIs, SurfacePackedIs, packedSplit, splitTotal, SplitFits, SplitPackedIs, packedLosses, lossNumbers, LossPacked, lossInto, packedScores, leastNumber, ScoresFits, ScoresPacked, scoresInto, packedOpened, packedRead, readNumbers, ReadPacked, ReplayPacked};
+ghost use Rattle.capi.specs.Packed.{packedFields, packedReport, ReportFits, packedBand, bandNumbers, BookPacked, PairPacked, FitPacked, BandPacked, bandInto, ReportPackedIs, SurfacePackedIs, packedSplit, splitTotal, SplitFits, SplitPackedIs, TablePacked, GroupReportPackedIs, GroupSurfacePackedIs, GroupSplitPackedIs, packedLosses, lossNumbers, LossPacked, lossInto, packedScores, leastNumber, ScoresFits, ScoresPacked, scoresInto, packedOpened, packedRead, readNumbers, ReadPacked, ReplayPacked};
 
 // The places that a band is written to, the total and the score of losses, and a reader's sample.
 const BAND: usize = 3;
@@ -721,6 +722,143 @@ pub extern "C" fn stakebook_scores(
         scores,
     );
     packed_scores(answer, least)
+}
+
+// A table of eight counters, one for each course group, and the quota that they are refilled to.
+#[no_mangle]
+pub extern "C" fn stakebook_start(quota: usize, table: &mut [usize]) -> u64
+    ensures { λ r. ⌜ TablePacked (startOut quota (before table)) r table ⌝ }
+{
+    packed::table(allowance::start(quota, table))
+}
+
+// All eight counters become the quota.
+#[no_mangle]
+pub extern "C" fn stakebook_renew(table: &mut [usize]) -> u64
+    ensures { λ r. ⌜ TablePacked (renewOut (before table)) r table ⌝ }
+{
+    packed::table(allowance::renew(table))
+}
+
+// A report of a group's book, by lists of settings, whose pivot tests are taken from the group's counter.
+#[no_mangle]
+pub extern "C" fn stakebook_group_report(
+    group: usize,
+    count: usize,
+    words: &[u32],
+    values: &[f64],
+    xs: &[f64],
+    ys: &[f64],
+    ws: &[f64],
+    sums: &[f64],
+    scratch: &mut [f64],
+    coefficients: &mut [f64],
+    errors: &mut [f64],
+    pruned: &mut [u8],
+    lower: &mut [f64],
+    upper: &mut [f64],
+    outliers: &mut [u8],
+    table: &mut [usize],
+) -> u64
+    ensures { λ r. ⌜ GroupReportPackedIs group count (settingsIn (before words) (before values)) (columnsOf (before xs) (before ys) (before ws)) (before sums) r (outputs scratch coefficients errors pruned lower upper outliers) table ⌝ }
+{
+    let settings = settings::listed(words, values);
+    packed_report(allowance::group_report(
+        group,
+        Book { count },
+        settings,
+        xs,
+        ys,
+        ws,
+        sums,
+        scratch,
+        coefficients,
+        errors,
+        pruned,
+        lower,
+        upper,
+        outliers,
+        table,
+    ))
+}
+
+// The same of a group's surface.
+#[no_mangle]
+pub extern "C" fn stakebook_group_surface_report(
+    group: usize,
+    count: usize,
+    words: &[u32],
+    values: &[f64],
+    xs: &[f64],
+    zs: &[f64],
+    ys: &[f64],
+    scratch: &mut [f64],
+    coefficients: &mut [f64],
+    errors: &mut [f64],
+    pruned: &mut [u8],
+    lower: &mut [f64],
+    upper: &mut [f64],
+    outliers: &mut [u8],
+    table: &mut [usize],
+) -> u64
+    ensures { λ r. ⌜ GroupSurfacePackedIs group count (settingsIn (before words) (before values)) (pointColumns (before xs) (before zs) (before ys)) r (outputs scratch coefficients errors pruned lower upper outliers) table ⌝ }
+{
+    let settings = settings::listed(words, values);
+    packed_report(allowance::group_surface_report(
+        group,
+        count,
+        settings,
+        xs,
+        zs,
+        ys,
+        scratch,
+        coefficients,
+        errors,
+        pruned,
+        lower,
+        upper,
+        outliers,
+        table,
+    ))
+}
+
+// A split of a group's book, within the group's counter.
+#[no_mangle]
+pub extern "C" fn stakebook_group_split(
+    group: usize,
+    count: usize,
+    words: &[u32],
+    values: &[f64],
+    xs: &[f64],
+    ys: &[f64],
+    ws: &[f64],
+    sums: &[f64],
+    scratch: &mut [f64],
+    earlier: &mut [f64],
+    later: &mut [f64],
+    total: &mut [f64],
+    table: &mut [usize],
+) -> u64
+    ensures { λ r. ⌜ GroupSplitPackedIs group count (settingsIn (before words) (before values)) (columnsOf (before xs) (before ys) (before ws)) (before sums) r (lentSplit scratch earlier later) total table ⌝ }
+{
+    if total.len() < 1 {
+        return packed::refused(1);
+    }
+    let settings = settings::listed(words, values);
+    let answer = allowance::group_split(
+        group,
+        Book { count },
+        settings,
+        xs,
+        ys,
+        ws,
+        sums,
+        scratch,
+        earlier,
+        later,
+        table,
+    );
+    packed_split(answer, total)
 }
 
 // A reader of a frame: the offset of its first sample.

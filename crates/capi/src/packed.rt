@@ -1,10 +1,11 @@
 // Answers of one number packed into one u64. A refusal's number is in the top byte, 0 where there is none.
+use allowance::TableAnswer;
 use book::Answer;
 use frame::Opened;
 use measure::FitAnswer;
 use replay::Replayed;
 ghost use mathlib.Core.Path.{_≡_};
-ghost use Rattle.capi.specs.Packed.{packedRefusal, packedBook, packedFit, packedReplay, packedOpened};
+ghost use Rattle.capi.specs.Packed.{packedRefusal, packedBook, packedFit, packedTable, packedReplay, packedOpened};
 
 // A refusal's number, in bits 56 to 63.
 pub fn refused(number: u8) -> u64
@@ -30,6 +31,16 @@ pub fn fit(answer: FitAnswer) -> u64
     match answer {
         FitAnswer::Fit(d) => d.0 as u64,
         FitAnswer::Refused(k) => refused(k),
+    }
+}
+
+// A table that was started or renewed: 0.
+pub fn table(answer: TableAnswer) -> u64
+    ensures { λ r. ⌜ r ≡ packedTable answer ⌝ }
+{
+    match answer {
+        TableAnswer::Done => 0,
+        TableAnswer::Refused(k) => refused(k),
     }
 }
 
