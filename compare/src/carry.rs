@@ -120,6 +120,7 @@ impl Plan {
             losses: longest(|l| l.losses).max(rows),
             solved: longest(|l| l.solved),
             scores: longest(|l| l.scores),
+            ..Lengths::default()
         };
         let split = (random.unit() * list.steps.len() as f64) as usize;
         let (first, rest) = list.steps.split_at(split);

@@ -50,6 +50,7 @@ pub fn filled(list: &List) -> Memory {
         losses: longest(|l| l.losses),
         solved: longest(|l| l.solved),
         scores: longest(|l| l.scores),
+        table: longest(|l| l.table),
     };
     filled_for(list.contents, &lengths)
 }

@@ -1,5 +1,6 @@
 //! The memory that a book is lent, by name.
 
+use judge::groups::TABLE;
 use judge::refusals::{Lengths, MOST_SAMPLES};
 use judge::sums::{PLACES, TERMS};
 
@@ -65,6 +66,7 @@ pub const LENT: Lengths = Lengths {
     losses: MOST_SAMPLES,
     solved: TERMS,
     scores: TERMS,
+    table: TABLE,
 };
 
 /// Everything that can be lent, whole.
