@@ -51,6 +51,7 @@ pub fn filled(list: &List) -> Memory {
         solved: longest(|l| l.solved),
         scores: longest(|l| l.scores),
         table: longest(|l| l.table),
+        counts: longest(|l| l.counts),
     };
     filled_for(list.contents, &lengths)
 }

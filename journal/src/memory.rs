@@ -2,6 +2,7 @@
 
 use judge::groups::TABLE;
 use judge::refusals::{Lengths, MOST_SAMPLES};
+use judge::season::STAKES;
 use judge::sums::{PLACES, TERMS};
 
 /// The names of the memory; pruned, outliers and solved hold bytes.
@@ -67,6 +68,7 @@ pub const LENT: Lengths = Lengths {
     solved: TERMS,
     scores: TERMS,
     table: TABLE,
+    counts: STAKES,
 };
 
 /// Everything that can be lent, whole.
