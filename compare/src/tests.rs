@@ -756,6 +756,13 @@ fn texts_are_judged() {
     });
     let longer = |key: &String| key.ends_with("with places past the end");
     assert!(missing.iter().all(longer), "{missing:?}");
+    // The same of groups; what several calls tell is the comparison's. The 12 is not of the samples' own sums.
+    let missing = missing_in("groups.calls", |key| {
+        let several =
+            key.starts_with("groups: ") || key == "group_report by polyfit: refused by 12";
+        of_groups(key) && !several
+    });
+    assert!(missing.is_empty(), "{missing:?}");
     // Every call and refusal, by polyfit too, every setting and event; the pairs are the season's. It has no
     // surfaces and no groups.
     let missing = missing_in("fixed.calls", |key| {
