@@ -2,7 +2,7 @@
 """Does the comparison find anything? Puts one fault after another into a copy of the judge, runs the comparison, and prints after how many
 lists and seconds each is found.
 
-  python3 tools/judge_mutations.py [CALLS]     in the repository's root; CALLS (default 200000) limits each run
+  python3 tools/judge_mutations.py [CALLS [NAME]]     in the repository's root; CALLS (default 200000) limits each run, NAME takes the faults that begin so
 
 A fault that the judge shares with no other side must show as a difference. docs/COMPARISON.md has the table that it printed."""
 import pathlib, re, shutil, subprocess, sys, tempfile, time
@@ -115,11 +115,34 @@ FAULTS = [
     ("surface: g without its last term", "surface.rs", "sums[G + i] += terms[i] * sample.y;", "if i < 14 { sums[G + i] += terms[i] * sample.y; }"),
     ("surface: scratch left at 10", "surface.rs", "clear_scratch(scratch, count);\n    let values = fit::fit(&samples, &folded(&samples), degree)?;",
      "let values = fit::fit(&samples, &folded(&samples), degree)?;\n    clear_scratch(scratch, count);"),
+    ("groups: a cost taken at 16", "groups.rs", "return Err(16);", "*counter = 0; return Err(16);"),
+    ("groups: 16 at a counter of the cost", "groups.rs", "if cost > *counter {", "if cost >= *counter {"),
+    ("groups: none taken at 11 and 12", "groups.rs", "    book::report(count, memory, settings, scratch, out)",
+     "    let answer = book::report(count, memory, settings, scratch, out); if answer.is_err() { table[group] += report_cost(&samples, memory.sums, settings); } answer"),
+    ("groups: one counter for two", "groups.rs", "take(&mut table[group], report_cost(&samples, memory.sums, settings))?;",
+     "take(&mut table[group / 2], report_cost(&samples, memory.sums, settings))?;"),
+    ("groups: a refill of seven", "groups.rs", "let quota = table[QUOTA];\n    table[..GROUPS].fill(quota);", "let quota = table[QUOTA];\n    table[..GROUPS - 1].fill(quota);"),
+    ("groups: a refill from the greatest counter", "groups.rs", "let quota = table[QUOTA];", "let quota = table[..GROUPS].iter().copied().max().unwrap_or(0);"),
+    ("groups: a start that leaves the quota", "groups.rs", "table[QUOTA] = quota;", ""),
+    ("groups: group 8 let through", "refusals.rs", "group >= GROUPS", "group > GROUPS"),
+    ("groups: 17 before 1", "refusals.rs", "vec![(1, short), (17, group >= GROUPS)]", "vec![(17, group >= GROUPS), (1, short)]"),
+    ("groups: 17 after 8", "refusals.rs", "vec![(1, short), (17, group >= GROUPS)];\n    conditions.extend(&own[1..]);",
+     "vec![(1, short)];\n    conditions.extend(&own[1..]);\n    conditions.push((17, group >= GROUPS));"),
+    ("groups: the table not judged by 1", "refusals.rs", "own[0].1 || lengths.table < TABLE", "own[0].1 || lengths.table <= group.min(7)"),
+    ("groups: the chosen degree's second solving counted", "groups.rs", "pivot_tests(samples, sums, max_degree(settings.bound, samples.len()))",
+     "pivot_tests(samples, sums, max_degree(settings.bound, samples.len())) + crate::fit::report(samples, sums, settings).map_or(0, |r| r.coefficients.len())"),
+    ("groups: total degrees that are not tried counted", "fit.rs", "tried::<S>(bound, samples.len()).into_iter().map(compared).sum()", "(0..=bound).map(compared).sum()"),
+    ("groups: a surface's cost by its degree", "fit.rs", "let compared = |degree| pivots_compared(sums, count_of::<S>(degree));", "let compared = |degree| pivots_compared(sums, degree + 1);"),
+    ("groups: a split's cost of the last break alone", "groups.rs", "tests(&breaks(samples, settings))", "breaks(samples, settings).last().map_or(0, |at| at.tests)"),
+    ("groups: scratch left at 16", "groups.rs", "clear_scratch(scratch, count);\n    let cost = split_cost(&samples, settings);", "let cost = split_cost(&samples, settings);"),
+    ("groups: scratch cleared at 17", "groups.rs", "refusals::judged(&refusals::group_report(&lengths, count, &samples, settings, group))?;",
+     "let refused = refusals::judged(&refusals::group_report(&lengths, count, &samples, settings, group)); if refused == Err(17) { clear_scratch(scratch, count); } refused?;"),
 ]
 
 
 def main():
     calls = sys.argv[1] if len(sys.argv) > 1 else "200000"
+    begin = sys.argv[2] if len(sys.argv) > 2 else ""
     root = pathlib.Path.cwd()
     with tempfile.TemporaryDirectory() as folder:
         copy = pathlib.Path(folder)
@@ -127,7 +150,7 @@ def main():
         if (root / "target/staticlib").exists():
             shutil.copytree(root / "target/staticlib", copy / "target/staticlib")
         print("| Fault in the judge | Found at list | Seconds |\n|---|---|---|")
-        for name, file, old, new in FAULTS:
+        for name, file, old, new in (fault for fault in FAULTS if fault[0].startswith(begin)):
             path = copy / "judge/src" / file
             text = path.read_text()
             assert text.count(old) == 1, f"{name}: {old!r} stands {text.count(old)} times"
@@ -135,7 +158,7 @@ def main():
             subprocess.run(["cargo", "build", "--release", "--quiet", "-p", "compare"], cwd=copy, check=True, stderr=subprocess.DEVNULL)
             start = time.monotonic()
             run = subprocess.run(["target-rust/release/compare", "--seed", "1", "--calls", calls], cwd=copy, capture_output=True, text=True)
-            found = re.search(r"list (\d+): DIFFERENCE", run.stdout)
+            found = re.search(r"list (\d+)(?:, \w+)?: DIFFERENCE", run.stdout)
             # The judge with the fault may also look past the end of a memory, which ends the run by a panic.
             otherwise = "a panic" if run.returncode == 101 else "not found"
             at = found.group(1) if found else otherwise

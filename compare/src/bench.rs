@@ -96,6 +96,7 @@ fn memory_of(samples: &[Sample]) -> Memory {
         losses: vec![0.0; count],
         solved: vec![0; 16],
         scores: vec![0.0; 16],
+        table: Vec::new(),
     }
 }
 
@@ -118,6 +119,7 @@ fn lent(memory: &mut Memory) -> Lent<'_> {
         losses: &mut memory.losses,
         solved: &mut memory.solved,
         scores: &mut memory.scores,
+        table: &mut memory.table,
     }
 }
 

@@ -13,6 +13,14 @@ pub enum Poke {
     Weight { at: usize, value: f64 },
     Sums { at: usize, value: f64 },
     Z { at: usize, value: f64 },
+    Table { at: usize, number: usize },
+}
+
+impl Poke {
+    /// Whether it is the book's memory: its columns and sums.
+    pub fn is_the_books(&self) -> bool {
+        !matches!(self, Poke::Z { .. } | Poke::Table { .. })
+    }
 }
 
 /// One call of a list.
@@ -53,6 +61,11 @@ pub fn name(call: &Call) -> &'static str {
         Call::SurfaceFit { .. } => "surface_fit",
         Call::SurfaceReport(_) => "surface_report",
         Call::SurfaceBand { .. } => "surface_band",
+        Call::Start { .. } => "start",
+        Call::Renew => "renew",
+        Call::GroupReport { .. } => "group_report",
+        Call::GroupSurfaceReport { .. } => "group_surface_report",
+        Call::GroupSplit { .. } => "group_split",
         Call::Reader(_) => "reader",
     }
 }
@@ -90,6 +103,17 @@ pub fn conditions(
         Call::SurfaceBand { site, degree, confidence, tolerance } => {
             let at = (*site, *degree);
             refusals::surface_band(lengths, count, sites, at, *confidence, *tolerance)
+        }
+        Call::Start { .. } => refusals::start(lengths),
+        Call::Renew => refusals::renew(lengths),
+        Call::GroupReport { group, settings } => {
+            refusals::group_report(lengths, count, samples, *settings, *group)
+        }
+        Call::GroupSurfaceReport { group, settings } => {
+            refusals::group_surface_report(lengths, count, sites, *settings, *group)
+        }
+        Call::GroupSplit { group, settings } => {
+            refusals::group_split(lengths, count, samples, *settings, *group)
         }
         Call::Reader(frame) => refusals::reader(frame),
     }

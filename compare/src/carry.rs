@@ -17,7 +17,7 @@ use judge::Sample;
 
 use crate::call::{name, List, Step};
 use crate::coverage::{Coverage, REFUSALS};
-use crate::memory::{difference, filled_for, first_difference, samples};
+use crate::memory::{difference, filled_for, first_difference, longest, samples};
 use crate::random::Random;
 use crate::run::{is_reading, passes_nine, same_answer};
 use crate::two_column;
@@ -83,11 +83,8 @@ struct Plan {
 
 impl Plan {
     fn of(list: &List, random: &mut Random) -> Self {
-        let longest = |of: fn(&Lengths) -> usize| {
-            list.steps.iter().map(|step| of(&step.lengths)).max().unwrap_or(0)
-        };
-        let (x, y) = (longest(|l| l.x), longest(|l| l.y));
-        let longer = x.max(y);
+        let longest = longest(list.steps.iter().map(|step| &step.lengths));
+        let longer = longest.x.max(longest.y);
         let weight = match random.below(3) {
             0 => longer,
             1 => longer + random.between(1, 5),
@@ -103,23 +100,14 @@ impl Plan {
             Lengths { weight, scratch, lower, upper, outlier, losses, ..l }
         };
         let whole = Lengths {
-            x,
-            z: longest(|l| l.z),
-            y,
             weight,
-            sums: longest(|l| l.sums).max(PLACES),
-            scratch: longest(|l| l.scratch).max(rows),
-            coefficients: longest(|l| l.coefficients),
-            errors: longest(|l| l.errors),
-            pruned: longest(|l| l.pruned),
-            lower: longest(|l| l.lower).max(rows),
-            upper: longest(|l| l.upper).max(rows),
-            outlier: longest(|l| l.outlier).max(rows),
-            before: longest(|l| l.before),
-            after: longest(|l| l.after),
-            losses: longest(|l| l.losses).max(rows),
-            solved: longest(|l| l.solved),
-            scores: longest(|l| l.scores),
+            sums: longest.sums.max(PLACES),
+            scratch: longest.scratch.max(rows),
+            lower: longest.lower.max(rows),
+            upper: longest.upper.max(rows),
+            outlier: longest.outlier.max(rows),
+            losses: longest.losses.max(rows),
+            ..longest
         };
         let split = (random.unit() * list.steps.len() as f64) as usize;
         let (first, rest) = list.steps.split_at(split);

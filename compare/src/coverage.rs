@@ -4,6 +4,7 @@ use std::collections::{BTreeMap, BTreeSet};
 
 use journal::{Answer, Call, Memory};
 use judge::fit::{self, Criterion, PruningRule, Settings};
+use judge::groups::TABLE;
 use judge::numbers::{bits, EPSILON};
 use judge::refusals::{Conditions, Lengths};
 use judge::solve::inverse;
@@ -16,6 +17,7 @@ use judge::Sample;
 
 use crate::call::name;
 use crate::carry;
+use crate::groups;
 use crate::lines;
 use crate::replay;
 use crate::run::{passes_nine, places_of_terms};
@@ -35,6 +37,7 @@ pub struct Seen<'a> {
     pub sites: Vec<SurfaceSample>,
     pub conditions: Conditions,
     pub answer: Answer,
+    pub before: &'a Memory,
     pub memory: &'a Memory,
     pub own_sums: bool,
     pub by_reference: bool,
@@ -73,7 +76,7 @@ pub const REFUSALS: [(&str, &[u8]); 15] = [
 /// Pairs that cannot both hold: without samples no column value is below the count, and a bound is
 /// then 0; a bound is below a count of less than four; a frame of neither version has no weights; a
 /// surface's band without samples needs no place.
-const IMPOSSIBLE_PAIRS: [(&str, u8, u8); 9] = [
+const IMPOSSIBLE_PAIRS: [(&str, u8, u8); 12] = [
     ("fit", 4, 7),
     ("report", 7, 8),
     ("split", 7, 8),
@@ -83,10 +86,13 @@ const IMPOSSIBLE_PAIRS: [(&str, u8, u8); 9] = [
     ("surface_fit", 4, 7),
     ("surface_report", 7, 8),
     ("surface_band", 1, 7),
+    ("group_report", 7, 8),
+    ("group_surface_report", 7, 8),
+    ("group_split", 7, 8),
 ];
 
 /// Calls that read the fit, each with the refusals that polyfit can speak of.
-const BY_REFERENCE: [(&str, &[u8]); 7] = [
+const BY_REFERENCE: [(&str, &[u8]); 9] = [
     ("fit", &[10]),
     ("report", &[11, 12]),
     ("split", &[16, 11]),
@@ -94,6 +100,8 @@ const BY_REFERENCE: [(&str, &[u8]); 7] = [
     ("scores", &[11, 12]),
     ("validate", &[10, 11]),
     ("band", &[10, 12]),
+    ("group_report", &[16, 11, 12]),
+    ("group_split", &[16, 11]),
 ];
 
 const CONFIDENCES: [&str; 7] = ["P80", "P90", "P95", "P98", "P99", "P999", "Custom"];
@@ -104,7 +112,7 @@ const CRITERIA: [&str; 2] = ["Aic", "Bic"];
 const RULES: [&str; 2] = ["positive", "size"];
 
 /// Memory whose length is judged, and by which calls.
-const LENGTHS: [(&str, &[&str]); 13] = [
+const LENGTHS: [(&str, &[&str]); 15] = [
     (
         "sums",
         &[
@@ -122,6 +130,8 @@ const LENGTHS: [(&str, &[&str]); 13] = [
             "scores",
             "validate",
             "band",
+            "group_report",
+            "group_split",
         ],
     ),
     (
@@ -137,20 +147,28 @@ const LENGTHS: [(&str, &[&str]); 13] = [
             "surface_fit",
             "surface_report",
             "surface_band",
+            "group_report",
+            "group_surface_report",
+            "group_split",
         ],
     ),
-    ("coefficients", &["fit", "report", "validate", "surface_fit", "surface_report"]),
-    ("errors", &["report", "surface_report"]),
-    ("pruned", &["report", "surface_report"]),
-    ("lower", &["report", "surface_report"]),
-    ("upper", &["report", "surface_report"]),
-    ("outlier", &["report", "surface_report"]),
-    ("before", &["split"]),
-    ("after", &["split"]),
+    ("coefficients", &["fit", "validate", "surface_fit"]),
+    ("coefficients", &REPORTS),
+    ("errors", &REPORTS),
+    ("pruned", &REPORTS),
+    ("lower", &REPORTS),
+    ("upper", &REPORTS),
+    ("outlier", &REPORTS),
+    ("before", &["split", "group_split"]),
+    ("after", &["split", "group_split"]),
     ("losses", &["losses"]),
     ("solved", &["scores"]),
     ("scores", &["scores"]),
+    ("table", &["start", "renew", "group_report", "group_surface_report", "group_split"]),
 ];
+
+/// The calls that write a report.
+const REPORTS: [&str; 4] = ["report", "surface_report", "group_report", "group_surface_report"];
 
 /// Everything else that must happen.
 const EVENTS: [&str; 81] = [
@@ -266,6 +284,7 @@ impl Coverage {
         keys.extend(split::EVENTS.map(String::from));
         keys.extend(windows::events());
         keys.extend(surface::events());
+        keys.extend(groups::events());
         keys.extend(two_column::EVENTS.map(String::from));
         for (call, numbers) in two_column::REFUSALS {
             keys.push(format!("two columns: {call} answered"));
@@ -305,7 +324,8 @@ impl Coverage {
         );
     }
 
-    pub fn note_call(&mut self, seen: &Seen) {
+    /// The outcome of a call, the conditions that held, and the lengths that it was lent.
+    fn note_outcome(&mut self, seen: &Seen) {
         self.calls += 1;
         let name = name(seen.call);
         let outcome = match seen.answer {
@@ -319,6 +339,30 @@ impl Coverage {
         }
         self.note_pairs(name, &seen.conditions);
         self.note_lengths(seen);
+    }
+
+    /// A call on one of several groups' books; of those without a group, others tell.
+    pub fn note_group(&mut self, seen: &Seen) {
+        if !groups::is_group(seen.call) {
+            self.calls += 1;
+            return;
+        }
+        self.note_outcome(seen);
+        for event in groups::happened(seen) {
+            self.note(event);
+        }
+    }
+
+    /// What happened in a list of several groups.
+    pub fn note_groups(&mut self, event: String) {
+        self.note(event);
+    }
+
+    pub fn note_call(&mut self, seen: &Seen) {
+        if groups::is_group(seen.call) {
+            return self.note_group(seen);
+        }
+        self.note_outcome(seen);
         if surface::is_surface(seen.call) {
             for event in surface::happened(seen) {
                 self.note(event);
@@ -720,7 +764,7 @@ fn middle_sum_is_infinite(residuals: &[f64]) -> bool {
 
 fn required_refusals() -> Vec<String> {
     let mut keys = Vec::new();
-    let all = || REFUSALS.into_iter().chain(surface::REFUSALS);
+    let all = || REFUSALS.into_iter().chain(surface::REFUSALS).chain(groups::REFUSALS);
     for (call, numbers) in all() {
         keys.push(format!("{call}: answered"));
         keys.extend(numbers.iter().map(|number| format!("{call}: refused by {number}")));
@@ -775,6 +819,7 @@ fn length_of(lengths: &Lengths, memory: &str, count: usize, terms: usize) -> (us
         "losses" => (lengths.losses, count),
         "solved" => (lengths.solved, TERMS),
         "scores" => (lengths.scores, TERMS),
+        "table" => (lengths.table, TABLE),
         _ => (lengths.outlier, count),
     }
 }

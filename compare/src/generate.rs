@@ -100,9 +100,9 @@ impl<'a> Maker<'a> {
             solved: TERMS + more(),
             scores: TERMS + more(),
             x: self.x_length,
-            z: 0,
             y: self.y_length,
             weight: self.weight_length,
+            ..Lengths::default()
         }
     }
 

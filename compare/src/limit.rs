@@ -210,7 +210,6 @@ fn lengths(random: &mut Random, n: usize) -> Lengths {
         x: capacity,
         y: capacity,
         weight: capacity,
-        z: 0,
         sums: PLACES,
         scratch: n,
         coefficients: TERMS,
@@ -219,11 +218,7 @@ fn lengths(random: &mut Random, n: usize) -> Lengths {
         lower: n,
         upper: n,
         outlier: n,
-        before: 0,
-        after: 0,
-        losses: 0,
-        solved: 0,
-        scores: 0,
+        ..Lengths::default()
     };
     if n > 0 && random.one_in(20) {
         let all: [fn(&mut Lengths) -> &mut usize; 11] = [

@@ -1,5 +1,6 @@
 //! Runs random lists of calls through the judge, the plain ledger, polyfit and the port, and compares
-//! every answer and every bit, NaNs as one value; lists of surfaces through the judge and the port.
+//! every answer and every bit, NaNs as one value; lists of surfaces through the judge and the port; lists of
+//! several course groups through all of them, and for each group once more without the others.
 //!
 //! `compare [--seed N] [--calls N] [--lists N]`: runs until so many calls were judged by polyfit, and
 //! at least so many lists. The seed is printed; `--seed clock` takes one from the clock. `--list N`
@@ -16,6 +17,7 @@ mod call;
 mod carry;
 mod coverage;
 mod generate;
+mod groups;
 mod gsl;
 mod limit;
 mod lines;
@@ -43,6 +45,7 @@ use journal::{Port, Side};
 
 use call::List;
 use coverage::Coverage;
+use groups::Course;
 use run::{run, Difference};
 
 struct Options {
@@ -119,6 +122,17 @@ fn print_failure(list: &List, difference: &Difference, sides: &[&dyn Side]) {
     }
 }
 
+/// The same of a list of groups.
+fn print_groups(course: &Course, difference: &Difference, sides: &[&dyn Side]) {
+    println!("step {}: {}", difference.step, difference.what);
+    let outcome = |course: &Course| groups::run(course, sides, &mut Coverage::default());
+    let smallest = groups::smaller(course, |course| outcome(course).is_err());
+    println!("shrunk to:\n{smallest}");
+    if let Err(difference) = outcome(&smallest) {
+        println!("step {}: {}", difference.step, difference.what);
+    }
+}
+
 /// The list of calls on a book of this number, and of every fourth a list of surfaces. They are drawn apart,
 /// so that the books of a seed are what they are without surfaces.
 fn lists(seed: u64, number: u64) -> Vec<List> {
@@ -137,6 +151,14 @@ fn run_all(options: &Options, sides: &[&dyn Side], coverage: &mut Coverage) -> b
             if let Err(difference) = run(&list, sides, coverage) {
                 println!("seed {}, list {number}: DIFFERENCE", options.seed);
                 print_failure(&list, &difference, sides);
+                return false;
+            }
+        }
+        if number % 8 == 2 {
+            let course = groups::course(options.seed, number / 8);
+            if let Err(difference) = groups::run(&course, sides, coverage) {
+                println!("seed {}, list {number}, groups: DIFFERENCE", options.seed);
+                print_groups(&course, &difference, sides);
                 return false;
             }
         }

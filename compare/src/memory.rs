@@ -27,12 +27,24 @@ fn bytes(random: &mut Random, length: usize) -> Vec<u8> {
     (0..length + BEYOND).map(|_| random.next() as u8).collect()
 }
 
+/// Small whole numbers, now and then any.
+fn whole_numbers(random: &mut Random, length: usize) -> Vec<usize> {
+    let number = |random: &mut Random| match random.below(4) {
+        0 => random.next() as usize,
+        _ => random.below(40),
+    };
+    (0..length + BEYOND).map(|_| number(random)).collect()
+}
+
 /// Long enough for every call of the list, holding what the list's seed says.
 pub fn filled(list: &List) -> Memory {
-    let longest = |of: fn(&Lengths) -> usize| {
-        list.steps.iter().map(|step| of(&step.lengths)).max().unwrap_or(0)
-    };
-    let lengths = Lengths {
+    filled_for(list.contents, &longest(list.steps.iter().map(|step| &step.lengths)))
+}
+
+/// The greatest of each length.
+pub fn longest<'a>(all: impl Iterator<Item = &'a Lengths> + Clone) -> Lengths {
+    let longest = |of: fn(&Lengths) -> usize| all.clone().map(of).max().unwrap_or(0);
+    Lengths {
         x: longest(|l| l.x),
         z: longest(|l| l.z),
         y: longest(|l| l.y),
@@ -50,8 +62,9 @@ pub fn filled(list: &List) -> Memory {
         losses: longest(|l| l.losses),
         solved: longest(|l| l.solved),
         scores: longest(|l| l.scores),
-    };
-    filled_for(list.contents, &lengths)
+        table: longest(|l| l.table),
+        counts: longest(|l| l.counts),
+    }
 }
 
 /// Memory of these lengths and a little more, holding what the seed says.
@@ -75,6 +88,7 @@ pub fn filled_for(contents: u64, lengths: &Lengths) -> Memory {
         z: numbers(random, lengths.z),
         solved: bytes(random, lengths.solved),
         scores: numbers(random, lengths.scores),
+        table: whole_numbers(random, lengths.table),
     }
 }
 
@@ -85,6 +99,12 @@ pub fn poke(memory: &mut Memory, poke: Poke) {
         Poke::Weight { at, value } => (&mut memory.weight, at, value),
         Poke::Sums { at, value } => (&mut memory.sums, at, value),
         Poke::Z { at, value } => (&mut memory.z, at, value),
+        Poke::Table { at, number } => {
+            if let Some(place) = memory.table.get_mut(at) {
+                *place = number;
+            }
+            return;
+        }
     };
     if let Some(place) = places.get_mut(at) {
         *place = value;
@@ -113,6 +133,9 @@ pub fn difference(mine: &Memory, theirs: &Memory) -> Option<String> {
         (Places::Bytes(mine), Places::Bytes(theirs)) => {
             let at = (0..mine.len()).find(|&at| mine[at] != theirs[at])?;
             Some(format!("{word}[{at}]: {} and {}", mine[at], theirs[at]))
+        }
+        (Places::Numbers(mine), Places::Numbers(theirs)) if mine != theirs => {
+            Some(format!("{word}: {mine:?} and {theirs:?}"))
         }
         _ => None,
     })

@@ -270,6 +270,11 @@ fn side(samples: &[Sample], settings: Settings) -> (Option<SideFit>, usize) {
     weighted(samples, || polyfit::count_pivots(choose))
 }
 
+/// The pivots that the shim compared for `CurveFit::new_auto`.
+pub fn choice_tests(samples: &[Sample], settings: Settings) -> usize {
+    side(samples, settings).1
+}
+
 /// Every break with two samples on each side. polyfit has no split: each side is fitted by itself.
 pub fn breaks(samples: &[Sample], settings: Settings) -> Vec<Break> {
     let at = |b| {

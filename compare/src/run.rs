@@ -5,6 +5,7 @@
 use journal::{Answer, Buffers, Call, Judge, Memory, Port, Side};
 use judge::book::{answer_of, answer_of_scores, answer_of_split, ScoresAnswer};
 use judge::fit::{Losses, Report, Scores, Settings};
+use judge::groups::{GROUPS, TABLE};
 use judge::ledger::Ledger;
 use judge::numbers::bits;
 use judge::refusals;
@@ -13,9 +14,10 @@ use judge::sums::{folded_afresh, PLACES, TERMS};
 use judge::surface::SURFACE_TERMS;
 use judge::Sample;
 
-use crate::call::{conditions, List, Step};
+use crate::call::{conditions, List, Poke, Step};
 use crate::carry::{self, Caller};
 use crate::coverage::{Coverage, Seen};
+use crate::groups::{group_of, is_group, without_group};
 use crate::memory::{difference, filled, first_difference, poke, samples, sites};
 use crate::surface::is_surface;
 use crate::{lines, reference, replay, two_column};
@@ -35,24 +37,24 @@ struct LedgerState {
     weight: Vec<f64>,
 }
 
-struct Run<'a> {
-    sides: Vec<(&'a dyn Side, Memory)>,
-    memory: Memory,
-    count: usize,
+/// A book by the judge, and beside it by the other sides, each on memory of its own.
+pub struct Run<'a> {
+    pub sides: Vec<(&'a dyn Side, Memory)>,
+    pub memory: Memory,
+    pub count: usize,
     /// From a book just opened, until someone else writes the book's memory.
     ledger_state: Option<LedgerState>,
 }
 
 /// Runs the list; notes in the coverage what happened, by the judge.
 pub fn run(list: &List, others: &[&dyn Side], coverage: &mut Coverage) -> Result<(), Difference> {
-    let memory = filled(list);
-    let sides = others.iter().map(|side| (*side, memory.clone())).collect();
-    let mut run = Run { sides, memory, count: 0, ledger_state: None };
+    let mut run = Run::new(filled(list), others);
     for (at, step) in list.steps.iter().enumerate() {
-        run.step(step, coverage).map_err(|what| Difference { step: at, what })?;
+        let stepped = run.step(step, &mut |seen| coverage.note_call(seen));
+        stepped.map_err(|what| Difference { step: at, what })?;
     }
-    // A surface keeps no book: nothing of it is replayed or carried over.
-    if list.steps.iter().any(|step| is_surface(&step.call)) {
+    // A surface keeps no book, and a group's calls no record: nothing of them is replayed or carried over.
+    if list.steps.iter().any(|step| is_surface(&step.call) || is_group(&step.call)) {
         return Ok(());
     }
     let past = list.steps.len();
@@ -63,12 +65,23 @@ pub fn run(list: &List, others: &[&dyn Side], coverage: &mut Coverage) -> Result
     carry::check(list, port, coverage).map_err(at_end)
 }
 
-impl Run<'_> {
-    fn step(&mut self, step: &Step, coverage: &mut Coverage) -> Result<(), String> {
+impl<'a> Run<'a> {
+    pub fn new(memory: Memory, others: &[&'a dyn Side]) -> Self {
+        let sides = others.iter().map(|side| (*side, memory.clone())).collect();
+        Self { sides, memory, count: 0, ledger_state: None }
+    }
+
+    /// The ledger, while the book is as the calls left it.
+    pub fn ledger(&self) -> Option<&Ledger> {
+        self.ledger_state.as_ref().map(|state| &state.ledger)
+    }
+
+    /// Makes a call by all sides, and lets what was seen of it be noted. Answers what the judge answers.
+    pub fn step(&mut self, step: &Step, note: &mut dyn FnMut(&Seen)) -> Result<Answer, String> {
         self.disturb(step);
         let count = step.count.unwrap_or(self.count);
         let samples = samples(&self.memory, &step.lengths, count);
-        let sites = match is_surface(&step.call) {
+        let sites = match is_surface(&without_group(&step.call)) {
             true => sites(&self.memory, &step.lengths, count),
             false => Vec::new(),
         };
@@ -81,12 +94,14 @@ impl Run<'_> {
         check_parsed(&step.call, &answer, count, &self.memory)?;
         self.check_ledger(step, &answer)?;
         // A split does not read the lent sums.
-        let judged_sums = own_sums || matches!(step.call, Call::Split { .. });
+        let plain = without_group(&step.call);
+        let judged_sums = own_sums || matches!(*plain, Call::Split { .. });
         let judged = judged_sums && is_reading(&step.call) && passes_nine(&answer);
         // polyfit has no surface.
-        let by_reference = judged && !is_surface(&step.call);
+        let by_reference = judged && !is_surface(&plain);
         if by_reference {
-            check_reference(&step.call, &answer, &samples, &self.memory)?;
+            check_cost(&step.call, &answer, &samples, (&before, &self.memory))?;
+            check_reference(&plain, &answer, &samples, &self.memory)?;
         }
         self.check_sides(step, count, &answer)?;
         if let Answer::Book(count) = answer {
@@ -101,12 +116,13 @@ impl Run<'_> {
             sites,
             conditions,
             answer,
+            before: &before,
             memory,
             own_sums,
             by_reference,
         };
-        coverage.note_call(&seen);
-        Ok(())
+        note(&seen);
+        Ok(seen.answer)
     }
 
     /// What someone else does before the call.
@@ -117,7 +133,7 @@ impl Run<'_> {
                 poke(memory, written);
             }
         }
-        if step.count.is_some() || !step.pokes.is_empty() {
+        if step.count.is_some() || step.pokes.iter().any(Poke::is_the_books) {
             self.ledger_state = None;
         }
     }
@@ -234,12 +250,12 @@ pub fn is_reading(call: &Call) -> bool {
     let settled = matches!(call, Call::Report(_) | Call::Split { .. });
     let told = matches!(call, Call::Losses(_) | Call::Scores(_));
     let single = matches!(call, Call::Fit { .. } | Call::Validate { .. } | Call::Band { .. });
-    settled || told || single || is_surface(call)
+    settled || told || single || is_surface(call) || group_of(call).is_some()
 }
 
-/// Not refused, or refused by 10, 11, 12 or 16.
+/// Not refused, or of a call that reads refused by 10, 11, 12 or 16.
 pub fn passes_nine(answer: &Answer) -> bool {
-    !matches!(answer, Answer::Refused(1..=9))
+    !matches!(answer, Answer::Refused(1..=9 | 17))
 }
 
 fn same_number(a: f64, b: f64) -> bool {
@@ -289,7 +305,7 @@ pub fn same_answer(a: &Answer, b: &Answer) -> bool {
 }
 
 /// A report as answered and written, against one that was worked out.
-fn check_report(
+pub fn check_report(
     name: &str,
     report: Result<Report, u8>,
     answer: &Answer,
@@ -409,7 +425,7 @@ fn check_report_places(name: &str, report: &Report, memory: &Memory) -> Result<(
 }
 
 /// A split as answered and written, against one that was worked out.
-fn check_split(
+pub fn check_split(
     name: &str,
     split: Result<Split, u8>,
     answer: &Answer,
@@ -473,7 +489,34 @@ fn terms(values: &[f64]) -> Vec<f64> {
     places
 }
 
-/// The judge against polyfit.
+/// What a group's call cost, against the pivots that polyfit's shim compared for it. At 16 it would have
+/// cost more than there is.
+fn check_cost(
+    call: &Call,
+    answer: &Answer,
+    samples: &[Sample],
+    (before, after): (&Memory, &Memory),
+) -> Result<(), String> {
+    let (group, settings) = match call {
+        Call::GroupReport { group, settings } | Call::GroupSplit { group, settings } => {
+            (*group, *settings)
+        }
+        _ => return Ok(()),
+    };
+    let cost = match call {
+        Call::GroupReport { .. } => reference::choice_tests(samples, settings),
+        _ => reference::breaks(samples, settings).iter().map(|at| at.tests).sum(),
+    };
+    let (counter, left) = (before.table[group], after.table[group]);
+    let expected = counter.checked_sub(cost);
+    let refused = *answer == Answer::Refused(16);
+    if refused != expected.is_none() || left != expected.unwrap_or(counter) {
+        return Err(format!("judge answers {answer:?} with {counter} before and {left} left, polyfit compares {cost} pivots"));
+    }
+    Ok(())
+}
+
+/// The judge against polyfit. Of a group's call that 16 refused there is nothing more to see.
 fn check_reference(
     call: &Call,
     answer: &Answer,
@@ -481,6 +524,11 @@ fn check_reference(
     memory: &Memory,
 ) -> Result<(), String> {
     match call {
+        Call::Report(_) | Call::Split { limit: usize::MAX, .. }
+            if *answer == Answer::Refused(16) =>
+        {
+            Ok(())
+        }
         Call::Fit { degree } => {
             let fit = reference::fit(samples, *degree).map(|values| (*degree, values));
             check_fit(fit, answer, memory)
@@ -567,8 +615,9 @@ fn check_writes(
     if is_reading(call) && passes_nine(answer) {
         expected.scratch[..count].fill(0.0);
     }
+    copy_table_places(call, answer, &mut expected, after);
     match answer {
-        Answer::Refused(_) | Answer::Band { .. } | Answer::Samples(_) => {}
+        Answer::Refused(_) | Answer::Done | Answer::Band { .. } | Answer::Samples(_) => {}
         Answer::Book(new_count) => copy_book_places(call, count, *new_count, &mut expected, after),
         Answer::Degree(_) => {
             let terms = places_of_terms(call);
@@ -620,9 +669,25 @@ fn copy_book_places(
     expected.sums[sums.clone()].copy_from_slice(&after.sums[sums]);
 }
 
+/// The places of the table that a call may change: the counter of its group, unless it is refused early
+/// or by 16, or all.
+fn copy_table_places(call: &Call, answer: &Answer, expected: &mut Memory, after: &Memory) {
+    let places = match (call, answer) {
+        (Call::Start { .. }, Answer::Done) => 0..TABLE,
+        (Call::Renew, Answer::Done) => 0..GROUPS,
+        _ => match group_of(call) {
+            Some(group) if passes_nine(answer) && *answer != Answer::Refused(16) => {
+                group..group + 1
+            }
+            _ => return,
+        },
+    };
+    expected.table[places.clone()].copy_from_slice(&after.table[places]);
+}
+
 /// The places of coefficients, errors and pruned marks: 16, and 15 for a surface.
 pub fn places_of_terms(call: &Call) -> usize {
-    if is_surface(call) {
+    if is_surface(&without_group(call)) {
         SURFACE_TERMS
     } else {
         TERMS

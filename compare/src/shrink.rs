@@ -14,10 +14,20 @@ const MOST_RUNS: usize = 4000;
 
 /// The smallest list found that fails.
 pub fn shrink(list: &List, fails: impl Fn(&List) -> bool) -> List {
-    let mut best = list.clone();
+    let of = |steps: &[Step]| List { contents: list.contents, steps: steps.to_vec() };
+    of(&shrunk(&list.steps, simpler_steps, |steps| fails(&of(steps))))
+}
+
+/// The fewest and simplest steps found that fail.
+pub fn shrunk<T: Clone>(
+    steps: &[T],
+    simpler: impl Fn(&T) -> Vec<T>,
+    fails: impl Fn(&[T]) -> bool,
+) -> Vec<T> {
+    let mut best = steps.to_vec();
     let mut runs = 0;
     'again: loop {
-        for smaller in candidates(&best) {
+        for smaller in candidates(&best, &simpler) {
             runs += 1;
             if runs > MOST_RUNS {
                 return best;
@@ -32,22 +42,22 @@ pub fn shrink(list: &List, fails: impl Fn(&List) -> bool) -> List {
 }
 
 /// Smaller lists, the much smaller ones first.
-fn candidates(list: &List) -> Vec<List> {
+fn candidates<T: Clone>(steps: &[T], simpler: impl Fn(&T) -> Vec<T>) -> Vec<Vec<T>> {
     let mut lists = Vec::new();
-    let length = list.steps.len();
+    let length = steps.len();
     let mut size = length / 2;
     while size > 0 {
         for start in (0..length).step_by(size) {
-            let mut smaller = list.clone();
-            smaller.steps.drain(start..(start + size).min(length));
+            let mut smaller = steps.to_vec();
+            smaller.drain(start..(start + size).min(length));
             lists.push(smaller);
         }
         size /= 2;
     }
-    for (at, step) in list.steps.iter().enumerate() {
-        for simpler in simpler_steps(step) {
-            let mut smaller = list.clone();
-            smaller.steps[at] = simpler;
+    for (at, step) in steps.iter().enumerate() {
+        for simpler in simpler(step) {
+            let mut smaller = steps.to_vec();
+            smaller[at] = simpler;
             lists.push(smaller);
         }
     }
@@ -55,7 +65,7 @@ fn candidates(list: &List) -> Vec<List> {
 }
 
 /// The step without a disturbance, or with a simpler call.
-fn simpler_steps(step: &Step) -> Vec<Step> {
+pub fn simpler_steps(step: &Step) -> Vec<Step> {
     let mut steps = Vec::new();
     for at in 0..step.pokes.len() {
         let mut simpler = step.clone();
@@ -114,6 +124,18 @@ fn simpler_calls(call: &Call) -> Vec<Call> {
             simpler_settings(*settings).map(Call::SurfaceReport).collect()
         }
         Call::Scores(settings) => simpler_settings(*settings).map(Call::Scores).collect(),
+        Call::GroupReport { group, settings } => {
+            let group = *group;
+            simpler_settings(*settings)
+                .map(|settings| Call::GroupReport { group, settings })
+                .collect()
+        }
+        Call::GroupSplit { group, settings } => {
+            let group = *group;
+            simpler_settings(*settings)
+                .map(|settings| Call::GroupSplit { group, settings })
+                .collect()
+        }
         _ => Vec::new(),
     }
 }

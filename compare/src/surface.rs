@@ -228,7 +228,7 @@ fn samples(random: &mut Random, n: usize) -> Vec<SurfaceSample> {
 
 /// Samples near a line, where the pivots of total degree 2 are at their edge: it is solved and the
 /// inverse fails. Found by bisecting how far they lie off the line, then trying around it.
-fn at_pivot_edge(random: &mut Random) -> Option<Vec<SurfaceSample>> {
+pub fn at_pivot_edge(random: &mut Random) -> Option<Vec<SurfaceSample>> {
     let k = terms_of(2);
     let n = k + random.below(4);
     let (width, slope) = (random.within(0.4, 1.4), random.within(1.0, 64.0));

@@ -7,6 +7,7 @@ use crate::call::List;
 use crate::carry::{self, Caller};
 use crate::coverage::Coverage;
 use crate::generate;
+use crate::groups::{self, Course};
 use crate::replay::{self, Replays};
 use crate::run::run;
 use crate::shrink::shrink;
@@ -39,6 +40,7 @@ fn again<'a>(lent: &'a mut Lent<'_>) -> Lent<'a> {
         z: lent.z,
         solved: lent.solved,
         scores: lent.scores,
+        table: lent.table,
     }
 }
 
@@ -135,6 +137,102 @@ fn surfaces_with_faults() {
         // The first step writes the columns.
         assert!(list.steps.len() <= 2, "{list:?}");
     }
+}
+
+/// The same among the lists of groups.
+fn found_in_groups(fault: Fault) -> Course {
+    let side = Faulty(fault);
+    let fails = |course: &Course| groups::run(course, &[&side], &mut Coverage::default()).is_err();
+    let course = (1..1000).map(|number| groups::course(7, number)).find(|course| fails(course));
+    let smallest = groups::smaller(&course.expect("the fault is found"), fails);
+    assert!(fails(&smallest));
+    smallest
+}
+
+#[test]
+fn groups_with_faults() {
+    let none = Faulty(|_, _, _, _, answer| answer);
+    for number in 0..100 {
+        let outcome = groups::run(&groups::course(7, number), &[&none], &mut Coverage::default());
+        assert!(outcome.is_ok(), "{number}: {outcome:?}");
+    }
+    let faults: [Fault; 8] = [
+        // A cost taken at 16.
+        |call, _, lent, _, answer| {
+            if let (Some(group), Answer::Refused(16)) = (groups::group_of(call), &answer) {
+                lent.table[group] /= 2;
+            }
+            answer
+        },
+        // None taken at 11.
+        |call, _, lent, _, answer| {
+            if let (Some(group), Answer::Refused(11)) = (groups::group_of(call), &answer) {
+                lent.table[group] += 1;
+            }
+            answer
+        },
+        // A refill of all but one.
+        |call, _, lent, _, answer| {
+            if let (Call::Renew, Answer::Done) = (call, &answer) {
+                lent.table[7] /= 2;
+            }
+            answer
+        },
+        // One counter for two groups.
+        |call, _, lent, _, answer| {
+            if let (Some(3), Answer::Report { .. }) = (groups::group_of(call), &answer) {
+                lent.table[4] = lent.table[3];
+            }
+            answer
+        },
+        // 16 at a counter of the cost.
+        |call, _, lent, _, answer| match (groups::group_of(call), &answer) {
+            (Some(group), Answer::Split { .. }) if lent.table[group] == 0 => Answer::Refused(16),
+            _ => answer,
+        },
+        // 17 before 1.
+        |call, _, _, _, answer| match (groups::group_of(call), &answer) {
+            (Some(8), Answer::Refused(1)) => Answer::Refused(17),
+            _ => answer,
+        },
+        // Scratch touched at 17.
+        |call, count, lent, _, answer| {
+            let by_17 = groups::is_group(call) && answer == Answer::Refused(17);
+            if by_17 && count > 0 && lent.scratch[0].to_bits() != 0 {
+                lent.scratch[0] = 0.0;
+            }
+            answer
+        },
+        // The quota goes with the first group.
+        |call, _, lent, _, answer| {
+            if let (Some(0), Answer::Report { .. }) = (groups::group_of(call), &answer) {
+                lent.table[8] = lent.table[0];
+            }
+            answer
+        },
+    ];
+    for fault in faults {
+        let course = found_in_groups(fault);
+        assert!(course.turns.len() <= 4, "{course}");
+    }
+}
+
+/// Every list is the same when made again; a few hundred of them bring all that must happen with groups.
+#[test]
+fn lists_of_groups() {
+    let mut coverage = Coverage::default();
+    for number in 0..600 {
+        let course = groups::course(5, number);
+        assert!(course.to_string() == groups::course(5, number).to_string(), "{number}");
+        let outcome = groups::run(&course, &[&Port], &mut coverage);
+        assert!(outcome.is_ok(), "{number}: {outcome:?}");
+    }
+    let of_groups = |key: &String| {
+        let calls = ["group", "start", "renew", "length: group", "length: start", "length: renew"];
+        calls.iter().any(|call| key.starts_with(call))
+    };
+    let missing: Vec<String> = coverage.missing().into_iter().filter(of_groups).collect();
+    assert!(missing.is_empty(), "{missing:#?}");
 }
 
 #[test]
@@ -609,13 +707,15 @@ fn missing_in(name: &str, asked: impl Fn(&str) -> bool) -> Vec<String> {
 #[test]
 fn texts_are_judged() {
     missing_in("edges.calls", |_| false);
-    // Every refusal of every call but lines, splits, windows, losses, scores and surfaces, and every pair in order. A
-    // text has no reader. 15 is met with the weights.
+    // Every refusal of every call but lines, splits, windows, losses, scores, surfaces and groups, and every pair
+    // in order. A text has no reader. 15 is met with the weights.
+    let of_groups =
+        |key: &str| ["group", "start", "renew"].iter().any(|call| key.starts_with(call));
     let refusal = |key: &str| {
         let refusal = key.contains(" before ") || key.contains(": refused by ");
         let elsewhere =
             ["reader", "add_lines", "add_window", "split", "losses", "scores", "surface", "length"];
-        let elsewhere = elsewhere.iter().any(|call| key.starts_with(call));
+        let elsewhere = of_groups(key) || elsewhere.iter().any(|call| key.starts_with(call));
         refusal && !elsewhere && !key.contains("by polyfit")
     };
     let missing = missing_in("season.calls", |key| refusal(key) && !key.contains("15"));
@@ -656,13 +756,20 @@ fn texts_are_judged() {
     });
     let longer = |key: &String| key.ends_with("with places past the end");
     assert!(missing.iter().all(longer), "{missing:?}");
+    // The same of groups; what several calls tell is the comparison's. The 12 is not of the samples' own sums.
+    let missing = missing_in("groups.calls", |key| {
+        let several =
+            key.starts_with("groups: ") || key == "group_report by polyfit: refused by 12";
+        of_groups(key) && !several
+    });
+    assert!(missing.is_empty(), "{missing:?}");
     // Every call and refusal, by polyfit too, every setting and event; the pairs are the season's. It has no
-    // surfaces.
+    // surfaces and no groups.
     let missing = missing_in("fixed.calls", |key| {
         let call = key.ends_with(": answered") || key.contains(": refused by ");
         let calls = ["report: ", "split: criterion", "split: bound", "validate: ", "band: "];
         let setting = calls.iter().any(|call| key.starts_with(call));
-        let elsewhere = key.starts_with("reader") || key.starts_with("surface");
+        let elsewhere = key.starts_with("reader") || key.starts_with("surface") || of_groups(key);
         (call || setting) && !elsewhere && !key.contains(": 1 before ")
     });
     assert!(missing.is_empty(), "{missing:?}");

@@ -9,6 +9,7 @@ use judge::surface::SurfaceSample;
 
 use crate::call::{List, Poke, Step};
 use crate::generate;
+use crate::groups::{is_group, without_group};
 use crate::random::Random;
 use crate::surface::is_surface;
 
@@ -56,6 +57,13 @@ fn written(call: &Call) -> Call {
             *limit = GREATEST.min(*limit);
             settings.bound = written_bound(settings.bound);
         }
+        Call::GroupReport { group: number, settings }
+        | Call::GroupSurfaceReport { group: number, settings }
+        | Call::GroupSplit { group: number, settings } => {
+            *number = GREATEST.min(*number);
+            settings.bound = written_bound(settings.bound);
+        }
+        Call::Start { quota } => *quota = GREATEST.min(*quota),
         Call::Validate { folds, bound, .. } => {
             *folds = GREATEST.min(*folds);
             *bound = written_bound(*bound);
@@ -66,6 +74,7 @@ fn written(call: &Call) -> Call {
         | Call::AddFrame(_)
         | Call::AddLines(_)
         | Call::Carry
+        | Call::Renew
         | Call::Reader(_) => {}
     }
     call
@@ -99,6 +108,11 @@ impl Writer {
         }
         for &poke in &step.pokes {
             let (name, index, value) = match poke {
+                Poke::Table { at: index, number } => {
+                    let number = GREATEST.min(number);
+                    self.ask(Request::PutNumber { name: Name::Table, index, number });
+                    continue;
+                }
                 Poke::X { at, value } => (Name::Xs, at, value),
                 Poke::Y { at, value } => (Name::Ys, at, value),
                 Poke::Weight { at, value } => (Name::Ws, at, value),
@@ -109,8 +123,9 @@ impl Writer {
         }
         let (mut lent, mut lengths) = (self.journal.lent(), step.lengths);
         for (name, _) in NAMES {
-            // Only a surface is lent z's.
-            if name == Name::Zs && !is_surface(&step.call) {
+            // Only a surface is lent z's, and only a group the table.
+            let lent_z = is_surface(&without_group(&step.call));
+            if name == Name::Zs && !lent_z || name == Name::Table && !is_group(&step.call) {
                 continue;
             }
             let length = *name.length(&mut lengths);
@@ -197,6 +212,7 @@ pub fn list_of(text: &[u8]) -> List {
         };
         match request {
             Request::Put { name, index, value } => pokes.extend(poke_of(name, index, value)),
+            Request::PutNumber { index: at, number, .. } => pokes.push(Poke::Table { at, number }),
             Request::Row { index: at, sample: SurfaceSample { x, z, y } } => {
                 pokes.push(Poke::X { at, value: x });
                 pokes.push(Poke::Z { at, value: z });
@@ -222,7 +238,8 @@ pub fn list_of(text: &[u8]) -> List {
 fn zeros() -> Vec<Poke> {
     let names = [Name::Xs, Name::Ys, Name::Ws, Name::Sums, Name::Zs];
     let zeros = |at| names.map(|name| poke_of(name, at, 0.0));
-    (0..MEMORY).flat_map(zeros).flatten().collect()
+    let table = (0..MEMORY).map(|at| Poke::Table { at, number: 0 });
+    (0..MEMORY).flat_map(zeros).flatten().chain(table).collect()
 }
 
 fn poke_of(name: Name, at: usize, value: f64) -> Option<Poke> {

@@ -56,6 +56,22 @@ pub enum Call {
         confidence: Confidence,
         tolerance: Tolerance,
     },
+    Start {
+        quota: usize,
+    },
+    Renew,
+    GroupReport {
+        group: usize,
+        settings: Settings,
+    },
+    GroupSurfaceReport {
+        group: usize,
+        settings: Settings,
+    },
+    GroupSplit {
+        group: usize,
+        settings: Settings,
+    },
     /// No line of the text asks for it.
     Reader(Vec<u8>),
 }
@@ -64,6 +80,8 @@ pub enum Call {
 #[derive(Debug, Clone, PartialEq)]
 pub enum Answer {
     Refused(u8),
+    /// Of a call that has nothing to tell.
+    Done,
     Book(usize),
     Degree(usize),
     Report {
@@ -104,6 +122,7 @@ impl fmt::Display for Answer {
     fn fmt(&self, f: &mut fmt::Formatter<'_>) -> fmt::Result {
         match self {
             Answer::Refused(number) => write!(f, "refused {number}"),
+            Answer::Done => write!(f, "done"),
             Answer::Book(count) => write!(f, "book {count}"),
             Answer::Degree(degree) => write!(f, "fit {degree}"),
             Answer::Report { degree, solved, outliers, pruned } => {

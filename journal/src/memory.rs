@@ -1,9 +1,11 @@
 //! The memory that a book is lent, by name.
 
+use judge::groups::TABLE;
 use judge::refusals::{Lengths, MOST_SAMPLES};
+use judge::season::STAKES;
 use judge::sums::{PLACES, TERMS};
 
-/// The names of the memory; pruned, outliers and solved hold bytes.
+/// The names of the memory; pruned, outliers and solved hold bytes, the table whole numbers.
 #[derive(Debug, Clone, Copy, PartialEq, Eq)]
 pub enum Name {
     Xs,
@@ -23,10 +25,11 @@ pub enum Name {
     Solved,
     Scores,
     Zs,
+    Table,
 }
 
 /// All names, with their words.
-pub const NAMES: [(Name, &str); 17] = [
+pub const NAMES: [(Name, &str); 18] = [
     (Name::Xs, "xs"),
     (Name::Ys, "ys"),
     (Name::Ws, "ws"),
@@ -44,6 +47,7 @@ pub const NAMES: [(Name, &str); 17] = [
     (Name::Solved, "solved"),
     (Name::Scores, "scores"),
     (Name::Zs, "zs"),
+    (Name::Table, "table"),
 ];
 
 /// What a text lends before its first line.
@@ -65,6 +69,8 @@ pub const LENT: Lengths = Lengths {
     losses: MOST_SAMPLES,
     solved: TERMS,
     scores: TERMS,
+    table: TABLE,
+    counts: STAKES,
 };
 
 /// Everything that can be lent, whole.
@@ -87,6 +93,7 @@ pub struct Memory {
     pub z: Vec<f64>,
     pub solved: Vec<u8>,
     pub scores: Vec<f64>,
+    pub table: Vec<usize>,
 }
 
 /// What one call is lent.
@@ -108,12 +115,14 @@ pub struct Lent<'a> {
     pub z: &'a mut [f64],
     pub solved: &'a mut [u8],
     pub scores: &'a mut [f64],
+    pub table: &'a mut [usize],
 }
 
 /// The places of one memory.
 pub enum Places<'a> {
     Floats(&'a [f64]),
     Bytes(&'a [u8]),
+    Numbers(&'a [usize]),
 }
 
 impl Name {
@@ -123,6 +132,10 @@ impl Name {
 
     pub fn holds_bytes(self) -> bool {
         matches!(self, Name::Pruned | Name::Outliers | Name::Solved)
+    }
+
+    pub fn holds_numbers(self) -> bool {
+        matches!(self, Name::Table)
     }
 
     /// Its length among those of all.
@@ -145,6 +158,7 @@ impl Name {
             Name::Zs => &mut lengths.z,
             Name::Solved => &mut lengths.solved,
             Name::Scores => &mut lengths.scores,
+            Name::Table => &mut lengths.table,
         }
     }
 }
@@ -172,6 +186,7 @@ impl Memory {
             z: floats(),
             solved: bytes(),
             scores: floats(),
+            table: vec![0; places],
         }
     }
 
@@ -195,6 +210,7 @@ impl Memory {
             z: &mut self.z[..lengths.z],
             solved: &mut self.solved[..lengths.solved],
             scores: &mut self.scores[..lengths.scores],
+            table: &mut self.table[..lengths.table],
         }
     }
 
@@ -217,6 +233,7 @@ impl Memory {
             Name::Zs => Places::Floats(&self.z),
             Name::Solved => Places::Bytes(&self.solved),
             Name::Scores => Places::Floats(&self.scores),
+            Name::Table => Places::Numbers(&self.table),
         }
     }
 
@@ -237,7 +254,12 @@ impl Memory {
             Name::Losses => &mut self.losses,
             Name::Scores => &mut self.scores,
             Name::Zs => &mut self.z,
-            Name::Pruned | Name::Outliers | Name::Solved => return None,
+            Name::Pruned | Name::Outliers | Name::Solved | Name::Table => return None,
         })
+    }
+
+    /// The places of a memory of whole numbers, to be written.
+    pub fn numbers(&mut self, name: Name) -> Option<&mut [usize]> {
+        (name == Name::Table).then_some(&mut self.table)
     }
 }

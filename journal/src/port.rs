@@ -125,6 +125,14 @@ pub fn report(packed: u64) -> Answer {
     })
 }
 
+/// A call that has nothing to tell, and no bit.
+fn done(packed: u64) -> Answer {
+    read(packed, |packed| {
+        assert!(packed == 0, "nothing to tell in {packed:#x}");
+        Answer::Done
+    })
+}
+
 /// What a call that reads a book is lent, as pointers and lengths.
 macro_rules! book_read {
     ($call:expr, $lent:ident, ($($first:expr),*), ($($written:ident),*) $(, ($($last:expr),*))?) => {
@@ -257,6 +265,31 @@ fn split_into(
         (before, after),
         (total.as_mut_ptr(), places)
     );
+    split_of(packed, total)
+}
+
+/// The same of a group, whose counter stands in the limit's place.
+fn group_split_into(
+    places: usize,
+    group: usize,
+    count: usize,
+    lent: &mut Lent,
+    settings: Settings,
+) -> Answer {
+    let mut total = [UNWRITTEN; 2];
+    let (words, values) = settings_lists(settings, count);
+    let packed = book_read!(
+        sys::stakebook_group_split,
+        lent,
+        (group, count, words.as_ptr(), words.len(), values.as_ptr(), values.len()),
+        (before, after),
+        (total.as_mut_ptr(), places, lent.table.as_mut_ptr(), lent.table.len())
+    );
+    split_of(packed, total)
+}
+
+/// A split, with no number past its total; a refused one has none.
+fn split_of(packed: u64, total: [f64; 2]) -> Answer {
     let answer = read(packed, |packed| Answer::Split {
         b: sys::samples_before(packed),
         degrees: (sys::degree(packed), sys::degree_after(packed)),
@@ -497,6 +530,61 @@ impl Calls for Port {
         let same = bits_of(lent.scratch) == before;
         assert!(short == Answer::Refused(1) && same, "two places for a band: {short:?}");
         surface_band_into(3, count, &mut lent, at, settings)
+    }
+
+    fn start(&self, lent: Lent, quota: usize) -> Answer {
+        // SAFETY: the slice is the caller's, and initialised.
+        done(unsafe { sys::stakebook_start(quota, lent.table.as_mut_ptr(), lent.table.len()) })
+    }
+
+    fn renew(&self, lent: Lent) -> Answer {
+        // SAFETY: the slice is the caller's, and initialised.
+        done(unsafe { sys::stakebook_renew(lent.table.as_mut_ptr(), lent.table.len()) })
+    }
+
+    fn group_report(&self, group: usize, count: usize, lent: Lent, settings: Settings) -> Answer {
+        let (words, values) = settings_lists(settings, count);
+        report(book_read!(
+            sys::stakebook_group_report,
+            lent,
+            (group, count, words.as_ptr(), words.len(), values.as_ptr(), values.len()),
+            (coefficients, errors, pruned, lower, upper, outlier, table)
+        ))
+    }
+
+    fn group_surface_report(
+        &self,
+        group: usize,
+        count: usize,
+        lent: Lent,
+        settings: Settings,
+    ) -> Answer {
+        let (words, values) = settings_lists(settings, count);
+        report(surface_read!(
+            sys::stakebook_group_surface_report,
+            lent,
+            (group, count, words.as_ptr(), words.len(), values.as_ptr(), values.len()),
+            (coefficients, errors, pruned, lower, upper, outlier, table)
+        ))
+    }
+
+    /// Without a place for the total it is refused by 1, and nothing is written or taken.
+    fn group_split(
+        &self,
+        group: usize,
+        count: usize,
+        mut lent: Lent,
+        settings: Settings,
+    ) -> Answer {
+        let places = |lent: &Lent| {
+            let floats = [&*lent.scratch, &*lent.before, &*lent.after].map(bits_of);
+            (floats, lent.table.to_vec())
+        };
+        let before = places(&lent);
+        let short = group_split_into(0, group, count, &mut lent, settings);
+        let same = places(&lent) == before;
+        assert!(short == Answer::Refused(1) && same, "no place for a total: {short:?}");
+        group_split_into(1, group, count, &mut lent, settings)
     }
 
     fn reader(&self, frame: &[u8]) -> Answer {

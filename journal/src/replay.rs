@@ -91,6 +91,7 @@ impl Buffers {
             z: &mut [],
             solved: &mut [],
             scores: &mut [],
+            table: &mut [],
         }
     }
 

@@ -38,6 +38,12 @@ pub enum Request {
         index: usize,
         value: f64,
     },
+    /// The same of a memory of whole numbers.
+    PutNumber {
+        name: Name,
+        index: usize,
+        number: usize,
+    },
     /// One place each of xs, zs and ys.
     Row {
         index: usize,
@@ -99,11 +105,7 @@ pub fn read(line: &[u8]) -> Read<Option<Request>> {
 fn request(fields: &mut Fields) -> Read<Request> {
     Ok(match fields.next()? {
         b"lent" => Request::Lent { name: fields.name()?, length: fields.at_most(MEMORY)? },
-        b"put" => Request::Put {
-            name: fields.float_name()?,
-            index: fields.at_most(MEMORY - 1)?,
-            value: fields.float()?,
-        },
+        b"put" => put(fields)?,
         b"row" => Request::Row {
             index: fields.at_most(MEMORY - 1)?,
             sample: SurfaceSample { x: fields.float()?, z: fields.float()?, y: fields.float()? },
@@ -148,8 +150,32 @@ fn call(word: &[u8], fields: &mut Fields) -> Read<Call> {
             confidence: fields.confidence()?,
             tolerance: fields.tolerance()?,
         },
+        b"start" => Call::Start { quota: fields.number()? },
+        b"renew" => Call::Renew,
+        b"group_report" => {
+            Call::GroupReport { group: fields.number()?, settings: fields.settings()? }
+        }
+        b"group_surface_report" => {
+            Call::GroupSurfaceReport { group: fields.number()?, settings: fields.settings()? }
+        }
+        b"group_split" => {
+            Call::GroupSplit { group: fields.number()?, settings: fields.settings()? }
+        }
         _ => return fields.malformed(Message::NotACall),
     })
+}
+
+/// A memory of whole numbers takes one, any other a float; bytes are not put.
+fn put(fields: &mut Fields) -> Read<Request> {
+    let name = fields.name()?;
+    if name.holds_bytes() {
+        return fields.malformed(Message::NotAName);
+    }
+    let index = fields.at_most(MEMORY - 1)?;
+    if name.holds_numbers() {
+        return Ok(Request::PutNumber { name, index, number: fields.number()? });
+    }
+    Ok(Request::Put { name, index, value: fields.float()? })
 }
 
 /// FROM is judged again once TO is read.
@@ -201,14 +227,6 @@ impl<'a> Fields<'a> {
             Some((name, _)) => Ok(*name),
             None => self.malformed(Message::NotAName),
         }
-    }
-
-    fn float_name(&mut self) -> Read<Name> {
-        let name = self.name()?;
-        if name.holds_bytes() {
-            return self.malformed(Message::NotAName);
-        }
-        Ok(name)
     }
 
     /// One to nine decimal digits.
@@ -440,6 +458,9 @@ impl fmt::Display for Request {
             Request::Put { name, index, value } => {
                 write!(f, "put {} {index} {}", name.word(), float_field(*value))
             }
+            Request::PutNumber { name, index, number } => {
+                write!(f, "put {} {index} {number}", name.word())
+            }
             Request::Row { index, sample: SurfaceSample { x, z, y } } => {
                 let [x, z, y] = [*x, *z, *y].map(float_field);
                 write!(f, "row {index} {x} {z} {y}")
@@ -493,6 +514,17 @@ impl fmt::Display for Call {
                 confidence_fields(*confidence),
                 tolerance_fields(*tolerance)
             ),
+            Call::Start { quota } => write!(f, "start {quota}"),
+            Call::Renew => write!(f, "renew"),
+            Call::GroupReport { group, settings } => {
+                write!(f, "group_report {group} {}", settings_fields(*settings))
+            }
+            Call::GroupSurfaceReport { group, settings } => {
+                write!(f, "group_surface_report {group} {}", settings_fields(*settings))
+            }
+            Call::GroupSplit { group, settings } => {
+                write!(f, "group_split {group} {}", settings_fields(*settings))
+            }
             Call::Reader(bytes) => write!(f, "reader{}", bytes_field(bytes)),
         }
     }
@@ -645,6 +677,25 @@ mod tests {
             ("show solved 0 17", "fits"),
             (&format!("put scores 16 {ONE}"), "fits"),
             (&format!("put solved 0 {ONE}"), "field 2: not a name"),
+            ("start", "field 2: missing"),
+            ("start 999999999", "fits"),
+            ("start 1 2", "field 3: one too many"),
+            ("renew", "fits"),
+            ("renew 0", "field 2: one too many"),
+            ("group_report custom 1", "field 2: not a number"),
+            (&format!("group_report 8 relaxed 0 aic p95 {ONE} none {ONE}"), "fits"),
+            (&format!("group_surface_report 7 custom 4 aic p95 {ONE} none {ONE} size"), "fits"),
+            (
+                &format!("group_split 0 custom 1 aic p95 {ONE} none {ONE} sign"),
+                "field 10: not a name",
+            ),
+            (&format!("group_split 0 30 custom 1 aic p95 {ONE} none {ONE}"), "field 3: not a name"),
+            ("group_band", "field 1: not a call"),
+            ("lent table 8", "fits"),
+            ("show table 0 10", "fits"),
+            ("put table 8 17", "fits"),
+            ("put table 4200 17", "field 3: too large"),
+            (&format!("put table 0 {ONE}"), "field 4: not a number"),
             ("validate 3 custom 2 bic", "fits"),
             ("validate 3 custom 2 bic 0", "field 6: one too many"),
         ];
@@ -727,6 +778,14 @@ mod tests {
             format!("surface_band {ONE} 8000000000000000 2 custom {ONE} absolute {ONE}"),
             format!("scores custom 7 bic p999 0000000000000000 measurement {ONE}"),
             format!("scores custom 7 bic p999 0000000000000000 measurement {ONE} size"),
+            "start 0".to_string(),
+            "renew".to_string(),
+            "put table 8 999999999".to_string(),
+            format!("group_report 7 custom 4 bic p999 0000000000000000 measurement {ONE}"),
+            format!(
+                "group_surface_report 8 relaxed 0 aic p80 0000000000000000 absolute {ONE} size"
+            ),
+            format!("group_split 0 custom 3 bic custom {ONE} variance {ONE} size"),
             "validate 10 aggressive 0 aic".to_string(),
             format!("band {ONE} 2 custom {ONE} none 0000000000000000"),
         ];

@@ -56,6 +56,9 @@ impl<'a> Journal<'a> {
         match *request {
             Request::Lent { name, length } => *name.length(&mut self.lent) = length,
             Request::Put { name, index, value } => self.memory.floats(name)?[index] = value,
+            Request::PutNumber { name, index, number } => {
+                self.memory.numbers(name)?[index] = number
+            }
             Request::Row { index, sample } => {
                 self.memory.x[index] = sample.x;
                 self.memory.z[index] = sample.z;
@@ -84,6 +87,9 @@ impl<'a> Journal<'a> {
                 fields.extend(floats[from..to].iter().map(|v| float_field(*v)))
             }
             Places::Bytes(bytes) => fields.extend(bytes[from..to].iter().map(u8::to_string)),
+            Places::Numbers(numbers) => {
+                fields.extend(numbers[from..to].iter().map(usize::to_string))
+            }
         }
         fields.join(" ")
     }

@@ -2,6 +2,7 @@
 
 use judge::book;
 use judge::fit::{Band, Criterion, Settings};
+use judge::groups;
 use judge::statistics::{Confidence, DegreeBound, Tolerance};
 use judge::surface::{self, Site};
 use judge::Sample;
@@ -53,6 +54,17 @@ pub trait Calls {
         confidence: Confidence,
         tolerance: Tolerance,
     ) -> Answer;
+    fn start(&self, lent: Lent, quota: usize) -> Answer;
+    fn renew(&self, lent: Lent) -> Answer;
+    fn group_report(&self, group: usize, count: usize, lent: Lent, settings: Settings) -> Answer;
+    fn group_surface_report(
+        &self,
+        group: usize,
+        count: usize,
+        lent: Lent,
+        settings: Settings,
+    ) -> Answer;
+    fn group_split(&self, group: usize, count: usize, lent: Lent, settings: Settings) -> Answer;
     fn reader(&self, frame: &[u8]) -> Answer;
 }
 
@@ -93,6 +105,17 @@ impl<T: Calls> Side for T {
             Call::SurfaceBand { site, degree, confidence, tolerance } => {
                 self.surface_band(count, lent, (*site, *degree), *confidence, *tolerance)
             }
+            Call::Start { quota } => self.start(lent, *quota),
+            Call::Renew => self.renew(lent),
+            Call::GroupReport { group, settings } => {
+                self.group_report(*group, count, lent, *settings)
+            }
+            Call::GroupSurfaceReport { group, settings } => {
+                self.group_surface_report(*group, count, lent, *settings)
+            }
+            Call::GroupSplit { group, settings } => {
+                self.group_split(*group, count, lent, *settings)
+            }
             Call::Reader(frame) => self.reader(frame),
         }
     }
@@ -118,6 +141,15 @@ fn report_answer(result: Result<book::ReportAnswer, u8>) -> Answer {
     })
 }
 
+fn split_answer(result: Result<book::SplitAnswer, u8>) -> Answer {
+    answer(result, |a| Answer::Split {
+        b: a.b,
+        degrees: (a.degree_before, a.degree_after),
+        tests: a.tests,
+        total: a.total,
+    })
+}
+
 fn band_answer(result: Result<Band, u8>) -> Answer {
     answer(result, |b| Answer::Band { value: b.value, lower: b.lower, upper: b.upper })
 }
@@ -133,6 +165,20 @@ macro_rules! columns {
 macro_rules! memory {
     ($lent:ident) => {
         book::Memory { x: $lent.x, y: $lent.y, weight: $lent.weight, sums: $lent.sums }
+    };
+}
+
+/// What a report writes, of what is lent.
+macro_rules! report_memory {
+    ($lent:ident) => {
+        book::ReportMemory {
+            coefficients: $lent.coefficients,
+            errors: $lent.errors,
+            pruned: $lent.pruned,
+            lower: $lent.lower,
+            upper: $lent.upper,
+            outlier: $lent.outlier,
+        }
     };
 }
 
@@ -178,14 +224,7 @@ impl Calls for Judge {
 
     fn report(&self, count: usize, lent: Lent, settings: Settings) -> Answer {
         let memory = memory!(lent);
-        let mut out = book::ReportMemory {
-            coefficients: lent.coefficients,
-            errors: lent.errors,
-            pruned: lent.pruned,
-            lower: lent.lower,
-            upper: lent.upper,
-            outlier: lent.outlier,
-        };
+        let mut out = report_memory!(lent);
         report_answer(book::report(count, &memory, settings, lent.scratch, &mut out))
     }
 
@@ -193,12 +232,7 @@ impl Calls for Judge {
         let memory = memory!(lent);
         let by = (settings, limit);
         let result = book::split(count, &memory, by, lent.scratch, lent.before, lent.after);
-        answer(result, |a| Answer::Split {
-            b: a.b,
-            degrees: (a.degree_before, a.degree_after),
-            tests: a.tests,
-            total: a.total,
-        })
+        split_answer(result)
     }
 
     fn losses(&self, count: usize, lent: Lent, settings: Settings) -> Answer {
@@ -254,14 +288,7 @@ impl Calls for Judge {
 
     fn surface_report(&self, count: usize, lent: Lent, settings: Settings) -> Answer {
         let columns = columns!(lent);
-        let mut out = book::ReportMemory {
-            coefficients: lent.coefficients,
-            errors: lent.errors,
-            pruned: lent.pruned,
-            lower: lent.lower,
-            upper: lent.upper,
-            outlier: lent.outlier,
-        };
+        let mut out = report_memory!(lent);
         report_answer(surface::report(count, columns, settings, lent.scratch, &mut out))
     }
 
@@ -275,6 +302,40 @@ impl Calls for Judge {
     ) -> Answer {
         let columns = columns!(lent);
         band_answer(surface::band(count, columns, at, confidence, tolerance, lent.scratch))
+    }
+
+    fn start(&self, lent: Lent, quota: usize) -> Answer {
+        answer(groups::start(quota, lent.table), |()| Answer::Done)
+    }
+
+    fn renew(&self, lent: Lent) -> Answer {
+        answer(groups::renew(lent.table), |()| Answer::Done)
+    }
+
+    fn group_report(&self, group: usize, count: usize, lent: Lent, settings: Settings) -> Answer {
+        let (memory, mut out) = (memory!(lent), report_memory!(lent));
+        let (scratch, table) = (lent.scratch, lent.table);
+        report_answer(groups::report(group, count, &memory, settings, scratch, &mut out, table))
+    }
+
+    fn group_surface_report(
+        &self,
+        group: usize,
+        count: usize,
+        lent: Lent,
+        settings: Settings,
+    ) -> Answer {
+        let (columns, mut out) = (columns!(lent), report_memory!(lent));
+        let (scratch, table) = (lent.scratch, lent.table);
+        let result =
+            groups::surface_report(group, count, columns, settings, scratch, &mut out, table);
+        report_answer(result)
+    }
+
+    fn group_split(&self, group: usize, count: usize, lent: Lent, settings: Settings) -> Answer {
+        let (memory, sides) = (memory!(lent), (lent.before, lent.after));
+        let (scratch, table) = (lent.scratch, lent.table);
+        split_answer(groups::split(group, count, &memory, settings, scratch, sides, table))
     }
 
     fn reader(&self, frame: &[u8]) -> Answer {

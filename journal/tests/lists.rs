@@ -1,6 +1,6 @@
 //! The lists of tests/ at the top of the repository: their answers are the judge's and the proved
-//! library's, and the lists of edges, of lines, of weights, of splits, of windows, of losses, of scores and of
-//! surfaces meet the edges that their comments name.
+//! library's, and the lists of edges, of lines, of weights, of splits, of windows, of losses, of scores, of
+//! surfaces and of groups meet the edges that their comments name.
 
 use std::path::PathBuf;
 use std::process::Command;
@@ -18,8 +18,10 @@ use judge::Sample;
 const NEGATIVE_ZERO: u64 = 1 << 63;
 
 /// The lists that `lists` makes.
-const MADE: [&str; 9] =
-    ["edges", "season", "lines", "weights", "split", "windows", "losses", "scores", "surface"];
+const MADE: [&str; 10] = [
+    "edges", "season", "lines", "weights", "split", "windows", "losses", "scores", "surface",
+    "groups",
+];
 
 fn file(name: &str) -> Vec<u8> {
     let path = PathBuf::from(env!("CARGO_MANIFEST_DIR")).join("../tests").join(name);
@@ -101,7 +103,8 @@ impl Edge {
 
     /// What was shown of a memory, time after time.
     fn shown(&self, name: &str) -> Vec<Vec<u64>> {
-        let radix = if matches!(name, "pruned" | "outliers" | "solved") { 10 } else { 16 };
+        let decimal = ["pruned", "outliers", "solved", "table"].contains(&name);
+        let radix = if decimal { 10 } else { 16 };
         let number = |field: &str| u64::from_str_radix(field, radix).unwrap();
         let fields = |line: &str| line.split(' ').skip(1).map(number).collect();
         let shows = self.of("show").into_iter().filter(|line| line.split(' ').next() == Some(name));
@@ -1875,4 +1878,221 @@ fn fields_of_surfaces() {
     assert_eq!(messages, expected);
     assert_eq!(part.of("surface_fit").last(), Some(&"fit 0"));
     assert_eq!(part.of("surface_report")[4..], ["report 0 1 0 0"; 3]);
+}
+
+/// A part of the list of groups.
+fn groups(comment: &str) -> Edge {
+    part("groups.calls", comment)
+}
+
+impl Edge {
+    /// What was answered to a group's calls, in order.
+    fn by_group(&self) -> Vec<&str> {
+        let of_group = |(line, _): &&(String, String)| line.starts_with("group_");
+        self.0.iter().filter(of_group).map(|(_, printed)| printed.as_str()).collect()
+    }
+}
+
+#[test]
+fn groups_take_turns() {
+    let edge = groups("course:");
+    let answers = edge.by_group();
+    assert!(answers[..8].iter().all(|answer| *answer == "report 2 3 0 0"), "{answers:?}");
+    assert_eq!(
+        answers[8..12],
+        ["report 1 2 1 0", "report 1 2 1 0", "refused 16", "report 2 3 0 0"]
+    );
+    assert_eq!((answers[14], answers[16]), ("refused 16", "refused 16"));
+    assert!(answers[15].starts_with("split 3 1 1 18 "));
+    let tables = edge.shown("table");
+    let counters: Vec<&[u64]> = tables.iter().map(|table| &table[..8]).collect();
+    let mut third = [12; 8];
+    third[3] = 0;
+    let expected: [[u64; 8]; 5] =
+        [[6; 8], [6, 6, 6, 0, 0, 6, 6, 6], [12; 8], third, [18, 18, 18, 18, 18, 18, 18, 0]];
+    assert_eq!(counters, expected);
+    assert!(tables.iter().all(|table| table[9] == 0));
+    assert_eq!(tables.iter().map(|table| table[8]).collect::<Vec<_>>(), [12, 12, 12, 12, 18]);
+}
+
+/// At a counter of the cost group 5 is left with none, at one less the counter stands; scratch is cleared
+/// either way, as many places as samples.
+fn check_costs(edge: &Edge, late: &[&str]) {
+    let quotas: Vec<u64> = edge.requests().iter().filter_map(quota_of).collect();
+    let (answers, tables, scratch) = (edge.by_group(), edge.shown("table"), edge.shown("scratch"));
+    let mut told = Vec::new();
+    for (at, quota) in quotas.iter().enumerate().take(tables.len()) {
+        let left = if at % 2 == 0 { 0 } else { *quota };
+        let mut table = [*quota; 10];
+        (table[5], table[9]) = (left, 0);
+        assert_eq!(tables[at], table, "{at}");
+        assert_eq!(answers[at] == "refused 16", at % 2 == 1, "{at}: {}", answers[at]);
+        let n = scratch[at].len() - 1;
+        let cleared = [vec![0; n], vec![(500.0 + n as f64).to_bits()]].concat();
+        assert_eq!(scratch[at], cleared);
+        if at % 2 == 0 {
+            told.push(answers[at].split(' ').next().unwrap_or_default());
+            assert_eq!(*quota, quotas[at + 1] + 1);
+        }
+    }
+    assert!(late.is_empty() || told == ["refused"; 3][..late.len()], "{told:?}");
+    for (number, answer) in late.iter().zip(answers.iter().step_by(2)) {
+        assert_eq!(answer, number);
+    }
+}
+
+fn quota_of(request: &Request) -> Option<u64> {
+    match request {
+        Request::Call(Call::Start { quota }) => Some(*quota as u64),
+        _ => None,
+    }
+}
+
+#[test]
+fn costs_of_groups() {
+    check_costs(&groups("costs: a report"), &[]);
+    check_costs(&groups("costs: Custom 9"), &[]);
+    check_costs(&groups("costs: equal x's"), &[]);
+    check_costs(&groups("costs: the lent sums"), &[]);
+    check_costs(&groups("costs: a surface"), &[]);
+    check_costs(&groups("costs: one z"), &[]);
+    check_costs(&groups("costs: a split of"), &[]);
+    check_costs(&groups("costs: a split takes"), &[]);
+    check_costs(&groups("late: 11"), &["refused 11"; 3]);
+    check_costs(&groups("late: 12 of a report"), &["refused 12"]);
+    check_costs(&groups("late: 12 of a surface"), &["refused 12"]);
+    // Neither 11 nor 16 writes an output.
+    let edge = groups("late: 11");
+    assert_eq!(edge.shown("coefficients")[0][0], 100.0_f64.to_bits());
+    assert_eq!(edge.shown("upper")[0][0], 400.0_f64.to_bits());
+}
+
+#[test]
+fn early_refusals_of_groups() {
+    let edge = groups("early: 17");
+    let [by_17, by_16] = ["refused 17", "refused 16"];
+    let each = [by_17, by_17, by_17, by_17, by_17, by_17, by_16];
+    assert_eq!(edge.by_group(), [each; 3].concat());
+    let marks: Vec<u64> = (0..18).map(|i| (500.0 + i as f64).to_bits()).collect();
+    assert_eq!(edge.shown("scratch"), [marks.clone()]);
+    let edge = groups("early: 4 before");
+    assert_eq!(edge.by_group(), [["refused 4", "refused 4", "refused 8"]; 3].concat());
+    assert_eq!((edge.shown("scratch"), edge.shown("table")), (vec![marks], vec![vec![0; 10]]));
+    let edge = groups("early: a number");
+    let (by_4, by_16) = ("refused 4", "refused 16");
+    assert_eq!(edge.by_group(), [by_4, by_4, by_4, by_16, by_4, by_16]);
+    let edge = groups("early: no samples");
+    let [by_7, by_17, by_4] = ["refused 7", "refused 17", "refused 4"];
+    let all = [by_7, by_17, by_4, by_7, by_17, by_4, by_7, by_17, by_4];
+    assert_eq!((edge.by_group(), edge.shown("table")), (all.to_vec(), vec![vec![0; 10]]));
+}
+
+#[test]
+fn short_memory_of_groups() {
+    let edge = groups("short: a table");
+    let mut answers = edge.by_group();
+    answers.extend(&edge.of("start")[1..]);
+    answers.extend(edge.of("renew"));
+    assert_eq!(answers, ["refused 1"; 2 * 18 + 3 + 2 + 2]);
+    assert_eq!(edge.shown("table"), [[5, 5, 5, 5, 5, 5, 5, 5, 5, 0]]);
+    assert_eq!(edge.shown("scratch")[0][0], 500.0_f64.to_bits());
+    // What a call is not lent is not judged: each of the three in turn.
+    let edge = groups("short: every");
+    let judged = |of: &[usize]| {
+        let answer = |kind: usize| if of.contains(&kind) { "refused 1" } else { "refused 17" };
+        [0, 1, 2].map(answer)
+    };
+    let (both, reports, curve) = ([0, 1, 2], [0, 1], [0, 2]);
+    let expected = [
+        judged(&curve),
+        judged(&both),
+        judged(&reports),
+        judged(&reports),
+        judged(&reports),
+        judged(&reports),
+        judged(&reports),
+        judged(&reports),
+        judged(&[2]),
+        judged(&[2]),
+        judged(&[1]),
+        judged(&both),
+    ];
+    let answers = edge.by_group();
+    assert_eq!(answers[..36], expected.concat());
+    assert_eq!(
+        (answers[36], &answers[37][..6], answers[38]),
+        ("refused 1", "report", "refused 16")
+    );
+}
+
+#[test]
+fn tables_of_groups() {
+    let edge = groups("tables:");
+    // 3, 4 and 6 tests.
+    let answers = edge.by_group();
+    for (kind, refused) in [3, 4, 6].into_iter().enumerate() {
+        let by_16 = |answer: &&str| *answer == "refused 16";
+        let answers = &answers[8 * kind..8 * kind + 8];
+        assert!(answers[..refused].iter().all(by_16) && !answers[refused..].iter().any(by_16));
+    }
+    let tables = edge.shown("table");
+    assert_eq!(tables[0], [0, 1, 2, 0, 1, 2, 3, 4, 9, 77, 78, 79, 0]);
+    assert_eq!(tables[1], [0, 1, 2, 3, 0, 1, 2, 3, 9, 77, 78, 79, 0]);
+    assert_eq!(tables[2], [0, 1, 2, 3, 4, 5, 0, 1, 9, 77, 78, 79, 0]);
+    assert_eq!(tables[3], [4, 4, 4, 4, 4, 4, 4, 4, 4, 77, 78, 79, 0]);
+    assert_eq!(tables[4][..10], [&[999_999_999; 9][..], &[77]].concat());
+}
+
+#[test]
+fn plain_calls_and_groups() {
+    let edge = groups("plain: calls");
+    let refused = |line: &(String, String)| line.1.starts_with("refused");
+    assert!(!edge.0.iter().any(refused));
+    assert_eq!(edge.shown("table"), [[0, 0, 0, 0, 0, 0, 0, 0, 0, 77]]);
+    let edge = groups("plain: what");
+    for name in ["coefficients", "errors", "pruned", "lower", "upper", "outliers", "scratch"] {
+        let shown = edge.shown(name);
+        assert_eq!(shown.len(), 8);
+        for pair in shown.chunks(2) {
+            assert_eq!(pair[0], pair[1], "{name}");
+        }
+    }
+    for pair in edge.shown("before").chunks(2).chain(edge.shown("after").chunks(2)) {
+        assert_eq!(pair[0], pair[1]);
+    }
+    let plain = [edge.of("report"), edge.of("surface_report"), edge.of("split")];
+    let by_group =
+        [edge.of("group_report"), edge.of("group_surface_report"), edge.of("group_split")];
+    assert_eq!(plain, by_group);
+    // 3 or 6 tests of a report, 4 of a surface, 6 of a split up to degree 1 or 2.
+    let left: Vec<u64> = edge.shown("table").iter().map(|table| table[1]).collect();
+    assert_eq!(left, [30 - 3 - 4 - 6, 30 - 6 - 4 - 6]);
+}
+
+#[test]
+fn fields_of_groups() {
+    let edge = groups("fields:");
+    let malformed = |(_, printed): &&(String, String)| printed.starts_with("line ");
+    let said: Vec<&str> =
+        edge.0.iter().filter(malformed).map(|(_, printed)| printed.as_str()).collect();
+    let said: Vec<&str> =
+        said.iter().map(|text| text.split_once(": ").map_or("", |(_, said)| said)).collect();
+    let expected = [
+        "field 2: missing",
+        "field 2: not a number",
+        "field 3: one too many",
+        "field 2: one too many",
+        "field 2: missing",
+        "field 2: not a number",
+        "field 3: not a name",
+        "field 3: not a name",
+        "field 10: not a name",
+        "field 1: not a call",
+        "field 4: not a number",
+        "field 3: too large",
+        "field 2: not a name",
+        "field 3: too large",
+        "field 3: too large",
+    ];
+    assert_eq!(said, expected);
 }

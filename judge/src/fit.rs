@@ -151,6 +151,13 @@ pub fn scores<S: Observed>(
     tried::<S>(bound, samples.len()).into_iter().map(score_of).collect()
 }
 
+/// The pivot tests of a choice (document 02, E8): one for each pivot compared, a failing one included, over
+/// every degree that is tried. Solving the chosen degree again and inverting count nothing.
+pub fn pivot_tests<S: Observed>(samples: &[S], sums: &[f64], bound: usize) -> usize {
+    let compared = |degree| pivots_compared(sums, count_of::<S>(degree));
+    tried::<S>(bound, samples.len()).into_iter().map(compared).sum()
+}
+
 /// The inverse × residual variance, place by place; none where an inverse pivot fails.
 pub fn covariance<S: Observed>(
     samples: &[S],
@@ -327,7 +334,7 @@ pub fn scores_by_degree(
     let bound = max_degree(settings.bound, samples.len());
     let scores = scores(samples, sums, bound, settings.criterion);
     let least = least(&scores);
-    let tests = (0..=bound).map(|degree| pivots_compared(sums, coefficient_count(degree))).sum();
+    let tests = pivot_tests(samples, sums, bound);
     Ok(Scores { degree, bound, scores, least, tests })
 }
 

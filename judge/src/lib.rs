@@ -8,8 +8,8 @@
 //! and sums; `refusals` says which number a call is refused by; `book` has the calls on lent memory;
 //! `ledger` is the plain list of samples that the book must agree with; `listing` is the program
 //! `stakebook`; `split` is document 02's E8, `surface` its E9, for which `terms` says what a fit sees of
-//! a sample. `two_column` is document 01's book of two columns, by its own words and with nothing of
-//! document 02 in it.
+//! a sample, `groups` its E10 and `season` its E14. `two_column` is document 01's book of two columns, by its own words and
+//! with nothing of document 02 in it.
 
 // Places are named by index, as the document names them.
 #![allow(clippy::needless_range_loop)]
@@ -17,11 +17,13 @@
 pub mod book;
 pub mod fit;
 pub mod frame;
+pub mod groups;
 pub mod ledger;
 pub mod lines;
 pub mod listing;
 pub mod numbers;
 pub mod refusals;
+pub mod season;
 pub mod solve;
 pub mod split;
 pub mod statistics;

@@ -1,8 +1,6 @@
 //! Document 02, E8: the list broken in two, melt season and cold season, each with a fit of its own.
 
-use crate::coefficient_count;
-use crate::fit::{chosen, scores, solved, Settings};
-use crate::solve::pivots_compared;
+use crate::fit::{chosen, pivot_tests, scores, solved, Settings};
 use crate::statistics::max_degree;
 use crate::sums::folded_afresh;
 use crate::Sample;
@@ -53,9 +51,7 @@ pub fn side_fit(side: &[Sample], settings: Settings) -> Option<SideFit> {
 
 /// One for each pivot compared, a failing one included, over every degree within the side's bound.
 pub fn side_tests(side: &[Sample], settings: Settings) -> usize {
-    let sums = folded_afresh(side);
-    let bound = max_degree(settings.bound, side.len());
-    (0..=bound).map(|degree| pivots_compared(&sums, coefficient_count(degree))).sum()
+    pivot_tests(side, &folded_afresh(side), max_degree(settings.bound, side.len()))
 }
 
 /// Every break that leaves at least two samples on each side, in list order.

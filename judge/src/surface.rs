@@ -107,7 +107,7 @@ pub struct Columns<'a> {
 }
 
 impl Columns<'_> {
-    fn lengths(&self) -> Lengths {
+    pub(crate) fn lengths(&self) -> Lengths {
         Lengths { x: self.x.len(), z: self.z.len(), y: self.y.len(), ..Lengths::default() }
     }
 
@@ -149,16 +149,7 @@ pub fn report(
     out: &mut ReportMemory,
 ) -> Result<ReportAnswer, u8> {
     let samples = columns.samples(count);
-    let lengths = Lengths {
-        scratch: scratch.len(),
-        coefficients: out.coefficients.len(),
-        errors: out.errors.len(),
-        pruned: out.pruned.len(),
-        lower: out.lower.len(),
-        upper: out.upper.len(),
-        outlier: out.outlier.len(),
-        ..columns.lengths()
-    };
+    let lengths = out.lengths(scratch, columns.lengths());
     refusals::judged(&refusals::surface_report(&lengths, count, &samples, settings))?;
     clear_scratch(scratch, count);
     let report = fit::report(&samples, &folded(&samples), settings)?;

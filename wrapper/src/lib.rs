@@ -9,7 +9,8 @@
 //! [`Book::add_window`].
 //!
 //! [`TwoColumnBook`] is for a season that was begun before samples had weights; it is carried into a
-//! [`Book`]. [`Surface`] fits samples with two coordinates.
+//! [`Book`]. [`Surface`] fits samples with two coordinates. An [`Allowance`] bounds what each of eight
+//! course groups may ask of one machine.
 //!
 //! A call needs at most 40 KB of stack. What it takes in time, and how both were measured, is said
 //! in `include/stakebook.h`.
@@ -44,12 +45,14 @@
 //! # Ok::<(), Refusal>(())
 //! ```
 
+mod groups;
 mod refusal;
 mod settings;
 mod surface;
 pub mod sys;
 mod two_column;
 
+pub use groups::Allowance;
 pub use refusal::Refusal;
 pub use settings::{Confidence, Criterion, DegreeBound, PruningRule, Settings, Tolerance};
 pub use surface::{Surface, SurfaceFit};
@@ -180,6 +183,19 @@ impl Fit {
     /// The coefficients, degree + 1 of them, the constant one first.
     pub fn coefficients(&self) -> &[f64] {
         &self.terms[..=self.degree]
+    }
+}
+
+impl Split {
+    /// What a split answered and wrote.
+    fn of(answer: u64, before: [f64; TERMS], after: [f64; TERMS], [total]: [f64; 1]) -> Split {
+        Split {
+            total,
+            samples_before: sys::samples_before(answer),
+            tests: sys::tests(answer),
+            before: Fit { degree: sys::degree(answer), terms: before },
+            after: Fit { degree: sys::degree_after(answer), terms: after },
+        }
     }
 }
 
@@ -461,6 +477,11 @@ impl Book {
             self.xs, self.ys, self.ws, self.sums, self.scratch, self.coefficients, self.errors,
             self.pruned, self.lower, self.upper, self.outliers
         ));
+        self.reported(answer)
+    }
+
+    /// What a report answered and wrote.
+    fn reported(&self, answer: u64) -> Result<Report<'_>, Refusal> {
         let answer = judged(answer)?;
         let (n, k) = (self.count, sys::degree(answer) + 1);
         Ok(Report {
@@ -515,14 +536,7 @@ impl Book {
             self.count, words.as_ptr(), words.len(), values.as_ptr(), values.len(), limit;
             self.xs, self.ys, self.ws, self.sums, self.scratch, before, after, total
         ));
-        let answer = judged(answer)?;
-        Ok(Split {
-            total: total[0],
-            samples_before: sys::samples_before(answer),
-            tests: sys::tests(answer),
-            before: Fit { degree: sys::degree(answer), terms: before },
-            after: Fit { degree: sys::degree_after(answer), terms: after },
-        })
+        Ok(Split::of(judged(answer)?, before, after, total))
     }
 
     /// The losses from which the score of the report's chosen degree is made: to check the score by

@@ -1,7 +1,7 @@
 //! Why a call was refused.
 
-/// The sixteen refusals, by number. They are checked in this order, but 13 and 14 after 3, 15 after 4,
-/// and 16 after 10. A refused call changes no sample and writes no result.
+/// The seventeen refusals, by number. They are checked in this order, but 17 after 1, 13 and 14 after 3, 15
+/// after 4, and 16 after 10. A refused call changes no sample and writes no result.
 #[derive(Debug, Clone, Copy, PartialEq, Eq)]
 pub enum Refusal {
     /// 1: a lent memory is too short, or the count is above capacity.
@@ -35,19 +35,22 @@ pub enum Refusal {
     TooManyDigits,
     /// 15: a weight that is being added is not above zero.
     WeightNotAboveZero,
-    /// 16: a split's search needs more pivot tests than its limit.
+    /// 16: a split's search needs more pivot tests than its limit, or a group's report or split more than the
+    /// group has left.
     LimitPassed,
+    /// 17: a group's number is above 7.
+    NoSuchGroup,
 }
 
 impl Refusal {
-    /// Its number, 1 to 16.
+    /// Its number, 1 to 17.
     pub fn number(self) -> u8 {
         self as u8
     }
 
     /// The refusal of a number; none for 0.
     pub(crate) fn of(number: u8) -> Option<Refusal> {
-        const ALL: [Refusal; 16] = [
+        const ALL: [Refusal; 17] = [
             Refusal::Memory,
             Refusal::FrameLength,
             Refusal::FrameVersion,
@@ -64,6 +67,7 @@ impl Refusal {
             Refusal::TooManyDigits,
             Refusal::WeightNotAboveZero,
             Refusal::LimitPassed,
+            Refusal::NoSuchGroup,
         ];
         (number != 0).then(|| ALL[usize::from(number) - 1])
     }
@@ -87,7 +91,8 @@ impl std::fmt::Display for Refusal {
             Refusal::MalformedLine => "a line is not two readings with one space between them",
             Refusal::TooManyDigits => "a reading has too many digits",
             Refusal::WeightNotAboveZero => "a weight is not above zero",
-            Refusal::LimitPassed => "the search needs more pivot tests than the limit",
+            Refusal::LimitPassed => "more pivot tests are needed than the limit or the group has",
+            Refusal::NoSuchGroup => "there is no group of this number",
         })
     }
 }
@@ -102,10 +107,10 @@ mod tests {
     #[test]
     fn by_number() {
         assert_eq!(Refusal::of(0), None);
-        let all: Vec<Refusal> = (1..=16).filter_map(Refusal::of).collect();
-        assert!(all.iter().map(|refusal| refusal.number()).eq(1..=16));
+        let all: Vec<Refusal> = (1..=17).filter_map(Refusal::of).collect();
+        assert!(all.iter().map(|refusal| refusal.number()).eq(1..=17));
         let words: std::collections::BTreeSet<String> =
             all.iter().map(Refusal::to_string).collect();
-        assert_eq!(words.len(), 16);
+        assert_eq!(words.len(), 17);
     }
 }

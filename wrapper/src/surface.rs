@@ -1,7 +1,7 @@
 //! Surfaces over two coordinates.
 
 use crate::sys;
-use crate::{judged, lend, Band, Confidence, Refusal, Report, Settings, Tolerance};
+use crate::{judged, lend, Allowance, Band, Confidence, Refusal, Report, Settings, Tolerance};
 
 /// The terms of total degree 4, the greatest.
 const TERMS: usize = 15;
@@ -153,6 +153,29 @@ impl Surface {
             self.xs, self.zs, self.ys, self.scratch, self.coefficients, self.errors, self.pruned,
             self.lower, self.upper, self.outliers
         ));
+        self.reported(answer)
+    }
+
+    /// The report of a group, which takes what it costs from the group's allowance, as
+    /// [`Book::group_report`](crate::Book::group_report) does.
+    pub fn group_report(
+        &mut self,
+        group: usize,
+        allowance: &mut Allowance,
+        settings: Settings,
+    ) -> Result<Report<'_>, Refusal> {
+        let (words, values) = settings.lists();
+        let table = allowance.table();
+        let answer = lend!(stakebook_group_surface_report(
+            group, self.count, words.as_ptr(), words.len(), values.as_ptr(), values.len();
+            self.xs, self.zs, self.ys, self.scratch, self.coefficients, self.errors, self.pruned,
+            self.lower, self.upper, self.outliers, table
+        ));
+        self.reported(answer)
+    }
+
+    /// What a report answered and wrote.
+    fn reported(&self, answer: u64) -> Result<Report<'_>, Refusal> {
         let answer = judged(answer)?;
         let (n, degree) = (self.count, sys::degree(answer));
         let k = terms_of(degree);

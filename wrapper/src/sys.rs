@@ -389,6 +389,96 @@ extern "C" {
         numbers: *mut f64,
         numbers_len: usize,
     ) -> u64;
+    pub fn stakebook_start(quota: usize, table: *mut usize, table_len: usize) -> u64;
+    pub fn stakebook_renew(table: *mut usize, table_len: usize) -> u64;
+    pub fn stakebook_group_report(
+        group: usize,
+        count: usize,
+        words: *const u32,
+        words_len: usize,
+        values: *const f64,
+        values_len: usize,
+        xs: *const f64,
+        xs_len: usize,
+        ys: *const f64,
+        ys_len: usize,
+        ws: *const f64,
+        ws_len: usize,
+        sums: *const f64,
+        sums_len: usize,
+        scratch: *mut f64,
+        scratch_len: usize,
+        coefficients: *mut f64,
+        coefficients_len: usize,
+        errors: *mut f64,
+        errors_len: usize,
+        pruned: *mut u8,
+        pruned_len: usize,
+        lower: *mut f64,
+        lower_len: usize,
+        upper: *mut f64,
+        upper_len: usize,
+        outliers: *mut u8,
+        outliers_len: usize,
+        table: *mut usize,
+        table_len: usize,
+    ) -> u64;
+    pub fn stakebook_group_surface_report(
+        group: usize,
+        count: usize,
+        words: *const u32,
+        words_len: usize,
+        values: *const f64,
+        values_len: usize,
+        xs: *const f64,
+        xs_len: usize,
+        zs: *const f64,
+        zs_len: usize,
+        ys: *const f64,
+        ys_len: usize,
+        scratch: *mut f64,
+        scratch_len: usize,
+        coefficients: *mut f64,
+        coefficients_len: usize,
+        errors: *mut f64,
+        errors_len: usize,
+        pruned: *mut u8,
+        pruned_len: usize,
+        lower: *mut f64,
+        lower_len: usize,
+        upper: *mut f64,
+        upper_len: usize,
+        outliers: *mut u8,
+        outliers_len: usize,
+        table: *mut usize,
+        table_len: usize,
+    ) -> u64;
+    pub fn stakebook_group_split(
+        group: usize,
+        count: usize,
+        words: *const u32,
+        words_len: usize,
+        values: *const f64,
+        values_len: usize,
+        xs: *const f64,
+        xs_len: usize,
+        ys: *const f64,
+        ys_len: usize,
+        ws: *const f64,
+        ws_len: usize,
+        sums: *const f64,
+        sums_len: usize,
+        scratch: *mut f64,
+        scratch_len: usize,
+        before: *mut f64,
+        before_len: usize,
+        after: *mut f64,
+        after_len: usize,
+        total: *mut f64,
+        total_len: usize,
+        table: *mut usize,
+        table_len: usize,
+    ) -> u64;
     pub fn stakebook_reader(frame: *const u8, frame_len: usize) -> u64;
     pub fn stakebook_next(
         frame: *const u8,
@@ -447,8 +537,8 @@ pub fn count(answer: u64) -> usize {
     (answer & 0x00FF_FFFF_FFFF_FFFF) as usize
 }
 
-/// The degree, in the answer of a fit, a validation, a report, losses or scores, also of a surface; of a split,
-/// the one before the break.
+/// The degree, in the answer of a fit, a validation, a report, losses or scores, also of a surface or a group; of
+/// a split, the one before the break.
 pub fn degree(answer: u64) -> usize {
     (answer & 0xFF) as usize
 }

@@ -9,8 +9,10 @@
 //! `lists losses`: losses line by line, document 02's E12.
 //! `lists surface`: surfaces over two coordinates, document 02's E9.
 //! `lists scores`: scores by degree.
+//! `lists groups`: course groups with an allowance each, document 02's E10.
 
 mod edges;
+mod groups;
 mod lines;
 mod list;
 mod losses;
@@ -34,9 +36,10 @@ fn main() -> ExitCode {
         Some("losses") => losses::losses(),
         Some("surface") => surface::surface(),
         Some("scores") => scores::scores(),
+        Some("groups") => groups::groups(),
         _ => {
             eprintln!(
-                "lists edges, season, lines, weights, split, windows, losses, surface, or scores"
+                "lists edges, season, lines, weights, split, windows, losses, surface, scores, or groups"
             );
             return ExitCode::FAILURE;
         }
