@@ -56,7 +56,7 @@ class Refused(Exception):
     6 the index is at or above the count
     """
 
-    #: The refusal's number, 1 to 17, or 255 for a list of calls that is malformed.
+    #: The refusal's number, 1 to 18, or 255 for a list of calls that is malformed.
     number: int
     #: What it says, as the C header has it.
     words: str

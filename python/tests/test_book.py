@@ -343,8 +343,8 @@ class Header(unittest.TestCase):
         """The words are those of include/refusals.txt, in its order, each refusal once."""
         lines = (ROOT / "include" / "refusals.txt").read_text("utf-8").splitlines()
         self.assertEqual([f"{number}\t{words}" for number, words in stakebook.WORDS.items()], lines)
-        self.assertEqual(sorted(stakebook.WORDS), [*range(1, 18), 255])
-        self.assertEqual(list(stakebook.WORDS)[:9], [1, 17, 2, 3, 13, 14, 4, 15, 5])
+        self.assertEqual(sorted(stakebook.WORDS), [*range(1, 19), 255])
+        self.assertEqual(list(stakebook.WORDS)[:10], [18, 1, 17, 2, 3, 13, 14, 4, 15, 5])
 
     def test_words_of_a_later_library(self):
         self.assertIn("no words", Refused(99).words)

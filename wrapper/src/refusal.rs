@@ -1,7 +1,7 @@
 //! Why a call was refused.
 
-/// The seventeen refusals, by number. They are checked in this order, but 17 after 1, 13 and 14 after 3, 15
-/// after 4, and 16 after 10. A refused call changes no sample and writes no result.
+/// The eighteen refusals, by number. They are checked in this order, but 18 first of all, 17 after 1, 13 and 14
+/// after 3, 15 after 4, and 16 after 10. A refused call changes no sample and writes no result.
 #[derive(Debug, Clone, Copy, PartialEq, Eq)]
 pub enum Refusal {
     /// 1: a lent memory is too short, or the count is above capacity.
@@ -40,17 +40,19 @@ pub enum Refusal {
     LimitPassed,
     /// 17: a group's number is above 7.
     NoSuchGroup,
+    /// 18: a stake's number is above 31.
+    NoSuchStake,
 }
 
 impl Refusal {
-    /// Its number, 1 to 17.
+    /// Its number, 1 to 18.
     pub fn number(self) -> u8 {
         self as u8
     }
 
     /// The refusal of a number; none for 0.
     pub(crate) fn of(number: u8) -> Option<Refusal> {
-        const ALL: [Refusal; 17] = [
+        const ALL: [Refusal; 18] = [
             Refusal::Memory,
             Refusal::FrameLength,
             Refusal::FrameVersion,
@@ -68,6 +70,7 @@ impl Refusal {
             Refusal::WeightNotAboveZero,
             Refusal::LimitPassed,
             Refusal::NoSuchGroup,
+            Refusal::NoSuchStake,
         ];
         (number != 0).then(|| ALL[usize::from(number) - 1])
     }
@@ -93,6 +96,7 @@ impl std::fmt::Display for Refusal {
             Refusal::WeightNotAboveZero => "a weight is not above zero",
             Refusal::LimitPassed => "more pivot tests are needed than the limit or the group has",
             Refusal::NoSuchGroup => "there is no group of this number",
+            Refusal::NoSuchStake => "there is no stake of this number",
         })
     }
 }
@@ -107,10 +111,10 @@ mod tests {
     #[test]
     fn by_number() {
         assert_eq!(Refusal::of(0), None);
-        let all: Vec<Refusal> = (1..=17).filter_map(Refusal::of).collect();
-        assert!(all.iter().map(|refusal| refusal.number()).eq(1..=17));
+        let all: Vec<Refusal> = (1..=18).filter_map(Refusal::of).collect();
+        assert!(all.iter().map(|refusal| refusal.number()).eq(1..=18));
         let words: std::collections::BTreeSet<String> =
             all.iter().map(Refusal::to_string).collect();
-        assert_eq!(words.len(), 17);
+        assert_eq!(words.len(), 18);
     }
 }
