@@ -1,3 +1,4 @@
 -- The mirror image of the program's replies.
 pub mod Image
+pub mod Strays
 pub mod Groups

@@ -101,14 +101,15 @@ pub record MirrorLedger (g k : GroupLedger) : Type 0 where
 abbrev pub heldBy : ℕ → Shared → List Sample
 heldBy group s = samplesOf (s .books group .count) (s .books group .columns)
 
--- of one group, where s and t are what the program begins with
+-- Of one number, where s and t are what the program begins with. A number above 7 names no group: its calls that cost get 17, past 1, and it has no
+-- counter.
 pub record GroupImage (group : ℕ) (s t : Shared) (cs ds : List SharedCall) : Type 0 where
   -- the group is fed calls alike but for the sign of every y,
   pub fed : Pairs MirrorFed (only (mine group) cs) (only (mine group) ds)
-  -- its replies, in the run of all groups' calls, are mirrored call by call, 16 and the other refusals by number,
+  -- its replies, in the run of all groups' calls, are mirrored call by call, and refusals agree by number, 16 and 17 too,
   pub replied : ByCall MirrorGroupReply (only (mine group) cs) (pick (mine group) cs (replies shared s cs)) (pick (mine group) ds (replies shared t ds))
   -- and after the first n calls of both its counter is equal,
-  pub counters : (n : ℕ) → seenBy group (fold sharedNext s (take n cs)) .counter ≡ seenBy group (fold sharedNext t (take n ds)) .counter
+  pub counters : group < groups → (n : ℕ) → seenBy group (fold sharedNext s (take n cs)) .counter ≡ seenBy group (fold sharedNext t (take n ds)) .counter
   -- its samples are mirrored,
   pub samples : (n : ℕ) → MirrorSamples (heldBy group (fold sharedNext s (take n cs))) (heldBy group (fold sharedNext t (take n ds)))
   -- and of every degree whether it is solved, and its score, are equal.
@@ -121,7 +122,7 @@ abbrev pub AnyGroupMirror : Type 0
 AnyGroupMirror =
     (columns columns′ : ℕ → Columns) (sums sums′ : ℕ → List Float) (quota : ℕ) (table table′ : List ℕ) → length table ≡ length table′
     → startOut quota table .answer ≡ answers.Done → startOut quota table′ .answer ≡ answers.Done
-    → (group : ℕ) → group < groups → lentOf (columns group) (sums group) ≡ lentOf (columns′ group) (sums′ group)
+    → (group : ℕ) → lentOf (columns group) (sums group) ≡ lentOf (columns′ group) (sums′ group)
     → openOut (sums group) .answer ≡ bookOf 0 → openOut (sums′ group) .answer ≡ bookOf 0
     → (cs ds : List SharedCall) → Pairs MirrorShared cs ds
     → GroupImage group (begun columns sums quota table) (begun columns′ sums′ quota table′) cs ds
