@@ -15,6 +15,7 @@ x               2
 """
 
 from ._library import LibraryError, MOST, Refused, WORDS
+from .allowance import Allowance
 from .book import Book, Calls
 from .results import (
     Band,
@@ -34,6 +35,7 @@ from .settings import Settings
 from .surface import Surface
 
 __all__ = [
+    "Allowance",
     "Band",
     "Book",
     "Calls",

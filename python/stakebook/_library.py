@@ -15,6 +15,9 @@ from typing import Any, Callable, Dict, List, Optional, Tuple
 #: Places of the sums, of coefficients, of a band and of the numbers of losses, and the most samples of a book.
 SUMS, TERMS, BAND, LOSSES, MOST = 272, 16, 3, 2, 4096
 
+#: The course groups, and the places of their table.
+GROUPS, TABLE = 8, 9
+
 #: The greatest whole number that the library can be given.
 SIZE_MAX = ctypes.c_size_t(-1).value
 
@@ -123,10 +126,18 @@ DECLARED: Dict[str, List[Any]] = {
     "surface_fit": _whole * 2 + _surface + _lent * 2,
     "surface_report": _whole + _lists + _surface + _lent * 7,
     "surface_band": _whole + _number * 2 + _whole + _word + _number + _word + _number + _surface + _lent * 2,
+    "start": _whole + _lent,
+    "renew": _lent,
+    "group_report": _whole * 2 + _lists + _book + _lent * 8,
+    "group_surface_report": _whole * 2 + _lists + _surface + _lent * 8,
+    "group_split": _whole * 2 + _lists + _book + _lent * 5,
 }
 
 #: What a library of an earlier version may lack.
-LATER = ("scores", "surface_fit", "surface_report", "surface_band")
+LATER = (
+    ("scores", "surface_fit", "surface_report", "surface_band")
+    + ("start", "renew", "group_report", "group_surface_report", "group_split")
+)
 
 
 class Library:
@@ -150,6 +161,11 @@ class Library:
     surface_fit: Optional[Call]
     surface_report: Optional[Call]
     surface_band: Optional[Call]
+    start: Optional[Call]
+    renew: Optional[Call]
+    group_report: Optional[Call]
+    group_surface_report: Optional[Call]
+    group_split: Optional[Call]
 
     def __init__(self, path: str) -> None:
         try:

@@ -9,6 +9,7 @@ from array import array
 from typing import Any, Iterable, List, NoReturn, Optional, Sequence, Tuple, Type, TypeVar, Union, overload
 
 from ._library import ANSWER, BAND, LOSSES, MOST, SIZE_MAX, SUMS, TERMS, Call, Refused, first_of, later, library, number, whole
+from .allowance import Allowance, ask
 from .results import Band, DegreeScore, Fit, Losses, Replayed, Report, Scores, Split, Validation
 from .settings import Settings
 
@@ -477,8 +478,8 @@ class Book:
                 raise Refused(answer >> 56)
             return Validation(settings, self._count, folds, answer, self._coefficients[: answer + 1].tolist())
 
-    def report(self, settings: Settings = _DEFAULT) -> Report:
-        """Chooses a degree, fits it, and says how far the curve can be trusted.
+    def report(self, settings: Settings = _DEFAULT, *, group: Optional[int] = None, allowance: Optional[Allowance] = None) -> Report:
+        """Chooses a degree, fits it, and says how far the curve can be trusted. With a course group and its allowance it costs its pivot tests.
 
         >>> book = Book()
         >>> book.extend([0.1, 0.3, 0.5, 0.7, 0.9, 1.1], [212, 240.5, 251, 287, 290, 322.5])
@@ -492,7 +493,8 @@ class Book:
         2 of 6 outside the band, which is the curve's and not the readings': 3, 4
         """
         with self._lock:
-            answer = self._library.report_by(self._count, *settings.codes.lists, *self._for_report)
+            call = self._library.report_by
+            answer = ask(call, "group_report", group, allowance, self._count, *settings.codes.lists, *self._for_report)
             if answer >> 56:
                 raise Refused(answer >> 56)
             return self._reported(Report, settings, answer, (answer & 0xFF) + 1)
@@ -561,11 +563,13 @@ class Book:
             least = self._numbers[0]
         return Scores(settings, n, answer & 0xFF, bound, least, answer >> 8 & 0xFF, degrees, answer >> 32 & 0xFFFFFF)
 
-    def split(self, settings: Settings = _DEFAULT, limit: Optional[int] = None) -> Split:
+    def split(
+        self, settings: Settings = _DEFAULT, limit: Optional[int] = None, *, group: Optional[int] = None, allowance: Optional[Allowance] = None
+    ) -> Split:
         """Breaks the list in two, melt season and cold season, where the two sides' scores total least.
 
         Of the settings it takes bound and criterion. ``limit`` is the most pivot tests to make, which bounds the time; None is no limit, and
-        with thousands of readings that is seconds. On short lists don't believe the break: sides of two readings score very low.
+        with thousands of readings that is seconds. Of a group what it has left stands for the limit. On short lists don't believe the break: sides of two readings score very low.
 
         >>> book = Book()
         >>> book.extend(range(8), [0, 1.1, 1.9, 3.05, 2.95, 2.1, 0.9, 0.02])
@@ -579,9 +583,12 @@ class Book:
         stakebook.Refused: refused by 16: ...
         """
         most = SIZE_MAX if limit is None else whole(limit, "the limit")
+        if limit is not None and group is not None:
+            raise TypeError("a group's split has no limit but what the group has left")
         with self._lock:
             n = self._count
-            answer = self._library.split(n, *settings.codes.lists, most, *self._for_split)
+            lists, lent = settings.codes.lists, self._for_split
+            answer = ask(lambda *_: self._library.split(n, *lists, most, *lent), "group_split", group, allowance, n, *lists, *lent)
             if answer >> 56:
                 raise Refused(answer >> 56)
             before, after = answer & 0xFF, answer >> 8 & 0xFF

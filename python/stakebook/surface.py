@@ -3,9 +3,10 @@
 from __future__ import annotations
 
 import threading
-from typing import Any, Iterable, List, NoReturn, Tuple, Union, overload
+from typing import Any, Iterable, List, NoReturn, Optional, Tuple, Union, overload
 
 from ._library import MOST, Refused, first_of, later, number, whole
+from .allowance import Allowance, ask
 from .book import _DEFAULT, Book, Calls, _column, _many, _place
 from .results import Replayed, SurfaceBand, SurfaceFit, SurfaceReport, surface_terms
 from .settings import Settings
@@ -152,8 +153,9 @@ class Surface:
                 raise Refused(answer >> 56)
             return SurfaceFit(book._count, answer, book._coefficients[: surface_terms(answer)].tolist())
 
-    def report(self, settings: Settings = _DEFAULT) -> SurfaceReport:
-        """Chooses a total degree, fits it, and says how far the surface can be trusted.
+    def report(self, settings: Settings = _DEFAULT, *, group: Optional[int] = None, allowance: Optional[Allowance] = None) -> SurfaceReport:
+        """Chooses a total degree, fits it, and says how far the surface can be trusted. With a course group and its allowance it costs its
+        pivot tests.
 
         Total degrees with more terms than readings are not tried. Give the bound as a degree, 4 at most: a bound by name passes 4 where
         there are many readings, which is refused by 8.
@@ -167,7 +169,7 @@ class Surface:
         """
         call, book = later(self._library, "surface_report"), self._books[0]
         with self._lock:
-            answer = call(book._count, *settings.codes.lists, *self._for_report)
+            answer = ask(call, "group_surface_report", group, allowance, book._count, *settings.codes.lists, *self._for_report)
             if answer >> 56:
                 raise Refused(answer >> 56)
             return book._reported(SurfaceReport, settings, answer, surface_terms(answer & 0xFF))

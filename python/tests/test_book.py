@@ -7,6 +7,7 @@ where numpy is there, and from the definitions in include/stakebook.h; none from
 """
 
 import ast
+import contextlib
 import copy
 import ctypes
 import dataclasses
@@ -38,7 +39,7 @@ sys.path.insert(0, str(ROOT / "python"))
 
 import stakebook
 from stakebook import Book, Calls, DegreeScore, LibraryError, Refused, Report, Scores, Settings, _library, book as book_module, results, settings
-from stakebook import surface as surface_module
+from stakebook import Allowance, Surface, allowance as allowance_module, surface as surface_module
 
 try:
     import numpy
@@ -48,6 +49,7 @@ except ImportError:
 NAN, INF = math.nan, math.inf
 HAS_SCORES = _library.library().scores is not None
 HAS_SURFACE = _library.library().surface_report is not None
+HAS_GROUPS = _library.library().group_report is not None
 PIT = [0.1, 0.3, 0.5, 0.7, 0.9, 1.1], [212, 240.5, 251, 287, 290, 322.5]
 
 
@@ -76,6 +78,14 @@ def memory(book):
 def state(book):
     """Its readings and sums, bit for bit."""
     return book.count, digest(book.bits())
+
+
+def no_covariance():
+    """Sums of someone else's, whose inverse fails: tests/season.calls."""
+    book = book_of([0, 1, 2], [1, 3, 5])
+    for place, field in ((0, "3CB0"), (1, "3E50"), (16, "BE5004"), (17, "BFF0"), (256, "3E60000002"), (257, "C000000002008")):
+        book._sums[place] = number(field.ljust(16, "0"))
+    return book
 
 
 # ---- the judge's lists (docs/JOURNAL.md)
@@ -331,6 +341,7 @@ class Header(unittest.TestCase):
             (_library.SUMS, _library.TERMS, _library.BAND, _library.LOSSES, _library.MOST),
             tuple(defined[name] for name in ("SUMS", "TERMS", "BAND", "LOSSES", "MOST")),
         )
+        self.assertEqual((_library.GROUPS, _library.TABLE), (defined["GROUPS"], defined["TABLE"]))
         for table in (settings._BOUNDS, settings._CRITERIA, settings._CONFIDENCES, settings._TOLERANCES):
             for name, value in table.items():
                 self.assertEqual(defined[name.upper()], value)
@@ -463,10 +474,7 @@ class Refusals(unittest.TestCase):
             self.refused(11, lambda: call(asked), book)
 
     def test_no_covariance(self):
-        """Sums of someone else's, whose inverse fails: tests/season.calls."""
-        book = book_of([0, 1, 2], [1, 3, 5])
-        for place, field in ((0, "3CB0"), (1, "3E50"), (16, "BE5004"), (17, "BFF0"), (256, "3E60000002"), (257, "C000000002008")):
-            book._sums[place] = number(field.ljust(16, "0"))
+        book = no_covariance()
         self.assertEqual(book.fit(1).degree, 1)
         asked = Settings(bound=1, criterion="aic")
         self.refused(12, lambda: book.report(asked), book)
@@ -1010,6 +1018,169 @@ class Scored(unittest.TestCase):
         self.assertEqual(scores.as_dict()["degrees"][3], {"degree": 3, "solved": False, "score": None})
 
 
+@unittest.skipUnless(HAS_GROUPS, "the library has no groups")
+class Groups(unittest.TestCase):
+    """Document 02, E10. What a call costs is counted by hand: degree d takes d + 1 pivot tests where none fails."""
+
+    asked = Settings(bound=3, criterion="aic")
+
+    def counters(self, allowance):
+        return [allowance.left(group) for group in range(8)]
+
+    def refused(self, number, call, **of):
+        with self.assertRaises(Refused) as caught:
+            call(**of)
+        self.assertEqual(str(caught.exception), f"refused by {number}: {stakebook.WORDS[number]}")
+
+    def test_report(self):
+        book, allowance = book_of(*PIT), Allowance(10 + 9)
+        before = memory(book)
+        self.assertEqual(book.report(self.asked, group=3, allowance=allowance), book.report(self.asked))
+        self.assertEqual(self.counters(allowance), [19, 19, 19, 9, 19, 19, 19, 19])
+        for _ in range(2):
+            self.refused(16, book.report, settings=self.asked, group=3, allowance=allowance)
+            self.assertEqual(self.counters(allowance), [19, 19, 19, 9, 19, 19, 19, 19])
+        # what costs 6 still gets through, and another group sees nothing of it
+        lower = Settings(bound=2, criterion="aic")
+        self.assertEqual(book.report(lower, group=3, allowance=allowance), book.report(lower))
+        self.assertEqual(book.report(self.asked, group=7, allowance=allowance), book.report(self.asked))
+        self.assertEqual(self.counters(allowance), [19, 19, 19, 3, 19, 19, 19, 9])
+        allowance.renew()
+        self.assertEqual((self.counters(allowance), allowance.quota), ([19] * 8, 19))
+        book.report(self.asked, group=3, allowance=allowance)
+        self.assertEqual(allowance.left(3), 9)
+        self.assertEqual(memory(book), before)
+
+    def test_to_the_last_test(self):
+        book = book_of(*PIT)
+        for quota, left in ((10, 0), (11, 1)):
+            allowance = Allowance(quota)
+            book.report(self.asked, group=0, allowance=allowance)
+            self.assertEqual(allowance.left(0), left)
+        allowance = Allowance(9)
+        self.refused(16, book.report, settings=self.asked, group=0, allowance=allowance)
+        self.assertEqual(allowance.left(0), 9)
+
+    def test_cost_is_that_of_the_scores(self):
+        for n, bound in ((1, 3), (30, 15), (200, "aggressive"), (40, 0)):
+            book, asked, allowance = book_of(*readings(n)), Settings(bound=bound), Allowance(1000)
+            try:
+                tests = book.scores(asked).tests
+            except Refused as refused:
+                self.refused(refused.number, book.report, settings=asked, group=1, allowance=allowance)
+                self.assertEqual(allowance.left(1), 1000)
+            else:
+                self.assertEqual(book.report(asked, group=1, allowance=allowance), book.report(asked))
+                self.assertEqual(allowance.left(1), 1000 - tests)
+
+    def test_split(self):
+        book = book_of(range(8), [0, 1.1, 1.9, 3.05, 2.95, 2.1, 0.9, 0.02])
+        asked = Settings(bound=1, criterion="aic")
+        plain = book.split(asked)
+        self.assertEqual(plain.tests, 30)
+        allowance = Allowance(59)
+        self.assertEqual(book.split(asked, group=0, allowance=allowance), plain)
+        self.refused(16, book.split, settings=asked, group=0, allowance=allowance)
+        self.assertEqual((allowance.left(0), allowance.left(1)), (29, 59))
+        self.assertEqual(book.split(asked, group=1, allowance=allowance), plain)
+        allowance.renew()
+        self.assertEqual(book.split(asked, group=0, allowance=allowance), plain)
+
+    def test_no_degree_costs_too(self):
+        """11: x is 0 throughout, so that degree 1 has its second pivot fail, and no degree has a score."""
+        book, allowance = book_of([0] * 4, [sys.float_info.max] * 4), Allowance(100)
+        asked = Settings(bound=1, criterion="aic")
+        self.refused(11, book.report, settings=asked, group=4, allowance=allowance)
+        self.assertEqual(allowance.left(4), 97)
+        self.refused(11, book.split, settings=asked, group=5, allowance=allowance)
+        self.assertLess(allowance.left(5), 97)
+        # with too few left it is 16, which comes first
+        short = Allowance(2)
+        self.refused(16, book.report, settings=asked, group=4, allowance=short)
+        self.assertEqual(self.counters(short), [2] * 8)
+        self.assertEqual(self.counters(allowance)[:4] + self.counters(allowance)[6:], [100] * 6)
+
+    def test_no_covariance_costs_too(self):
+        """12: degrees 0 and 1 were solved, by 1 and 2 tests, before the errors failed."""
+        book, allowance = no_covariance(), Allowance(5)
+        asked = Settings(bound=1, criterion="aic")
+        self.refused(12, book.report, settings=asked, group=0, allowance=allowance)
+        self.assertEqual(self.counters(allowance), [2] + [5] * 7)
+        self.refused(16, book.report, settings=asked, group=0, allowance=allowance)
+        self.assertEqual(self.counters(allowance), [2] + [5] * 7)
+
+    def test_other_refusals_cost_nothing(self):
+        book, allowance = Book(), Allowance(50)
+        self.refused(7, book.report, group=0, allowance=allowance)
+        self.refused(7, book.split, group=0, allowance=allowance)
+        book.extend(*readings(20))
+        self.refused(8, book.report, settings=Settings(bound=16), group=0, allowance=allowance)
+        self.refused(4, book.report, settings=Settings(confidence=NAN), group=0, allowance=allowance)
+        self.assertEqual(self.counters(allowance), [50] * 8)
+
+    def test_group_above_7(self):
+        book, allowance = book_of(*PIT), Allowance(1000)
+        for group in (8, 9, 2**64 - 1):
+            self.refused(17, book.report, group=group, allowance=allowance)
+            self.refused(17, book.split, group=group, allowance=allowance)
+            self.refused(17, Book().report, group=group, allowance=allowance)  # before 7
+        self.assertEqual((self.counters(allowance), allowance.quota), ([1000] * 8, 1000))
+        with self.assertRaises(ValueError):
+            allowance.left(8)  # the quota's place, and no group's
+        with self.assertRaises(ValueError):
+            book.report(group=-1, allowance=allowance)
+
+    def test_start(self):
+        allowance = Allowance(5)
+        book_of(*PIT).report(Settings(bound=0), group=6, allowance=allowance)
+        self.assertEqual(repr(allowance), "<Allowance: 5, 5, 5, 5, 5, 5, 4, 5 left of 5>")
+        allowance.start(2**64 - 1)
+        self.assertEqual((self.counters(allowance), allowance.quota), ([2**64 - 1] * 8, 2**64 - 1))
+        allowance.start(0)
+        self.assertEqual((self.counters(allowance), allowance.quota), ([0] * 8, 0))
+        for wrong in (-1, 2**64):
+            with self.assertRaises(ValueError):
+                allowance.start(wrong)
+        with self.assertRaises(TypeError):
+            Allowance(1.5)
+        with self.assertRaises(TypeError):
+            pickle.dumps(allowance)
+
+    def test_given_together(self):
+        book, surface, allowance = book_of(*PIT), Surface(), Allowance(100)
+        for call in (book.report, book.split, surface.report):
+            for of in (dict(group=0), dict(allowance=allowance)):
+                with self.assertRaisesRegex(TypeError, "given together"):
+                    call(**of)
+        with self.assertRaisesRegex(TypeError, "no limit"):
+            book.split(limit=5, group=0, allowance=allowance)
+        self.assertEqual(allowance.left(0), 100)
+
+    def test_earlier_library(self):
+        book, allowance = book_of(*PIT), Allowance(100)
+        allowance._library = types.SimpleNamespace(group_report=None, path="libstakebook.so.1")
+        with self.assertRaisesRegex(LibraryError, "stakebook_group_report"):
+            book.report(group=0, allowance=allowance)
+        self.assertEqual(book.report(self.asked).degree, 1)
+
+    def test_threads(self):
+        """Eight groups at once: each counter ends as if its group had been alone."""
+        allowance = Allowance(105)
+
+        def work(group):
+            book = book_of(*PIT)
+            for _ in range(12):
+                with contextlib.suppress(Refused):
+                    book.report(self.asked, group=group, allowance=allowance)
+
+        threads = [threading.Thread(target=work, args=(group,)) for group in range(8)]
+        for thread in threads:
+            thread.start()
+        for thread in threads:
+            thread.join()
+        self.assertEqual(self.counters(allowance), [5] * 8)
+
+
 class Told(unittest.TestCase):
     """Results as text and for programs."""
 
@@ -1261,7 +1432,7 @@ class Found(unittest.TestCase):
 def load_tests(loader, tests, pattern):
     """The examples of the docstrings and of docs/PYTHON.md are tests too."""
     flags = doctest.ELLIPSIS
-    for module in (stakebook, _library, settings, results, book_module, surface_module):
+    for module in (stakebook, _library, settings, results, book_module, surface_module) + (allowance_module,) * HAS_GROUPS:
         for case in doctest.DocTestSuite(module, optionflags=flags):
             if (HAS_SCORES or not case.id().endswith("Book.scores")) and (HAS_SURFACE or "Surface" not in case.id()):
                 tests.addTest(case)
@@ -1269,7 +1440,7 @@ def load_tests(loader, tests, pattern):
     # a fence ends an example as a blank line does
     text = re.sub(r"^```.*$", "", path.read_text("utf-8"), flags=re.M)
     for part, section in enumerate(re.split(r"^(?=## )", text, flags=re.M)):
-        lacking = [word for word, there in ((r"\.scores\(", HAS_SCORES), (r"Surface\(", HAS_SURFACE)) if not there]
+        lacking = [word for word, there in ((r"\.scores\(", HAS_SCORES), (r"Surface\(", HAS_SURFACE), (r"Allowance\(", HAS_GROUPS)) if not there]
         if ">>>" in section and not any(re.search(rf"^>>> .*{word}", section, flags=re.M) for word in lacking):
             name = section.splitlines()[0].lstrip("# ")
             example = doctest.DocTestParser().get_doctest(section, {}, f"PYTHON.md: {name}", str(path), 0)

@@ -18,7 +18,7 @@ ROOT = Path(__file__).resolve().parents[2]
 sys.path.insert(0, str(ROOT / "python"))
 
 import stakebook
-from stakebook import LibraryError, Refused, Settings, Surface, _library
+from stakebook import Allowance, LibraryError, Refused, Settings, Surface, _library
 
 try:
     import numpy
@@ -27,6 +27,7 @@ except ImportError:
 
 NAN, INF = math.nan, math.inf
 HAS_SURFACE = _library.library().surface_fit is not None
+HAS_GROUPS = _library.library().group_surface_report is not None
 #: Document 02: ordered by a + b and then by falling a, written out.
 EXPONENTS = [(0, 0), (1, 0), (0, 1), (2, 0), (1, 1), (0, 2), (3, 0), (2, 1), (1, 2), (0, 3), (4, 0), (3, 1), (2, 2), (1, 3), (0, 4)]
 COUNTS = (1, 3, 6, 10, 15)
@@ -269,6 +270,27 @@ class Answers(unittest.TestCase):
         self.assertEqual(line.report(Settings(bound=2)).degree, 0)
         # 11: no score is a number
         self.refused(11, surface_of([(0, 0, sys.float_info.max)] * 4).report, Settings(bound=1))
+
+    @unittest.skipUnless(HAS_GROUPS, "the library has no groups")
+    def test_groups(self):
+        """Document 02, E10: each total degree that is tried costs a pivot test for each of its terms."""
+        surface, asked = surface_of(rows_of(40)), Settings(bound=4)
+        before, cost = readings(surface), sum(COUNTS)
+        allowance = Allowance(2 * cost - 1)
+        self.assertEqual(surface.report(asked, group=6, allowance=allowance), surface.report(asked))
+        self.assertEqual((allowance.left(6), allowance.left(5)), (cost - 1, 2 * cost - 1))
+        with self.assertRaises(Refused) as caught:
+            surface.report(asked, group=6, allowance=allowance)
+        self.assertEqual((caught.exception.number, allowance.left(6)), (16, cost - 1))
+        lower = Settings(bound=2)
+        self.assertEqual(surface.report(lower, group=6, allowance=allowance), surface.report(lower))
+        self.assertEqual(allowance.left(6), cost - 1 - sum(COUNTS[:3]))
+        allowance.renew()
+        self.assertEqual(surface.report(asked, group=6, allowance=allowance).degree, surface.report(asked).degree)
+        with self.assertRaises(Refused) as caught:
+            surface.report(asked, group=8, allowance=allowance)
+        self.assertEqual((caught.exception.number, allowance.quota), (17, 2 * cost - 1))
+        self.assertEqual(readings(surface), before)
 
     def test_bounds_by_name(self):
         """Document 02's design: relaxed passes total degree 4 from 125 readings on, aggressive from 48."""
