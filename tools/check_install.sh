@@ -178,8 +178,8 @@ same "the example of journal(1) prints something else" <(example journal.1 | sed
 
 # stake(1) has the commands and options that the installed command itself has, and no others
 export PYTHONDONTWRITEBYTECODE=1
-"$debian/usr/bin/stake" --help | sed -n '/^commands:/,/^$/ s/^    \([a-z]\+\) .*/\1/p' | sort >"$work/commands"
-sed -n '/^\.SH COMMANDS/,/^\.SH OPTIONS/ s/^\.B \([a-z]\+\) .*/\1/p' packaging/man/stake.1 | sort >"$work/described"
+"$debian/usr/bin/stake" --help | sed -n '/^commands:/,/^$/ s/^    \([a-z][a-z-]*\)\( .*\)\{0,1\}$/\1/p' | sort >"$work/commands"
+sed 's/\\-/-/g' packaging/man/stake.1 | sed -n '/^\.SH COMMANDS/,/^\.SH OPTIONS/ s/^\.B \([a-z][a-z-]*\) .*/\1/p' | sort >"$work/described"
 same "stake(1) describes other commands than stake has" "$work/commands" "$work/described"
 PYTHONPATH=$debian/usr/lib/python3/dist-packages /usr/bin/python3 -c '
 import sys

@@ -287,6 +287,7 @@ def _parser() -> argparse.ArgumentParser:
     made.add_argument(
         "--leave-out", metavar="LINE", type=_whole, action="append", default=[], help="give a damaged line up, by a line more in the file"
     )
+    command("mirror-check", _mirror_check, "run the calls again with the sign of every y changed, and compare both reports", as_json=True)
     return parser
 
 
@@ -698,6 +699,23 @@ def _check(arguments: argparse.Namespace) -> int:
         bits = f"{found.readings:,} {found.what} are the same, bit for bit" if same else "they DIFFER"
         _say(f"  the replayed book and {what}: {bits}")
     return 0 if found.good else 1
+
+
+def _mirror_check(arguments: argparse.Namespace) -> int:
+    from . import mirror
+
+    season = _open(arguments.season)
+    with _Progress("comparing with the mirror image"):
+        found = mirror.check(season)
+    if arguments.json:
+        _say_json(found.as_dict())
+        return 0 if found.difference is None else 1
+    readings = counted(found.readings, "reading")
+    _say(f"{found.path}: {counted(found.calls, 'call')}, {readings}, and the same with the sign of every y changed; {found.settings.summary()}")
+    for words in found.agree:
+        _say(f"  {words}")
+    _say("All agree." if found.difference is None else f"They DIFFER, first in this: {found.difference}")
+    return 0 if found.difference is None else 1
 
 
 # ---- the whole

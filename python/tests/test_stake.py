@@ -10,6 +10,7 @@ other tests are forked, which spares each of them the start of Python.
 """
 
 import contextlib
+import dataclasses
 import io
 import json
 import os
@@ -35,7 +36,7 @@ ROOT = Path(__file__).resolve().parents[2]
 sys.path.insert(0, str(ROOT / "python"))
 
 import stakebook
-from stakebook import Book, Refused, _library, command
+from stakebook import Book, Refused, Settings, _library, command, mirror
 from stakebook.season import Season
 
 STAKE = str(ROOT / "bin" / "stake")
@@ -400,6 +401,22 @@ class SurfaceSeason(Command):
         self.assertEqual((exported[0], exported[1]), ("reading,x,y,z,name,source,note", "r1,0.5,200,0,,pits.csv:2,"))
         self.assertIn("a new season of a surface", self.stake("list", self.season, "--history"))
 
+    def test_mirror_image(self):
+        self.stake("import", self.season, self.table, "--z", "elevation")
+        self.stake("correct", self.season, "r3", "171,25")
+        self.stake("withdraw", self.season, "r8")
+        before = self.data()
+        said = self.stake("mirror-check", self.season)
+        self.assertIn("18 calls, 15 readings, and the same with the sign of every y changed; degrees up to 4", said)
+        self.assertIn("  15 bands: lower and upper have changed places and sign\n", said)
+        self.assertTrue(said.endswith("\nAll agree.\n"), said)
+        self.assertEqual(self.data(), before)
+
+        def not_mirrored():
+            mirror._image = lambda calls: calls
+
+        self.assertIn("They DIFFER, first in this: coefficient 0: ", self.run_stake("mirror-check", self.season, status=1, prepare=not_mirrored).stdout.decode())
+
     def test_csv_comes_back(self):
         self.stake("import", self.season, self.table, "--z", "elevation")
         out = self.file("again.csv", self.stake("export", self.season))
@@ -549,6 +566,9 @@ class Refusals(Command):
         )
         self.made(*[(x.hex(), y.hex()) for x, y in struct.iter_unpack(">2d", frame[3:])], bound="14", criterion="aic")
         self.refused(12, "report", "s.stake")
+        said = self.stake("mirror-check", "s.stake")
+        self.assertIn(f"  the report: both refused by 12: {WORDS['12']}\n", said)
+        self.assertTrue(said.endswith("\nAll agree.\n"), said)
 
     def test_13_and_14_numbers_that_are_none(self):
         self.stake("new", "s.stake")
@@ -585,6 +605,162 @@ class Refusals(Command):
             self.assertEqual(json.loads(done.stdout), {"refused": {"number": 7, "words": WORDS["7"]}})
 
 
+class MirrorImage(Command):
+    """Document 02, E13: with the sign of every y changed, what is equal stays equal, and the rest changes sign."""
+
+    ROWS = [("0.1", "212"), ("0.3", "240.5"), ("0.5", "251"), ("0.7", "287", "2"), ("0.9", "290"), ("1.1", "322.5"), ("1.3", "331")]
+    #: About zero, and bent.
+    MIXED = [("-3", "7.5"), ("-2", "2.25"), ("-1", "-2"), ("0", "0"), ("1", "-1.75", "0.5"), ("2", "3"), ("3", "8.125")]
+
+    def agree(self, *words):
+        before, files = self.data(), sorted(os.listdir(self.folder))
+        said = self.stake("mirror-check", "s.stake")
+        self.assertTrue(said.endswith("\nAll agree.\n"), said)
+        for each in words:
+            self.assertIn(each, said)
+        self.assertEqual((self.data(), sorted(os.listdir(self.folder))), (before, files))
+
+    def differ(self, words, prepare):
+        before = self.data()
+        done = self.run_stake("mirror-check", "s.stake", status=1, prepare=prepare)
+        said = done.stdout.decode()
+        self.assertIn(f"\nThey DIFFER, first in this: {words}", said)
+        self.assertNotIn("All agree", said)
+        found = json.loads(self.run_stake("mirror-check", "s.stake", "--json", status=1, prepare=prepare).stdout)
+        self.assertFalse(found["good"])
+        self.assertTrue(found["difference"].startswith(words), found)
+        self.assertEqual(self.data(), before)
+
+    def test_a_season(self):
+        season = self.made(*self.ROWS, bound="3", pruning="positive")
+        season.correct("r3", "-1")
+        season.correct("r3", "248")
+        season.withdraw("r2")
+        season.withdraw("r7")
+        season.undo()
+        self.agree(
+            "s.stake: 10 calls, 6 readings, and the same with the sign of every y changed; degrees up to 3, BIC, P95, no tolerance, terms pruned by size\n",
+            "  10 calls: 0 refused, the same by number\n",
+            "  the number of solved degrees, 4, and the chosen degree, 1, are equal\n",
+            "  2 coefficients: of opposite sign\n",
+            "  6 bands: lower and upper have changed places and sign\n",
+            "  6 outlier marks: equal\n",
+            "  4 scores by degree: equal\n",
+        )
+        found = self.json("mirror-check", "s.stake")
+        self.assertEqual((found["good"], found["difference"], found["calls"], found["readings"]), (True, None, 10, 6))
+
+    def test_settings(self):
+        season = self.made(*self.MIXED)
+        for tolerance in (None, ("absolute", 5), ("variance", 0.1), ("measurement", 0.02)):
+            for criterion in ("aic", "bic"):
+                season.set(Settings(bound=4, criterion=criterion, tolerance=tolerance, confidence=1.5))
+                self.agree("7 outlier marks: equal")
+
+    def test_zeros_and_a_curve_through_all(self):
+        self.made(("0", "0"), ("1", "0"), ("2", "0"), bound="2")
+        self.agree("3 bands")
+        self.season = os.path.join(self.folder, "t.stake")
+        self.made(("0", "1"), ("1", "5"), bound="1")
+        self.assertIn("All agree.", self.stake("mirror-check", "t.stake"))
+
+    def test_refusals(self):
+        self.made(bound="1")
+        self.agree(f"the report: both refused by 7: {WORDS['7']}\n", f"the scores: both refused by 7: {WORDS['7']}\n")
+        self.season = os.path.join(self.folder, "t.stake")
+        self.made(*[("0", "0x1.fffffffffffffp+1023")] * 4, bound="1", criterion="aic")
+        self.assertIn(f"the report: both refused by 11: {WORDS['11']}\n", self.stake("mirror-check", "t.stake"))
+
+    def test_an_image_that_is_none(self):
+        """Calls that are not mirrored, and a library that would not answer alike."""
+        self.made(*self.ROWS, bound="3")
+
+        def not_mirrored():
+            mirror._image = lambda calls: calls
+
+        self.differ("coefficient 0: ", not_mirrored)
+        plain = Book.report, Book.scores, Book.replay
+
+        def refuses():
+            def report(book, settings):
+                if book.ys[0] < 0:
+                    raise Refused(12)
+                return plain[0](book, settings)
+
+            Book.report = report
+
+        self.differ("the report: answered here, refused by 12 in the mirror image", refuses)
+
+        def scores_less():
+            def scores(book, settings):
+                answer = plain[1](book, settings)
+                if book.ys[0] < 0:
+                    degrees = [dataclasses.replace(each, score=each.score * (1 - 2**-52 * (each.degree == 2))) for each in answer.degrees]
+                    answer = dataclasses.replace(answer, degrees=degrees)
+                return answer
+
+            Book.scores = scores
+
+        self.differ("score of degree 2: ", scores_less)
+
+        def refuses_a_call():
+            def replay(calls):
+                book, answers = plain[2](calls)
+                if book.ys[0] < 0:
+                    answers[4] = answers[4]._replace(refusal=5)
+                return book, answers
+
+            Book.replay = replay
+
+        self.differ("refusal of call 4: 0 here, 5 in the mirror image, where 0 is due", refuses_a_call)
+
+    def test_every_part_of_a_report(self):
+        ours = self.made(*self.ROWS, bound="3").report(Settings(bound=3))
+        opposite = mirror._opposite
+        theirs = dataclasses.replace(ours, coefficients=opposite(ours.coefficients), lower=opposite(ours.upper), upper=opposite(ours.lower))
+        self.assertEqual(len(mirror.compare_reports(ours, theirs)), 5)
+
+        def changed(name):
+            value = getattr(theirs, name)
+            if isinstance(value, int):
+                return value + 1
+            last = value[-1]
+            return value[:-1] + [not last if isinstance(last, bool) else last * (1 + 2**-51) + 1e-9]
+
+        for name, words in dict(
+            n="readings",
+            solved="solved degrees",
+            degree="chosen degree",
+            coefficients="coefficient 1",
+            errors="error 1",
+            pruned="pruned term 1",
+            upper="lower end of the band, there the upper, at reading 6",
+            lower="upper end of the band, there the lower, at reading 6",
+            outliers="outlier mark of reading 6",
+        ).items():
+            with self.assertRaises(mirror._Differs, msg=name) as caught:
+                mirror.compare_reports(ours, dataclasses.replace(theirs, **{name: changed(name)}))
+            self.assertTrue(str(caught.exception).startswith(words), str(caught.exception))
+
+    def test_numbers(self):
+        nan, inf = float("nan"), float("inf")
+        for one, other, same in (
+            (0.0, -0.0, True),
+            (nan, nan, True),
+            (nan, -nan, True),
+            (inf, inf, True),
+            (inf, -inf, False),
+            (nan, 0.0, False),
+            (0.0, nan, False),
+            (1.0, -1.0, False),
+            (1.0, 1.0 + 2**-52, False),
+            (0.0, 5e-324, False),
+        ):
+            self.assertEqual(mirror._same(one, other), same, (one, other))
+        with self.assertRaisesRegex(mirror._Differs, "^error: 2 here, 1 in the mirror image$"):
+            mirror._compare("error", [1.0, 2.0], [1.0])
+
+
 class Wrong(Command):
     def test_usage(self):
         self.made(("1", "2"))
@@ -616,8 +792,8 @@ class Wrong(Command):
 
     def test_help(self):
         text = self.stake("--help")
-        for name in "new settings import add correct withdraw undo list report scores plot page export check".split():
-            self.assertRegex(text, rf"\n    {name} ")
+        for name in "new settings import add correct withdraw undo list report scores plot page export check mirror-check".split():
+            self.assertRegex(text, rf"\n    {name}[ \n]")
         self.assertIn("--leave-out", self.stake("check", "--help"))
 
     def test_files_that_can_not_be_read(self):
