@@ -19,6 +19,7 @@ use crate::call::name;
 use crate::carry;
 use crate::groups;
 use crate::lines;
+use crate::mirror;
 use crate::replay;
 use crate::run::{passes_nine, places_of_terms};
 use crate::split;
@@ -52,6 +53,9 @@ pub struct Coverage {
     slid: bool,
     pub calls: u64,
     pub by_reference: u64,
+    /// Calls compared with those of the mirror image.
+    pub mirrored: u64,
+    pub mirror_seconds: f64,
 }
 
 /// What each call may answer, besides being let through, in checking order.
@@ -292,6 +296,7 @@ impl Coverage {
             keys.extend(numbers.iter().map(refused));
         }
         keys.extend(carry::events());
+        keys.extend(mirror::events());
         keys.extend((0..replay::WAYS).map(|way| format!("replay: too short in way {way}")));
         for (memory, calls) in LENGTHS {
             for call in calls {
@@ -425,6 +430,11 @@ impl Coverage {
         if holds {
             self.note_carry(event);
         }
+    }
+
+    /// What happened in a list and its mirror image.
+    pub fn note_mirror(&mut self, event: &str) {
+        self.note(format!("mirror: {event}"));
     }
 
     /// Buffers of a replay that are too short in this way.

@@ -1,6 +1,7 @@
 //! Runs random lists of calls through the judge, the plain ledger, polyfit and the port, and compares
 //! every answer and every bit, NaNs as one value; lists of surfaces through the judge and the port; lists of
-//! several course groups through all of them, and for each group once more without the others.
+//! several course groups through all of them, and for each group once more without the others. Judge and port also
+//! run the first of these lists beside their mirror images.
 //!
 //! `compare [--seed N] [--calls N] [--lists N]`: runs until so many calls were judged by polyfit, and
 //! at least so many lists. The seed is printed; `--seed clock` takes one from the clock. `--list N`
@@ -22,6 +23,7 @@ mod gsl;
 mod limit;
 mod lines;
 mod memory;
+mod mirror;
 mod random;
 mod reference;
 mod replay;
@@ -41,7 +43,7 @@ mod windows;
 use std::process::ExitCode;
 use std::time::Instant;
 
-use journal::{Port, Side};
+use journal::{Judge, Port, Side};
 
 use call::List;
 use coverage::Coverage;
@@ -133,6 +135,34 @@ fn print_groups(course: &Course, difference: &Difference, sides: &[&dyn Side]) {
     }
 }
 
+/// Shrinks a list that differs from its mirror image, and prints it as text.
+fn print_mirrored(course: &Course, side: &dyn Side) {
+    let outcome = |course: &Course| mirror::run(course, side, &mut Coverage::default());
+    let smallest = groups::smaller(course, |course| outcome(course).is_err());
+    println!(
+        "shrunk to, on memory of contents {:#x}:\n{}",
+        smallest.contents,
+        text::course(&smallest)
+    );
+    if let Err(difference) = outcome(&smallest) {
+        println!("step {}: {}", difference.step, difference.what);
+    }
+}
+
+/// The list beside its mirror image, by the judge and by the other sides; false at a difference.
+fn mirrored(course: &Course, sides: &[&dyn Side], coverage: &mut Coverage) -> bool {
+    let (judge, start): (&dyn Side, _) = (&Judge, Instant::now());
+    for side in std::iter::once(&judge).chain(sides) {
+        if let Err(difference) = mirror::run(course, *side, coverage) {
+            println!("step {}: {}", difference.step, difference.what);
+            print_mirrored(course, *side);
+            return false;
+        }
+    }
+    coverage.mirror_seconds += start.elapsed().as_secs_f64();
+    true
+}
+
 /// The list of calls on a book of this number, and of every fourth a list of surfaces. They are drawn apart,
 /// so that the books of a seed are what they are without surfaces.
 fn lists(seed: u64, number: u64) -> Vec<List> {
@@ -153,12 +183,20 @@ fn run_all(options: &Options, sides: &[&dyn Side], coverage: &mut Coverage) -> b
                 print_failure(&list, &difference, sides);
                 return false;
             }
+            if number < mirror::LISTS && !mirrored(&mirror::course(&list), sides, coverage) {
+                println!("seed {}, list {number}, mirror image: DIFFERENCE", options.seed);
+                return false;
+            }
         }
         if number % 8 == 2 {
             let course = groups::course(options.seed, number / 8);
             if let Err(difference) = groups::run(&course, sides, coverage) {
                 println!("seed {}, list {number}, groups: DIFFERENCE", options.seed);
                 print_groups(&course, &difference, sides);
+                return false;
+            }
+            if number < mirror::LISTS && !mirrored(&course, sides, coverage) {
+                println!("seed {}, list {number}, groups, mirror image: DIFFERENCE", options.seed);
                 return false;
             }
         }
@@ -262,6 +300,8 @@ fn finish(coverage: &Coverage, same: bool, start: Instant) -> ExitCode {
     for key in &missing {
         println!("NEVER HAPPENED: {key}");
     }
+    let (mirrored, seconds) = (coverage.mirrored, coverage.mirror_seconds);
+    println!("{mirrored} calls beside those of mirror images, in {seconds:.1} s of it");
     println!(
         "{} calls, {} of them judged by polyfit, in {:.1} s: {} difference, {} never happened",
         coverage.calls,

@@ -8,6 +8,7 @@ use crate::carry::{self, Caller};
 use crate::coverage::Coverage;
 use crate::generate;
 use crate::groups::{self, Course};
+use crate::mirror;
 use crate::replay::{self, Replays};
 use crate::run::run;
 use crate::shrink::shrink;
@@ -675,6 +676,47 @@ fn faults_of_a_carry() {
         answer
     };
     assert!(by(other_sums, right));
+}
+
+/// One fixed list of calls beside its mirror image; a side that sees the sign of y is found.
+#[test]
+fn a_fixed_list_beside_its_image() {
+    // Taken out, put in, and left where there is no reading.
+    assert_eq!(
+        mirror::lines_image(b"4 -3.5\n5 -0\n6 7\n-1 --2\n1 2 3\n1\n1 .5\n1 -"),
+        b"4 3.5\n5 0\n6 -7\n-1 --2\n1 -2 3\n1\n1 .5\n1 -"
+    );
+    let course = mirror::course(&text::list_of(&file("season.calls")));
+    let mut coverage = Coverage::default();
+    for side in [&Judge as &dyn Side, &Port] {
+        let outcome = mirror::run(&course, side, &mut coverage);
+        assert!(outcome.is_ok(), "{outcome:?}");
+    }
+    assert_eq!(coverage.mirrored, 2 * course.turns.len() as u64);
+    let faults: [Fault; 3] = [
+        // A mark by one side of the band alone.
+        |call, count, lent, _, answer| {
+            if let (Call::Report(_), Answer::Report { .. }) = (call, &answer) {
+                let below = |i: usize| u8::from(lent.y[i] < lent.lower[i]);
+                (0..count).for_each(|i| lent.outlier[i] = below(i));
+            }
+            answer
+        },
+        // Bounds that do not change places.
+        |_, _, _, _, answer| match answer {
+            Answer::Band { value, lower, .. } => Answer::Band { value, lower, upper: value },
+            _ => answer,
+        },
+        // No y below zero.
+        |call, _, _, _, answer| match call {
+            Call::Correct { y, .. } if *y < 0.0 => Answer::Refused(4),
+            _ => answer,
+        },
+    ];
+    for (number, fault) in faults.into_iter().enumerate() {
+        let outcome = mirror::run(&course, &Faulty(fault), &mut Coverage::default());
+        assert!(outcome.is_err(), "fault {number}");
+    }
 }
 
 /// Every list is the same when made again, and so is its run.

@@ -9,7 +9,7 @@ use judge::surface::SurfaceSample;
 
 use crate::call::{List, Poke, Step};
 use crate::generate;
-use crate::groups::{is_group, without_group};
+use crate::groups::{is_group, without_group, Course};
 use crate::random::Random;
 use crate::surface::is_surface;
 
@@ -35,6 +35,19 @@ pub fn write(seed: u64, calls: u64) -> String {
         let steps = generate::list(seed, number).steps;
         written += steps.iter().filter(|step| writer.step(step)).count() as u64;
         writer.end_of_list();
+    }
+    writer.text
+}
+
+/// A list of groups, to be read: whose call each is, and the list's lines.
+pub fn course(course: &Course) -> String {
+    let (journal, random) = (Journal::new(&Judge), Random::new(0));
+    let mut writer = Writer { text: String::new(), journal, random };
+    for (at, turn) in course.turns.iter().enumerate() {
+        writer.line(&format!("# step {at}, group {}", turn.group));
+        if !writer.step(&turn.step) {
+            writer.line(&format!("# {}", turn.step));
+        }
     }
     writer.text
 }
