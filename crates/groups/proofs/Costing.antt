@@ -9,8 +9,8 @@ use lib.Dec.{ltb}
 use lib.ListN.{length}
 use lib.Ieee.{Float}
 use Rattle.loops.specs.Fold.{fold}
-use Rattle.runs.specs.Runs.{along}
-use Rattle.runs.specs.RunLaws.{afforded}
+use Rattle.runs.specs.Runs.{replies, along}
+use Rattle.runs.specs.RunLaws.{afforded, replies-at}
 use Rattle.basis.specs.declared.Basis.{Basis}
 use Rattle.basis.specs.declared.OptionDegree.{OptionDegree}
 use Rattle.basis.specs.declared.OptionDegree.the-variants.{Some, None}
@@ -33,16 +33,17 @@ use Rattle.split.specs.Splits.{SplitOut, splitNumber, splitRefused, splitPast, 
 use Rattle.split.specs.SplitLaws.{over-16, only-over-16}
 use Rattle.split.specs.declared.SplitAnswer.{SplitAnswer}
 use Rattle.split.specs.declared.SplitAnswer.the-variants as splits
-use Rattle.ledger.specs.Ledger.{Lent}
+use Rattle.ledger.specs.Ledger.{Lent, lentOf}
 use Rattle.ledger.specs.ReadCalls.{reportReply}
 use Rattle.ledger.proofs.Words.{past-chosen, words-of}
 use Rattle.allowance.specs.Table.{tablePlaces, tableRefusal}
 use Rattle.allowance.specs.RefusalLaws.{group-report-numbers, group-split-numbers, group-surface-numbers}
 use Rattle.allowance.specs.Refusals.{groupReportRefusal, groupSurfaceRefusal, groupSplitRefusal}
 use Rattle.groups.specs.Calls.{CostCall, groupReports, groupSurfaces, groupSplits, GroupCall, books, surfaces, costs, costRefusal, costOf, costReply, leftOf}
-use Rattle.groups.specs.Ledger.{GroupLedger, renews, calls, refusedBy, costing, costTold, groupNext}
-use Rattle.groups.specs.Claims.{toldNumber, Costs, ReportLetThrough, afterCalls, costFor, GetsThrough}
+use Rattle.groups.specs.Ledger.{GroupLedger, calls, refusedBy, costing, costTold, groupNext, groupReply, groupLedger}
+use Rattle.groups.specs.Claims.{toldNumber, Costs, ReportLetThrough, afterCalls, costFor, ledgerOf, CostedIn, AnyCost, Refilled, GetsThrough}
 use Rattle.groups.proofs.Tables.{long-table}
+use Rattle.groups.proofs.Ledgers.{any-table}
 
 -- ---- 16
 
@@ -122,9 +123,9 @@ unfolding leftOf takenOf
 left-lowers zero counter cost k = rw (le-ltb counter cost k) (omega arith)
 left-lowers (suc r) counter cost k = omega arith
 
-renewed-counter : (group table : ℕ) (m : Lent) (g : GroupLedger) → tablePlaces ≤ table → g .quota ≡ groupNext group table m g renews .counter
+pub refilled : Refilled
 unfolding groupNext
-renewed-counter group table m g long = rw (long-table table long) refl
+refilled group table m g long = rw (long-table table long) (refl, λ q. refl)
 
 -- a call of the group lowers its counter by its cost at most
 lowers : (group table : ℕ) (m : Lent) (g : GroupLedger) (c : GroupCall) → costFor group table m g c ≤ g .counter
@@ -138,11 +139,26 @@ lowers group table m g (costs q) h = go (refusedBy group table m (g .samples) q)
     go r cost k = left-lowers r (g .counter) cost k
 
 pub gets-through : GetsThrough
-gets-through group table m g long before q after h e =
-    let start = groupNext group table m g renews in
-    let full : g .quota ≡ start .counter = renewed-counter group table m g long in
-    let then = fold (afterCalls group table m) start before in
-    let w = afforded (afterCalls group table m) (costFor group table m) (λ (k : GroupLedger). k .counter) (lowers group table m) start before (costs q) after (subst (λ (k : ℕ). along (afterCalls group table m) (costFor group table m) start (before ++ (costs q ∷ after)) ≤ k) full h) in
+gets-through group table m g before q after h e =
+    let then = fold (afterCalls group table m) g before in
+    let w = afforded (afterCalls group table m) (costFor group table m) (λ (k : GroupLedger). k .counter) (lowers group table m) g before (costs q) after h in
     let o = costs-of group table m (then .counter) (then .samples) q .only-over e in
     let c : costFor group table m then (costs q) ≡ costing group table m (then .samples) q = rw (o .0) refl in
     omega (arith, w, c, o .1)
+
+-- ---- in the run of all groups
+
+pub any-cost : AnyCost
+unfolding groupReply
+any-cost columns sums table long group one o cs before q after e =
+    let m = lentOf (columns group) (sums group) in
+    let n = length table in
+    let start = ledgerOf group table in
+    let g = fold (groupNext group n m) start before in
+    record {
+      later = replies (groupLedger group n m) (groupNext group n m g (calls (costs q))) after;
+      stands =
+          any-table columns sums table long group one o cs .answered ∙ ap (replies (groupLedger group n m) start) e
+          ∙ replies-at (groupLedger group n m) start before (calls (costs q)) after;
+      costs = costs-of group n m (g .counter) (g .samples) q;
+    }

@@ -1,6 +1,7 @@
--- What is claimed of eight groups that share one table. The theorems are proved in proofs/Groups.antt. Definitions only.
+-- What is claimed of eight groups that share one table. The theorems are proved in proofs/Isolation.antt, proofs/Ledgers.antt and proofs/Costing.antt. Definitions only.
 use mathlib.Core.Path.{_≡_}
 use mathlib.Core.List.{List, [], _∷_, _++_, map}
+use mathlib.Core.Option.{Option, none, some}
 use Prim.Native.Nat.{ℕ, _+_, _≤_, _<_}
 use lib.ListN.{length, take}
 use lib.Ieee.{Float}
@@ -21,12 +22,13 @@ use Rattle.measure.specs.Bands.{bandNumber}
 use Rattle.losses.specs.Losses.{lossNumber}
 use Rattle.scores.specs.Scores.{scoresNumber}
 use Rattle.book.specs.Calls.{State, bookOf, openOut}
-use Rattle.ledger.specs.Ledger.{Lent, lentOf, opened}
-use Rattle.ledger.specs.ReadCalls.{Told, fitReply, bandReply, reportReply, splitReply, lossReply, scoresReply}
+use Rattle.ledger.specs.Ledger.{Call, Lent, lentOf, told, final, opened}
+use Rattle.ledger.specs.ReadCalls.{ReadCall, Told, fitReply, bandReply, reportReply, splitReply, lossReply, scoresReply}
 use Rattle.ledger.specs.Words.{Words}
-use Rattle.allowance.specs.Table.{groups, tablePlaces, startOut}
+use Rattle.ledger.specs.Whole.{WholeBook}
+use Rattle.allowance.specs.Table.{groups, tablePlaces, counterOf, quotaOf, startOut}
 use Rattle.allowance.specs.declared.TableAnswer.the-variants as answers
-use Rattle.groups.specs.Calls.{CostCall, groupReports, GroupCall, books, surfaces, costs, costOf, costReply}
+use Rattle.groups.specs.Calls.{CostCall, groupReports, GroupCall, books, surfaces, costs, GroupReply, replied}
 use Rattle.groups.specs.Ledger.{Fed, starts, renews, calls, GroupLedger, refusedBy, costing, costTold, groupNext, groupLedger}
 use Rattle.groups.specs.Shared.{Shared, SharedCall, sharedNext, shared, mine, seenBy}
 
@@ -52,15 +54,47 @@ pub record Keeps (group : ℕ) (s : Shared) (g : GroupLedger) : Type 0 where
   pub counter : seenBy group s .counter ≡ g .counter
   pub quota : seenBy group s .quota ≡ g .quota
 
--- books just opened, and a table just started with the quota
+-- books just opened, and a table that holds anything
+abbrev pub openedOn : (ℕ → Columns) → (ℕ → List Float) → List ℕ → Shared
+openedOn columns sums table = record { books = λ h. opened (columns h) (sums h); table = table }
+
+-- a group's ledger begins with no sample, and with the counter and quota of the table as it stands
+abbrev pub ledgerOf : ℕ → List ℕ → GroupLedger
+ledgerOf group table = record { samples = []; counter = counterOf table group; quota = quotaOf table }
+
+-- of what a group is fed, the calls of its book
+abbrev pub bookCall : Fed → Option (Call ReadCall)
+bookCall (starts q) = none
+bookCall renews = none
+bookCall (calls (books c)) = some c
+bookCall (calls (surfaces q)) = none
+bookCall (calls (costs q)) = none
+
+-- the claim of one group and the list of calls cs
+pub record GroupWhole (columns : ℕ → Columns) (sums : ℕ → List Float) (table : List ℕ) (group : ℕ) (cs : List SharedCall) : Type 0 where
+  -- A group's replies are those of its ledger, which is fed the quota, the renewals and the group's own calls, and keeps the counter by the rule.
+  pub answered : pick (mine group) cs (replies shared (openedOn columns sums table) cs)
+      ≡ replies (groupLedger group (length table) (lentOf (columns group) (sums group))) (ledgerOf group table) (only (mine group) cs)
+  pub keeps : Keeps group (fold sharedNext (openedOn columns sums table) cs)
+      (fold (groupNext group (length table) (lentOf (columns group) (sums group))) (ledgerOf group table) (only (mine group) cs))
+  -- Its book, with every place of columns and sums, is the one that its own calls leave, and of these demand 3 holds whole.
+  pub book : fold sharedNext (openedOn columns sums table) cs .books group ≡ final (opened (columns group) (sums group)) (only bookCall (only (mine group) cs))
+  pub demand-3 : WholeBook (columns group) (sums group) (only bookCall (only (mine group) cs))
+
+-- Take any list of starts, renewals and calls of all groups, refused ones included, in any order, from books just opened. The quota may be set by any call of the list; before it the counters are
+-- what stands in the table.
+abbrev pub AnyTable : Type 0
+AnyTable =
+    (columns : ℕ → Columns) (sums : ℕ → List Float) (table : List ℕ) → tablePlaces ≤ length table → (group : ℕ) → group < groups
+    → openOut (sums group) .answer ≡ bookOf 0 → (cs : List SharedCall) → GroupWhole columns sums table group cs
+
+-- the same from a table just started with the quota
 abbrev pub begun : (ℕ → Columns) → (ℕ → List Float) → ℕ → List ℕ → Shared
-begun columns sums quota table = record { books = λ h. opened (columns h) (sums h); table = startOut quota table .table }
+begun columns sums quota table = openedOn columns sums (startOut quota table .table)
 
 abbrev pub newLedger : ℕ → GroupLedger
 newLedger quota = record { samples = []; counter = quota; quota = quota }
 
--- Take any list of starts, renewals and calls of all groups, refused ones included, in any order, from books just opened and a table just started. A group's
--- replies are those of its ledger, which is fed the quota, the renewals and the group's own calls, and keeps the counter by the rule.
 abbrev pub AnyGroups : Type 0
 AnyGroups =
     (columns : ℕ → Columns) (sums : ℕ → List Float) (quota : ℕ) (table : List ℕ) → startOut quota table .answer ≡ answers.Done
@@ -94,6 +128,22 @@ module _ (group table : ℕ) (m : Lent) (counter : ℕ) (l : List Sample) where
       refusedBy group table m l (groupReports settings places) ≡ 0 → costing group table m l (groupReports settings places) ≤ counter
       → (o : ReportOut) × (costTold group table m counter l (groupReports settings places) ≡ reportReply o) × Words settings l o
 
+-- a call that costs, which stands in what a group is fed after `before`; all are what the group is replied: its reply comes after theirs, and is that of the ledger which they leave
+pub record CostedIn (group table : ℕ) (m : Lent) (start : GroupLedger) (before : List Fed) (q : CostCall) (all : List GroupReply) : Type 0 where
+  pub later : List GroupReply
+  pub stands : all
+      ≡ replies (groupLedger group table m) start before
+      ++ (replied (told (costTold group table m (fold (groupNext group table m) start before .counter) (fold (groupNext group table m) start before .samples) q)) ∷ later)
+  pub costs : Costs group table m (fold (groupNext group table m) start before .counter) (fold (groupNext group table m) start before .samples) q
+
+-- each call that costs, in the run of all groups
+abbrev pub AnyCost : Type 0
+AnyCost =
+    (columns : ℕ → Columns) (sums : ℕ → List Float) (table : List ℕ) → tablePlaces ≤ length table → (group : ℕ) → group < groups
+    → openOut (sums group) .answer ≡ bookOf 0 → (cs : List SharedCall) (before : List Fed) (q : CostCall) (after : List Fed)
+    → only (mine group) cs ≡ before ++ (calls (costs q) ∷ after)
+    → CostedIn group (length table) (lentOf (columns group) (sums group)) (ledgerOf group table) before q (pick (mine group) cs (replies shared (openedOn columns sums table) cs))
+
 -- ---- right after a renewal
 
 -- the group's ledger made so many calls, of no start or renewal
@@ -106,11 +156,17 @@ costFor group table m g (books c) = 0
 costFor group table m g (surfaces q) = 0
 costFor group table m g (costs q) = settle (refusedBy group table m (g .samples) q) (costing group table m (g .samples) q) 0
 
--- Work that costs at most the quota gets through right after a renewal: of a list of calls whose costs add up to at most the quota none is refused by 16.
+-- Right after a renewal, or a start, the counter is the quota;
+abbrev pub Refilled : Type 0
+Refilled =
+    (group table : ℕ) (m : Lent) (g : GroupLedger) → tablePlaces ≤ table
+    → (groupNext group table m g renews .counter ≡ g .quota) × ((q : ℕ) → groupNext group table m g (starts q) .counter ≡ q)
+
+-- and work that costs at most what the counter has gets through: of a list of the group's calls whose costs add up to at most that none is refused by 16. What the other groups do
+-- meanwhile does not matter, by isolation.
 abbrev pub GetsThrough : Type 0
 GetsThrough =
-    (group table : ℕ) (m : Lent) (g : GroupLedger) → tablePlaces ≤ table → (before : List GroupCall) (q : CostCall) (after : List GroupCall)
-    → let start = groupNext group table m g renews in
-    along (afterCalls group table m) (costFor group table m) start (before ++ (costs q ∷ after)) ≤ g .quota
-    → let then = fold (afterCalls group table m) start before in
+    (group table : ℕ) (m : Lent) (g : GroupLedger) (before : List GroupCall) (q : CostCall) (after : List GroupCall)
+    → along (afterCalls group table m) (costFor group table m) g (before ++ (costs q ∷ after)) ≤ g .counter
+    → let then = fold (afterCalls group table m) g before in
     toldNumber (costTold group table m (then .counter) (then .samples) q) ≡ 16 → ⊥
