@@ -1,5 +1,5 @@
 -- What the calls can answer fits the fields that it is packed into: a count of at most 4,096, a degree of at most 15, at most 16 solved degrees and
--- pruned terms, at most 4,096 outliers, and refusals 1 to 15.
+-- pruned terms, at most 4,096 outliers, and refusals 1 to 18.
 use mathlib.Core.Path.{_≡_, refl, ap, _∙_}
 use mathlib.Core.Bool.{Bool, true, false, cond, not, _&&_}
 use mathlib.Core.List.{List, [], _∷_, map}
