@@ -1,0 +1,104 @@
+// The calls that change a stake's book. Each is promised to answer what the book's own call on the stake's parts answers, and to leave every place of all
+// lent memory as that call and the season's definition have it.
+use crate::Asked;
+use crate::parts::cut;
+use crate::refusals::stake_refusal;
+use book::Answer;
+use book::Book;
+ghost use mathlib.Core.Path.{_≡_};
+ghost use Rattle.samples.specs.Columns.{columnsOf};
+ghost use Rattle.lent.specs.Slices.{before, after};
+ghost use Rattle.book.specs.Calls.{Is, stateOf, bookAfter};
+ghost use Rattle.ledger.specs.Ledger.{outOf, adds};
+ghost use Rattle.season.specs.Season.{SeasonIs, seasonOf, seasonOut, changeOf};
+
+// How many samples a stake holds after a call: those of the book answered, or after a refusal as many as before.
+fn count_after(count: usize, answer: Answer) -> usize
+    ensures { λ r. ⌜ r ≡ bookAfter count answer ⌝ }
+{
+    match answer {
+        Answer::Book(b) => b.count,
+        Answer::Refused(k) => count,
+    }
+}
+
+// The book's own call.
+fn call(
+    book: Book,
+    asked: Asked,
+    bytes: &[u8],
+    xs: &mut [f64],
+    ys: &mut [f64],
+    ws: &mut [f64],
+    sums: &mut [f64],
+) -> Answer
+    ensures { λ r. ⌜ Is (outOf (stateOf (book .count) (columnsOf (before xs) (before ys) (before ws)) (before sums)) (changeOf asked (before bytes))) r (columnsOf (after xs) (after ys) (after ws)) (after sums) ⌝ }
+{
+    match asked {
+        Asked::Add(x, y, w) => book::add(book, x, y, w, xs, ys, ws, sums),
+        Asked::Window(x, y, w) => book::add_window(book, x, y, w, xs, ys, ws, sums),
+        Asked::Withdraw(i) => book::withdraw(book, i, xs, ys, ws, sums),
+        Asked::Frame => book::add_frame(book, bytes, xs, ys, ws, sums),
+        Asked::Lines => book::add_lines(book, bytes, xs, ys, ws, sums),
+    }
+}
+
+// The same on the parts of a stake.
+fn change(
+    stake: usize,
+    asked: Asked,
+    bytes: &[u8],
+    counts: &mut [usize],
+    xs: &mut [f64],
+    ys: &mut [f64],
+    ws: &mut [f64],
+    sums: &mut [f64],
+) -> Answer
+    ensures { λ r. ⌜ SeasonIs (seasonOut stake (seasonOf (before counts) (columnsOf (before xs) (before ys) (before ws)) (before sums)) (changeOf asked (before bytes))) r (seasonOf (after counts) (columnsOf (after xs) (after ys) (after ws)) (after sums)) ⌝ }
+{
+    let refusal = stake_refusal(stake, counts.len());
+    if refusal != 0 {
+        return Answer::Refused(refusal);
+    }
+    let n = counts[stake];
+    let x = cut(xs.len(), stake);
+    let x_start = x.start;
+    let x_end = x.end;
+    let y = cut(ys.len(), stake);
+    let y_start = y.start;
+    let y_end = y.end;
+    let w = cut(ws.len(), stake);
+    let w_start = w.start;
+    let w_end = w.end;
+    let s = cut(sums.len(), stake);
+    let s_start = s.start;
+    let s_end = s.end;
+    let answer = call(
+        Book { count: n },
+        asked,
+        bytes,
+        &mut xs[x_start..x_end],
+        &mut ys[y_start..y_end],
+        &mut ws[w_start..w_end],
+        &mut sums[s_start..s_end],
+    );
+    counts[stake] = count_after(n, answer);
+    answer
+}
+
+// One sample at the end.
+pub fn add(
+    stake: usize,
+    x: f64,
+    y: f64,
+    w: f64,
+    counts: &mut [usize],
+    xs: &mut [f64],
+    ys: &mut [f64],
+    ws: &mut [f64],
+    sums: &mut [f64],
+) -> Answer
+    ensures { λ r. ⌜ SeasonIs (seasonOut stake (seasonOf (before counts) (columnsOf (before xs) (before ys) (before ws)) (before sums)) (adds (record { x = x; y = y; w = w }))) r (seasonOf (after counts) (columnsOf (after xs) (after ys) (after ws)) (after sums)) ⌝ }
+{
+    change(stake, Asked::Add(x, y, w), b"", counts, xs, ys, ws, sums)
+}

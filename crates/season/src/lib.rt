@@ -1,0 +1,19 @@
+// The season book: 32 stakes in one lent memory. Columns, sums, scratch and what a season report writes are lent whole, each cut into 32 equal parts, rounded
+// down, in stake order; the rest at the end is nobody's and is left. A call that names a stake is the book's own call on that stake's parts.
+mod changes;
+mod parts;
+mod refusals;
+
+pub use changes::add;
+
+// How many stakes there are.
+pub const STAKES: usize = 32;
+
+// What is asked of a stake's book by a call that may write all its columns. A frame and a text come beside it.
+pub enum Asked {
+    Add(f64, f64, f64),
+    Window(f64, f64, f64),
+    Withdraw(usize),
+    Frame,
+    Lines,
+}
