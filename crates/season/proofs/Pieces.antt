@@ -4,13 +4,13 @@ use mathlib.Core.List.{List, _++_}
 use Prim.Native.Nat.{ℕ, _-_}
 use lib.ListN.{length, getD, set, take, drop}
 use lib.Ieee.{Float}
-use Rattle.samples.specs.Columns.{Column, Columns, columnsOf}
+use Rattle.samples.specs.Columns.{Columns, columnsOf, noColumns}
 use Rattle.samples.specs.ColumnLaws.{columns-are}
 use Rattle.book.specs.declared.Answer.{Answer}
-use Rattle.book.specs.Calls.{Out, State, stateOf, Is, bookAfter}
+use Rattle.book.specs.Calls.{Out, State, stateOf, Is, bookAfter, openOut}
 use Rattle.season.specs.Parts.{Cut, partOf, withPart}
 use Rattle.season.specs.PartLaws.{cut-part, cut-back, with-own}
-use Rattle.season.specs.Season.{SeasonState, seasonOf, stakeState, withStake, stakeRefusal, SeasonIs, onStake}
+use Rattle.season.specs.Season.{SeasonState, seasonOf, stakeState, withStake, stakeRefusal, SeasonIs, onStake, opens, openStakeOut}
 use Rattle.season.specs.SeasonLaws.{stake-done}
 
 -- the call got the part p of l and left it as q; the whole is then m
@@ -39,3 +39,15 @@ module _ (s : ℕ) (call : State → Out) (counts : List ℕ) (xs ys ws sums : L
       let whole : seasonOf (set counts s m) (columnsOf _ _ _) _ ≡ withStake s (stateOf (bookAfter (getD counts s 0) a) (columnsOf xq yq wq) sq) S
       = λ j. seasonOf (set counts s (k j)) (columns-are {c = λ c. withPart s (columnsOf xq yq wq c) (columnsOf xs ys ws c)} (px .left) (py .left) (pw .left) j) (ps .left j) in
       rw whole (stake-done s S call r e z a (columnsOf xq yq wq) sq own)
+
+-- an open, which is lent no column: whatever the columns are, they stand
+pub stake-opened : (s : ℕ) (counts : List ℕ) (columns : Columns) (sums : List Float) (r : ℕ) → r ≡ stakeRefusal s (length counts) → r ≡ 0 → (a : Answer) (m : ℕ)
+    → m ≡ bookAfter (getD counts s 0) a → {sp sq sm : List Float} → Piece s sums sp sq sm → Is (openOut sp) a noColumns sq
+    → SeasonIs (openStakeOut s (seasonOf counts columns sums)) a (seasonOf (set counts s m) columns sm)
+stake-opened s counts columns sums r e z a m k {sq = sq} {sm = sm} ps i =
+    let S = seasonOf counts columns sums in
+    let o = subst (λ (l : List Float). Is (openOut l) a noColumns sq) (ps .found) i in
+    let own : Is (opens (stakeState s S)) a (stakeState s S .columns) sq = record { answer = o .answer; columns = refl; sums = o .sums } in
+    let whole : seasonOf (set counts s m) columns sm ≡ withStake s (stateOf (bookAfter (getD counts s 0) a) (stakeState s S .columns) sq) S
+    = λ j. seasonOf (set counts s (k j)) (λ c. sym (with-own s (columns c)) j) (ps .left j) in
+    rw whole (stake-done s S opens r e z a (stakeState s S .columns) sq own)

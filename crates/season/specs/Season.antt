@@ -1,15 +1,18 @@
 -- The season book of 32 stakes: what it keeps, a stake's book in it, and what a call that names a stake answers and leaves. Definitions only.
 use mathlib.Core.Path.{_≡_}
 use mathlib.Core.List.{List, [], _∷_}
-use Prim.Native.Nat.{ℕ}
+use Prim.Native.Nat.{ℕ, _/_}
 use lib.Dec.{ltb, leb}
 use lib.ListN.{length, getD, set}
 use lib.Ieee.{Float}
+use Rattle.basis.specs.Sizes.{sumPlaces}
+use Rattle.loops.specs.Loop.{from}
 use Rattle.samples.specs.Columns.{Columns}
 use Rattle.refusal.specs.Refusals.{Refusal, by, firstOf, settle}
+use Rattle.refusal.specs.Tests.{needed, anyShort}
 use Rattle.book.specs.declared.Answer.{Answer}
 use Rattle.book.specs.declared.Answer.the-variants as answers
-use Rattle.book.specs.Calls.{Out, State, stateOf, stateAfter, openOut}
+use Rattle.book.specs.Calls.{Out, State, stateOf, stateAfter, bookOf, openOut}
 use Rattle.ledger.specs.Ledger.{Change, outOf}
 use Rattle.carried.specs.Carry.{carryOut}
 use Rattle.ledger.specs.Ledger as ledger
@@ -43,6 +46,13 @@ stakeTests s counts = by (leb stakes s) 18 ∷ by (ltb counts stakes) 1 ∷ []
 unfoldable pub stakeRefusal : ℕ → ℕ → ℕ
 stakeRefusal s counts = firstOf (stakeTests s counts)
 
+-- of all 32 books to be opened: there are so many counts, and each stake's part of the sums has its 272 places
+abbrev pub seasonOpenTests : ℕ → ℕ → List Refusal
+seasonOpenTests counts sums = by (anyShort (needed stakes counts ∷ needed sumPlaces (sums / stakes) ∷ [])) 1 ∷ []
+
+unfoldable pub seasonOpenRefusal : ℕ → ℕ → ℕ
+seasonOpenRefusal counts sums = firstOf (seasonOpenTests counts sums)
+
 -- ---- calls that change a stake's book
 
 pub record SeasonOut : Type 0 where
@@ -54,12 +64,16 @@ pub record SeasonIs (o : SeasonOut) (r : Answer) (left : SeasonState) : Type 0 w
   pub answer : r ≡ o .answer
   pub season : left ≡ o .season
 
--- the book's own call on the parts of stake s, put back in their place; a refusal leaves everything
+-- refused by r: everything is left
+abbrev pub leftAlone : ℕ → SeasonState → SeasonOut
+leftAlone r S = record { answer = answers.Refused r; season = S }
+
+-- the book's own call on the parts of stake s, put back in their place
 unfoldable pub onStake : ℕ → SeasonState → (State → Out) → SeasonOut
 onStake s S call =
     let r = stakeRefusal s (length (S .counts)) in
     let o = call (stakeState s S) in
-    settle r (record { answer = o .answer; season = withStake s (stateAfter (stakeState s S .count) o) S }) (record { answer = answers.Refused r; season = S })
+    settle r (record { answer = o .answer; season = withStake s (stateAfter (stakeState s S .count) o) S }) (leftAlone r S)
 
 -- add, correct, withdraw, frame, lines and window
 abbrev pub seasonOut : ℕ → SeasonState → Change → SeasonOut
@@ -86,3 +100,12 @@ carries b = carryOut (b .count) (b .columns) (b .sums)
 
 abbrev pub carryStakeOut : ℕ → SeasonState → SeasonOut
 carryStakeOut s S = onStake s S carries
+
+-- all 32 stakes are opened, one after another
+abbrev pub emptied : SeasonState → SeasonState
+emptied S = from (λ s T. openStakeOut s T .season) 0 stakes S
+
+unfoldable pub seasonOpenOut : SeasonState → SeasonOut
+seasonOpenOut S =
+    let r = seasonOpenRefusal (length (S .counts)) (length (S .sums)) in
+    settle r (record { answer = bookOf 0; season = emptied S }) (leftAlone r S)

@@ -11,9 +11,9 @@ use Rattle.refusal.specs.Refusals.{settle}
 use Rattle.refusal.specs.Laws.{first-none}
 use Rattle.book.specs.declared.Answer.{Answer}
 use Rattle.book.specs.declared.Answer.the-variants as answers
-use Rattle.book.specs.Calls.{Out, State, stateOf, Is, bookAfter}
+use Rattle.book.specs.Calls.{Out, State, stateOf, Is, bookOf, bookAfter}
 use Rattle.season.specs.Parts.{stakes, partOf, withPart}
-use Rattle.season.specs.Season.{SeasonState, seasonOf, stakeState, withStake, stakeRefusal, SeasonOut, SeasonIs, onStake}
+use Rattle.season.specs.Season.{SeasonState, seasonOf, stakeState, withStake, stakeRefusal, SeasonOut, SeasonIs, leftAlone, onStake, emptied, seasonOpenRefusal, seasonOpenOut}
 
 -- a stake that is not refused is one of the 32, and so many counts are lent
 pub stake-below : (s n : ℕ) → stakeRefusal s n ≡ 0 → s < stakes
@@ -29,7 +29,7 @@ stake-counted s n e = omega (arith, stake-below s n e, counts-long s n e)
 
 -- ---- the promise of a call, refused and not
 
-refused-is : (r : ℕ) (good : SeasonOut) (S : SeasonState) → (r ≡ 0 → ⊥) → SeasonIs (settle r good (record { answer = answers.Refused r; season = S })) (answers.Refused r) S
+refused-is : (r : ℕ) (good : SeasonOut) (S : SeasonState) → (r ≡ 0 → ⊥) → SeasonIs (settle r good (leftAlone r S)) (answers.Refused r) S
 refused-is zero good S h = absurd (h refl)
 refused-is (suc r) good S h = record { answer = refl; season = refl }
 
@@ -49,3 +49,14 @@ module _ (s : ℕ) (S : SeasonState) (call : State → Out) (r : ℕ) (e : r ≡
         answer = i .answer;
         season = λ j. withStake s (stateOf (bookAfter (stakeState s S .count) (i .answer j)) (i .columns j) (i .sums j)) S;
       })
+
+module _ (S : SeasonState) (r : ℕ) (e : r ≡ seasonOpenRefusal (length (S .counts)) (length (S .sums))) where
+  pub open-refused : (r ≡ 0 → ⊥) → SeasonIs (seasonOpenOut S) (answers.Refused r) S
+  unfolding seasonOpenOut
+  open-refused h = rw (← e) (refused-is r _ S h)
+
+  pub open-done : r ≡ 0 → (T : SeasonState) → T ≡ emptied S → SeasonIs (seasonOpenOut S) (bookOf 0) T
+  unfolding seasonOpenOut
+  open-done h T q =
+      let z = sym e ∙ h in
+      rw z (record { answer = refl; season = q })

@@ -1,16 +1,19 @@
 // The calls that change a stake's book. Each is promised to answer what the book's own call on the stake's parts answers, and to leave every place of all
 // lent memory as that call and the season's definition have it.
 use crate::Asked;
+use crate::STAKES;
 use crate::parts::cut;
+use crate::parts::part;
+use crate::refusals::open_refusal;
 use crate::refusals::stake_refusal;
 use book::Answer;
 use book::Book;
 ghost use mathlib.Core.Path.{_≡_};
-ghost use Rattle.samples.specs.Columns.{columnsOf};
+ghost use Rattle.samples.specs.Columns.{columnsOf, noColumns};
 ghost use Rattle.lent.specs.Slices.{before, after};
 ghost use Rattle.book.specs.Calls.{Is, stateOf, bookAfter};
-ghost use Rattle.ledger.specs.Ledger.{outOf, adds};
-ghost use Rattle.season.specs.Season.{SeasonIs, seasonOf, seasonOut, changeOf};
+ghost use Rattle.ledger.specs.Ledger.{outOf, adds, corrects, withdraws, frames, texts, windows};
+ghost use Rattle.season.specs.Season.{SeasonIs, seasonOf, seasonOut, changeOf, carryStakeOut, openStakeOut, seasonOpenOut};
 
 // How many samples a stake holds after a call: those of the book answered, or after a refusal as many as before.
 fn count_after(count: usize, answer: Answer) -> usize
@@ -101,4 +104,164 @@ pub fn add(
     ensures { λ r. ⌜ SeasonIs (seasonOut stake (seasonOf (before counts) (columnsOf (before xs) (before ys) (before ws)) (before sums)) (adds (record { x = x; y = y; w = w }))) r (seasonOf (after counts) (columnsOf (after xs) (after ys) (after ws)) (after sums)) ⌝ }
 {
     change(stake, Asked::Add(x, y, w), b"", counts, xs, ys, ws, sums)
+}
+
+// One sample at the end; a full book first loses sample 0.
+pub fn add_window(
+    stake: usize,
+    x: f64,
+    y: f64,
+    w: f64,
+    counts: &mut [usize],
+    xs: &mut [f64],
+    ys: &mut [f64],
+    ws: &mut [f64],
+    sums: &mut [f64],
+) -> Answer
+    ensures { λ r. ⌜ SeasonIs (seasonOut stake (seasonOf (before counts) (columnsOf (before xs) (before ys) (before ws)) (before sums)) (windows (record { x = x; y = y; w = w }))) r (seasonOf (after counts) (columnsOf (after xs) (after ys) (after ws)) (after sums)) ⌝ }
+{
+    change(stake, Asked::Window(x, y, w), b"", counts, xs, ys, ws, sums)
+}
+
+// All samples of a frame at the end, or none.
+pub fn add_frame(
+    stake: usize,
+    frame: &[u8],
+    counts: &mut [usize],
+    xs: &mut [f64],
+    ys: &mut [f64],
+    ws: &mut [f64],
+    sums: &mut [f64],
+) -> Answer
+    ensures { λ r. ⌜ SeasonIs (seasonOut stake (seasonOf (before counts) (columnsOf (before xs) (before ys) (before ws)) (before sums)) (frames (before frame))) r (seasonOf (after counts) (columnsOf (after xs) (after ys) (after ws)) (after sums)) ⌝ }
+{
+    change(stake, Asked::Frame, frame, counts, xs, ys, ws, sums)
+}
+
+// All samples of a text of lines at the end, or none.
+pub fn add_lines(
+    stake: usize,
+    text: &[u8],
+    counts: &mut [usize],
+    xs: &mut [f64],
+    ys: &mut [f64],
+    ws: &mut [f64],
+    sums: &mut [f64],
+) -> Answer
+    ensures { λ r. ⌜ SeasonIs (seasonOut stake (seasonOf (before counts) (columnsOf (before xs) (before ys) (before ws)) (before sums)) (texts (before text))) r (seasonOf (after counts) (columnsOf (after xs) (after ys) (after ws)) (after sums)) ⌝ }
+{
+    change(stake, Asked::Lines, text, counts, xs, ys, ws, sums)
+}
+
+// Sample i goes, and later ones move down one.
+pub fn withdraw(
+    stake: usize,
+    i: usize,
+    counts: &mut [usize],
+    xs: &mut [f64],
+    ys: &mut [f64],
+    ws: &mut [f64],
+    sums: &mut [f64],
+) -> Answer
+    ensures { λ r. ⌜ SeasonIs (seasonOut stake (seasonOf (before counts) (columnsOf (before xs) (before ys) (before ws)) (before sums)) (withdraws i)) r (seasonOf (after counts) (columnsOf (after xs) (after ys) (after ws)) (after sums)) ⌝ }
+{
+    change(stake, Asked::Withdraw(i), b"", counts, xs, ys, ws, sums)
+}
+
+// Sample i gets a new y and keeps its weight.
+pub fn correct(
+    stake: usize,
+    i: usize,
+    y: f64,
+    counts: &mut [usize],
+    xs: &[f64],
+    ys: &mut [f64],
+    ws: &[f64],
+    sums: &mut [f64],
+) -> Answer
+    ensures { λ r. ⌜ SeasonIs (seasonOut stake (seasonOf (before counts) (columnsOf (before xs) (before ys) (before ws)) (before sums)) (corrects i y)) r (seasonOf (after counts) (columnsOf (before xs) (after ys) (before ws)) (after sums)) ⌝ }
+{
+    let refusal = stake_refusal(stake, counts.len());
+    if refusal != 0 {
+        return Answer::Refused(refusal);
+    }
+    let n = counts[stake];
+    let at = cut(ys.len(), stake);
+    let y_start = at.start;
+    let y_end = at.end;
+    let s = cut(sums.len(), stake);
+    let s_start = s.start;
+    let s_end = s.end;
+    let answer = book::correct(
+        Book { count: n },
+        i,
+        y,
+        part(xs, stake),
+        &mut ys[y_start..y_end],
+        part(ws, stake),
+        &mut sums[s_start..s_end],
+    );
+    counts[stake] = count_after(n, answer);
+    answer
+}
+
+// An open two-column book of a stake goes on with weights: those below the count become 1.
+pub fn carry(
+    stake: usize,
+    counts: &mut [usize],
+    xs: &[f64],
+    ys: &[f64],
+    ws: &mut [f64],
+    sums: &[f64],
+) -> Answer
+    ensures { λ r. ⌜ SeasonIs (carryStakeOut stake (seasonOf (before counts) (columnsOf (before xs) (before ys) (before ws)) (before sums))) r (seasonOf (after counts) (columnsOf (before xs) (before ys) (after ws)) (before sums)) ⌝ }
+{
+    let refusal = stake_refusal(stake, counts.len());
+    if refusal != 0 {
+        return Answer::Refused(refusal);
+    }
+    let n = counts[stake];
+    let w = cut(ws.len(), stake);
+    let w_start = w.start;
+    let w_end = w.end;
+    let answer = carried::carry(
+        Book { count: n },
+        part(xs, stake),
+        part(ys, stake),
+        &mut ws[w_start..w_end],
+        part(sums, stake),
+    );
+    counts[stake] = count_after(n, answer);
+    answer
+}
+
+// An empty book for one stake: its sums become those of no sample.
+pub fn open_stake(stake: usize, counts: &mut [usize], sums: &mut [f64]) -> Answer
+    ensures { λ r. ⌜ SeasonIs (openStakeOut stake (seasonOf (before counts) noColumns (before sums))) r (seasonOf (after counts) noColumns (after sums)) ⌝ }
+{
+    let refusal = stake_refusal(stake, counts.len());
+    if refusal != 0 {
+        return Answer::Refused(refusal);
+    }
+    let n = counts[stake];
+    let s = cut(sums.len(), stake);
+    let s_start = s.start;
+    let s_end = s.end;
+    let answer = book::open(&mut sums[s_start..s_end]);
+    counts[stake] = count_after(n, answer);
+    answer
+}
+
+// An empty book for each of the 32 stakes.
+pub fn season_open(counts: &mut [usize], sums: &mut [f64]) -> Answer
+    ensures { λ r. ⌜ SeasonIs (seasonOpenOut (seasonOf (before counts) noColumns (before sums))) r (seasonOf (after counts) noColumns (after sums)) ⌝ }
+{
+    let refusal = open_refusal(counts.len(), sums.len());
+    if refusal != 0 {
+        return Answer::Refused(refusal);
+    }
+    for stake in 0..STAKES {
+        open_stake(stake, counts, sums);
+    }
+    Answer::Book(Book { count: 0 })
 }

@@ -5,6 +5,14 @@ mod parts;
 mod refusals;
 
 pub use changes::add;
+pub use changes::add_frame;
+pub use changes::add_lines;
+pub use changes::add_window;
+pub use changes::carry;
+pub use changes::correct;
+pub use changes::open_stake;
+pub use changes::season_open;
+pub use changes::withdraw;
 
 // How many stakes there are.
 pub const STAKES: usize = 32;
