@@ -1,2 +1,3 @@
 -- What the proofs of the season's calls share.
 pub mod Pieces
+pub mod Readings

@@ -1,7 +1,12 @@
 -- A stake's part of one lent memory, lent to a call and put back; and what a call on four such parts makes of the season.
 use mathlib.Core.Path.{_≡_, refl, sym, ap, subst, _∙_}
 use mathlib.Core.List.{List, _++_}
-use Prim.Native.Nat.{ℕ, _-_}
+use Prim.Native.Nat.{ℕ, _-_, _*_, _^_, _≤_, _<_}
+use native.Mathlib.Nat.{mul-le-mul-right}
+use native.Mathlib.Omega.{arith}
+use lib.Dec.{lit<}
+use mir.Syntax.{w64}
+use mir.Val.{Fits}
 use lib.ListN.{length, getD, set, take, drop}
 use lib.Ieee.{Float}
 use Rattle.samples.specs.Columns.{Columns, columnsOf, noColumns}
@@ -9,7 +14,7 @@ use Rattle.samples.specs.ColumnLaws.{columns-are}
 use Rattle.book.specs.declared.Answer.{Answer}
 use Rattle.book.specs.Calls.{Out, State, stateOf, Is, bookAfter, openOut}
 use Rattle.season.specs.Parts.{Cut, partOf, withPart}
-use Rattle.season.specs.PartLaws.{cut-part, cut-back, with-own}
+use Rattle.season.specs.PartLaws.{cut-ordered, cut-part, cut-back, with-own}
 use Rattle.season.specs.Season.{SeasonState, seasonOf, stakeState, withStake, stakeRefusal, SeasonIs, onStake, opens, openStakeOut}
 use Rattle.season.specs.SeasonLaws.{stake-done}
 
@@ -17,6 +22,14 @@ use Rattle.season.specs.SeasonLaws.{stake-done}
 pub record Piece {A : Type 0} (s : ℕ) (l p q m : List A) : Type 0 where
   pub found : p ≡ partOf s l
   pub left : m ≡ withPart s q l
+
+-- the place of its first element in bytes fits, where each of the n elements has w bytes
+pub scaled : {n s a e : ℕ} (w : ℕ) → Cut n s a e → n * w < 2 ^ 63 → Fits w64 (a * w)
+scaled {n} {s} {a} {e} w c room =
+    let k : a ≤ n = omega (arith, cut-ordered c, c .within) in
+    let m : a * w ≤ n * w = mul-le-mul-right w k in
+    let top : 2 ^ 63 < 2 ^ 64 = lit< tt in
+    record { fits = omega (arith, m, room, top) }
 
 -- lent to be written
 pub lends : {A : Type 0} (s : ℕ) (l q : List A) (a e : ℕ) → Cut (length l) s a e → Piece s l (take (e - a) (drop a l)) q (take a l ++ (q ++ drop (e - a) (drop a l)))

@@ -3,3 +3,5 @@ pub mod Parts
 pub mod PartLaws
 pub mod Season
 pub mod SeasonLaws
+pub mod Reads
+pub mod ReadLaws

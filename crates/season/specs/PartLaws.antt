@@ -23,6 +23,10 @@ apart s t m h =
 pub ends-within : (n s : ℕ) → s < stakes → s * (n / stakes) + n / stakes ≤ n
 ends-within n s h = omega (arith, apart s stakes (n / stakes) h, div-mul-le-self n stakes)
 
+-- a part starts before it ends
+pub cut-ordered : {n s a e : ℕ} → Cut n s a e → a ≤ e
+cut-ordered c = omega (arith, c .starts, c .ends)
+
 -- ---- a list with p in the place of the k places from a on
 
 module _ {A : Type 0} (a k : ℕ) (p l : List A) (fits : a + k ≤ length l) (long : length p ≡ k) where

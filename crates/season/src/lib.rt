@@ -2,6 +2,7 @@
 // down, in stake order; the rest at the end is nobody's and is left. A call that names a stake is the book's own call on that stake's parts.
 mod changes;
 mod parts;
+mod reads;
 mod refusals;
 
 pub use changes::add;
@@ -13,6 +14,12 @@ pub use changes::correct;
 pub use changes::open_stake;
 pub use changes::season_open;
 pub use changes::withdraw;
+pub use reads::band;
+pub use reads::fit;
+pub use reads::losses;
+pub use reads::scores;
+pub use reads::split;
+pub use reads::validate;
 
 // How many stakes there are.
 pub const STAKES: usize = 32;
