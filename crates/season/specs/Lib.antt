@@ -5,3 +5,4 @@ pub mod Season
 pub mod SeasonLaws
 pub mod Reads
 pub mod ReadLaws
+pub mod Reports

@@ -4,6 +4,7 @@ mod changes;
 mod parts;
 mod reads;
 mod refusals;
+mod reports;
 
 pub use changes::add;
 pub use changes::add_frame;
@@ -20,6 +21,9 @@ pub use reads::losses;
 pub use reads::scores;
 pub use reads::split;
 pub use reads::validate;
+use reporting::ReportAnswer;
+pub use reports::report;
+pub use reports::season_report;
 
 // How many stakes there are.
 pub const STAKES: usize = 32;
@@ -31,4 +35,15 @@ pub enum Asked {
     Withdraw(usize),
     Frame,
     Lines,
+}
+
+// What a season report gives of one stake: its report, or the number of a refusal.
+pub struct StakeReport {
+    pub answer: ReportAnswer,
+}
+
+// The stakes' reports in stake order, and how many of them are not refused.
+pub struct SeasonReport {
+    pub reports: [StakeReport; STAKES],
+    pub passed: usize,
 }
