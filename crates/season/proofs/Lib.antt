@@ -1,4 +1,2 @@
 -- What the proofs of the season's calls share.
-pub mod Pieces
-pub mod Readings
-pub mod Reporting
+pub mod Changed

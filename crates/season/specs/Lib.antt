@@ -1,8 +1,3 @@
--- The season book: 32 stakes in one lent memory, each a book of its own.
-pub mod Parts
-pub mod PartLaws
-pub mod Season
-pub mod SeasonLaws
-pub mod Reads
-pub mod ReadLaws
-pub mod Reports
+-- The season book: what its calls that change it answer and leave.
+pub mod Changes
+pub mod ChangeLaws
