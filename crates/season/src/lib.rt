@@ -12,7 +12,7 @@ ghost use Rattle.stakes.specs.Season.{seasonOf};
 ghost use Rattle.season.specs.Changes.{SeasonIs, seasonOut, changeOf, carryStakeOut, openStakeOut, seasonOpenOut};
 
 // What is asked of a stake's book by a call that may write all its columns. A frame and a text come beside it.
-pub enum Asked {
+enum Asked {
     Add(f64, f64, f64),
     Window(f64, f64, f64),
     Withdraw(usize),
@@ -68,7 +68,7 @@ fn change(
     if refusal != 0 {
         return Answer::Refused(refusal);
     }
-    let n = counts[stake];
+    let count = counts[stake];
     let x = stakes::cut(xs.len(), stake);
     let x_start = x.start;
     let x_end = x.end;
@@ -82,7 +82,7 @@ fn change(
     let s_start = s.start;
     let s_end = s.end;
     let answer = call(
-        Book { count: n },
+        Book { count },
         asked,
         bytes,
         &mut xs[x_start..x_end],
@@ -90,7 +90,7 @@ fn change(
         &mut ws[w_start..w_end],
         &mut sums[s_start..s_end],
     );
-    counts[stake] = count_after(n, answer);
+    counts[stake] = count_after(count, answer);
     answer
 }
 

@@ -1,12 +1,11 @@
 -- From what the book's own call promises on a stake's parts to what the season's call promises: one law for each kind of call, refused and not.
-use mathlib.Core.Path.{_≡_, refl, sym, ap, _∙_}
+use mathlib.Core.Path.{_≡_, ap, _∙_}
 use mathlib.Core.List.{List, []}
 use Prim.Native.Nat.{ℕ}
 use lib.ListN.{length}
 use lib.Ieee.{Float}
-use Rattle.lent.specs.Slices.{Contents, contentsOf}
+use Rattle.lent.specs.Slices.{contentsOf}
 use Rattle.lent.specs.Written.{over}
-use Rattle.samples.specs.Columns.{columnsOf}
 use Rattle.book.specs.Calls.{State}
 use Rattle.measure.specs.declared.FitAnswer.{FitAnswer}
 use Rattle.measure.specs.declared.FitAnswer.the-variants as fits

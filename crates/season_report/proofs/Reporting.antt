@@ -1,15 +1,14 @@
 -- A report of one stake: from what the book's own report promises on the stake's parts to what the season's promises, refused and not.
-use mathlib.Core.Path.{_≡_, refl, sym, ap, _∙_}
-use mathlib.Core.List.{List, []}
+use mathlib.Core.Path.{_≡_, ap, _∙_}
 use Prim.Native.Nat.{ℕ, _+_}
 use lib.ListN.{length, set}
 use Rattle.book.specs.Calls.{State}
 use Rattle.settings.specs.declared.Settings.{Settings}
 use Rattle.reporting.specs.declared.ReportAnswer.{ReportAnswer}
 use Rattle.reporting.specs.declared.ReportAnswer.the-variants as answers
-use Rattle.reporting.specs.Outputs.{Outputs, LentOutputs, nothing, overAll}
+use Rattle.reporting.specs.Outputs.{Outputs, nothing, overAll}
 use Rattle.reporting.specs.Reports.{ReportOut, Does, refusedEarly}
-use Rattle.stakes.specs.Parts.{partOf, withPart}
+use Rattle.stakes.specs.Parts.{withPart}
 use Rattle.stakes.specs.Season.{SeasonState, stakeState, stakeRefusal}
 use Rattle.stakes.specs.SeasonLaws.{none-over}
 use Rattle.stakes.proofs.Pieces.{Piece, done-is, none-is}

@@ -58,6 +58,9 @@ pub record StakeReportIs (s : ℕ) (o : ReportOut) (r : ReportAnswer) (w : LentO
   pub answer : r ≡ o .answer
   pub outputs : w .left ≡ overParts s (o .written) (w .found)
 
+abbrev pub StakeReports : Settings → ℕ → SeasonState → ReportAnswer → LentOutputs → Type 0
+StakeReports settings s S r w = StakeReportIs s (stakeReportOut settings s S (w .found)) r w
+
 -- ---- all stakes
 
 -- 1 where a report is not refused, else 0
@@ -92,3 +95,6 @@ pub record SeasonReportIs (o : Reported) (r : SeasonReport) (w : LentOutputs) : 
   pub reports : r .reports ≡ o .reports
   pub passed : r .passed ≡ o .passed
   pub outputs : w .left ≡ o .lent
+
+abbrev pub SeasonReports : Settings → SeasonState → SeasonReport → LentOutputs → Type 0
+SeasonReports settings S r w = SeasonReportIs (seasonReport settings S (w .found)) r w

@@ -9,7 +9,7 @@ ghost use Rattle.samples.specs.Columns.{columnsOf};
 ghost use Rattle.lent.specs.Slices.{before};
 ghost use Rattle.reporting.specs.Outputs.{outputs};
 ghost use Rattle.stakes.specs.Season.{seasonOf};
-ghost use Rattle.season_report.specs.Reports.{stakeReportOut, StakeReportIs, passes as passesF, seasonReport, SeasonReportIs};
+ghost use Rattle.season_report.specs.Reports.{StakeReports, passes as passesF, SeasonReports};
 
 // What a season report gives of one stake: its report, or the number of a refusal.
 pub struct StakeReport {
@@ -39,7 +39,7 @@ pub fn report(
     upper: &mut [f64],
     outliers: &mut [u8],
 ) -> ReportAnswer
-    ensures { λ r. ⌜ StakeReportIs stake (stakeReportOut settings stake (seasonOf (before counts) (columnsOf (before xs) (before ys) (before ws)) (before sums)) (outputs scratch coefficients errors pruned lower upper outliers .found)) r (outputs scratch coefficients errors pruned lower upper outliers) ⌝ }
+    ensures { λ r. ⌜ StakeReports settings stake (seasonOf (before counts) (columnsOf (before xs) (before ys) (before ws)) (before sums)) r (outputs scratch coefficients errors pruned lower upper outliers) ⌝ }
 {
     let refusal = stakes::stake_refusal(stake, counts.len());
     if refusal != 0 {
@@ -115,7 +115,7 @@ pub fn season_report(
     upper: &mut [f64],
     outliers: &mut [u8],
 ) -> SeasonReport
-    ensures { λ r. ⌜ SeasonReportIs (seasonReport settings (seasonOf (before counts) (columnsOf (before xs) (before ys) (before ws)) (before sums)) (outputs scratch coefficients errors pruned lower upper outliers .found)) r (outputs scratch coefficients errors pruned lower upper outliers) ⌝ }
+    ensures { λ r. ⌜ SeasonReports settings (seasonOf (before counts) (columnsOf (before xs) (before ys) (before ws)) (before sums)) r (outputs scratch coefficients errors pruned lower upper outliers) ⌝ }
 {
     let none = StakeReport {
         answer: ReportAnswer::Refused(1),

@@ -3,11 +3,10 @@ use mathlib.Core.Path.{_≡_, refl, sym}
 use mathlib.Core.List.{List, []}
 use Prim.Native.Nat.{ℕ, zero, suc, _≤_, _<_}
 use native.Mathlib.Omega.{arith}
-use borrow.Author.Tests.{leb-false, ltb-false}
+use borrow.Author.Tests.{leb-false, ltb-false, lt-leb, le-ltb}
 use lib.ListN.{length}
 use lib.Seq.{set-getD, getD-set-same, getD-set-other}
-use Rattle.samples.specs.Columns.{Column}
-use Rattle.refusal.specs.Refusals.{settle}
+use Rattle.refusal.specs.Refusals.{settle, firstOf}
 use Rattle.refusal.specs.Laws.{first-none}
 use Rattle.book.specs.Calls.{State, stateOf}
 use Rattle.stakes.specs.Parts.{stakes, overPart}
@@ -25,6 +24,11 @@ counts-long s n e = ltb-false n stakes (first-none _ 0 _ (first-none _ 17 _ e .1
 
 pub stake-counted : (s n : ℕ) → stakeRefusal s n ≡ 0 → s < n
 stake-counted s n e = omega (arith, stake-below s n e, counts-long s n e)
+
+-- one of the 32 is not refused where there are so many counts
+pub stake-taken : (s n : ℕ) → s < stakes → stakes ≤ n → stakeRefusal s n ≡ 0
+unfolding stakeRefusal firstOf
+stake-taken s n h m = rw (lt-leb stakes s h, le-ltb n stakes m) refl
 
 -- where nothing is written, all is left, whatever the stake's number
 pub none-over : {A : Type 0} (s : ℕ) (l : List A) → l ≡ overPart s [] l

@@ -1,3 +1,4 @@
+-- `season::add` meets its contract: it is `change`, asked for this call.
 use Prim.Native.Nat.{_-_}
 use borrow.Author.Needs.{needs}
 use Rattle.season.specs.Changes.{changeOf}

@@ -1,3 +1,4 @@
+-- `season::call` meets its contract: each arm is the book's own call.
 use Prim.Native.Nat.{_-_}
 use borrow.Author.Needs.{needs}
 use lib.Ieee.{add}

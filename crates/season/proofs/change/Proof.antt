@@ -1,3 +1,4 @@
+-- `season::change` meets its contract: a stake that is refused leaves everything, and else four parts are lent and put back.
 use mathlib.Core.Path.{sym, _∙_}
 use Prim.Native.Nat.{_-_}
 use native.Mathlib.Omega.{arith}
@@ -13,11 +14,11 @@ use Rattle.season.proofs.change.Tie as tie
 returns : tie.Need-returns
 returns c = stake-refused _ _ _ _ (c .before .stake-refusal .ensures) (c .if1 .taken)
 
-mul-n : tie.Need-mul-n
-mul-n c = record { fits = omega (arith, stake-below _ _ (sym (c .before .stake-refusal .ensures) ∙ c .if1 .left)) }
+mul-count : tie.Need-mul-count
+mul-count c = record { fits = omega (arith, stake-below _ _ (sym (c .before .stake-refusal .ensures) ∙ c .if1 .left)) }
 
-slice-read-n : tie.Need-slice-read-n
-slice-read-n c = stake-counted _ _ (sym (c .before .before .stake-refusal .ensures) ∙ c .before .if1 .left)
+slice-read-count : tie.Need-slice-read-count
+slice-read-count c = omega (arith, stake-counted _ _ (sym (c .before .before .stake-refusal .ensures) ∙ c .before .if1 .left))
 
 cut-requires : tie.Need-cut-requires
 cut-requires c κs = stake-below _ _ (sym (c .before .before .stake-refusal .ensures) ∙ c .before .if1 .left)
@@ -133,7 +134,7 @@ slice-write-counts : tie.Need-slice-write-counts
 slice-write-counts c =
     let at-stake-refusal = c .before .before .before .before .before .before .before .before .before .before .before .before .before .before .before .before .before .before .before .before .stake-refusal in
     let at-if1 = c .before .before .before .before .before .before .before .before .before .before .before .before .before .before .before .before .before .before .before .if1 in
-    stake-counted _ _ (sym (at-stake-refusal .ensures) ∙ at-if1 .left)
+    omega (arith, stake-counted _ _ (sym (at-stake-refusal .ensures) ∙ at-if1 .left))
 
 returns-2 : tie.Need-returns-2
 returns-2 c =
@@ -151,4 +152,4 @@ returns-2 c =
     (lends (a .stake) (a .sums .now) _ _ _ (at-cut4 .ensures)) (at-call .ensures)
 
 pub change-spec : {M : Type 1} → statement M
-change-spec = tie.close (tie.spec (λ c κs. search needs) returns mul-n slice-read-n cut-requires cut-requires-2 cut-requires-3 cut-requires-4 mul-call sub-call part-call-start part-call-end mul-call-2 sub-call-2 part-call-start-2 part-call-end-2 mul-call-3 sub-call-3 part-call-start-3 part-call-end-3 mul-call-4 sub-call-4 part-call-start-4 part-call-end-4 (λ c κs. search needs) (λ c κs. search needs) mul-counts slice-write-counts (λ c. search needs) (λ c. search needs) (λ c. search needs) (λ c. search needs) (λ c. search needs) returns-2)
+change-spec = tie.close (tie.spec (λ c κs. search needs) returns mul-count slice-read-count cut-requires cut-requires-2 cut-requires-3 cut-requires-4 mul-call sub-call part-call-start part-call-end mul-call-2 sub-call-2 part-call-start-2 part-call-end-2 mul-call-3 sub-call-3 part-call-start-3 part-call-end-3 mul-call-4 sub-call-4 part-call-start-4 part-call-end-4 (λ c κs. search needs) (λ c κs. search needs) mul-counts slice-write-counts (λ c. search needs) (λ c. search needs) (λ c. search needs) (λ c. search needs) (λ c. search needs) returns-2)

@@ -1,3 +1,4 @@
+-- `season::correct` meets its contract: the parts of y and of the sums are put back, those of x and of the weights are only read.
 use mathlib.Core.Path.{sym, _∙_}
 use Prim.Native.Nat.{_-_}
 use native.Mathlib.Omega.{arith}
@@ -18,7 +19,7 @@ mul-n : tie.Need-mul-n
 mul-n c = record { fits = omega (arith, stake-below _ _ (sym (c .before .stake-refusal .ensures) ∙ c .if1 .left)) }
 
 slice-read-n : tie.Need-slice-read-n
-slice-read-n c = stake-counted _ _ (sym (c .before .before .stake-refusal .ensures) ∙ c .before .if1 .left)
+slice-read-n c = omega (arith, stake-counted _ _ (sym (c .before .before .stake-refusal .ensures) ∙ c .before .if1 .left))
 
 cut-requires : tie.Need-cut-requires
 cut-requires c κs = stake-below _ _ (sym (c .before .before .stake-refusal .ensures) ∙ c .before .if1 .left)
@@ -85,7 +86,7 @@ slice-write-counts : tie.Need-slice-write-counts
 slice-write-counts c =
     let at-stake-refusal = c .before .before .before .before .before .before .before .before .before .before .before .before .before .before .stake-refusal in
     let at-if1 = c .before .before .before .before .before .before .before .before .before .before .before .before .before .if1 in
-    stake-counted _ _ (sym (at-stake-refusal .ensures) ∙ at-if1 .left)
+    omega (arith, stake-counted _ _ (sym (at-stake-refusal .ensures) ∙ at-if1 .left))
 
 returns-2 : tie.Need-returns-2
 unfolding outOf

@@ -1,3 +1,4 @@
+-- `season::season_open` meets its contract. The loop's invariant: opening the stakes that are left makes of the present season what opening all made of the first.
 use mathlib.Core.Path.{_≡_, refl, sym, ap, _∙_}
 use Prim.Native.Nat.{ℕ, _+_, _-_}
 use borrow.Author.Needs.{needs}

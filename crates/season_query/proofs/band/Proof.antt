@@ -1,3 +1,4 @@
+-- `season_query::band` meets its contract: the part of scratch is put back, the others are only read.
 use mathlib.Core.Path.{sym, _∙_}
 use Prim.Native.Nat.{_-_}
 use native.Mathlib.Omega.{arith}

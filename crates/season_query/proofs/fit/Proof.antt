@@ -1,3 +1,4 @@
+-- `season_query::fit` meets its contract: the parts of scratch and of the coefficients are put back, the others are only read.
 use mathlib.Core.Path.{sym, _∙_}
 use Prim.Native.Nat.{_-_}
 use native.Mathlib.Omega.{arith}

@@ -1,3 +1,4 @@
+-- `season_report::report` meets its contract: seven parts are lent to the book's report and put back.
 use mathlib.Core.Path.{sym, _∙_}
 use Prim.Native.Nat.{_-_}
 use native.Mathlib.Omega.{arith}
@@ -6,8 +7,6 @@ use Rattle.stakes.specs.PartLaws.{cut-ordered}
 use Rattle.stakes.specs.SeasonLaws.{stake-below, stake-counted}
 use Rattle.stakes.specs.Season.{seasonOf}
 use Rattle.samples.specs.Columns.{columnsOf}
-use Rattle.season_report.specs.Reports.{reportFrom}
-use Rattle.reporting.specs.Outputs.{Outputs}
 use Rattle.stakes.proofs.Pieces.{lends, scaled, book-is}
 use Rattle.season_report.proofs.Reporting.{report-refused, report-done}
 use Rattle.season_report.proofs.report.Statement.{statement}

@@ -1,3 +1,5 @@
+-- `season_report::season_report` meets its contract. The loop's invariant: the turns that are left make of the present reports and memory what all turns make of
+-- the first, and no more stakes passed than were asked.
 use mathlib.Core.Path.{_≡_, refl, sym, ap, _∙_}
 use Prim.Native.Nat.{_+_, _-_, _≤_}
 use native.Mathlib.Omega.{arith}
@@ -7,7 +9,6 @@ use Rattle.stakes.specs.Parts.{stakes}
 use Rattle.stakes.specs.Season.{seasonOf}
 use Rattle.season_report.specs.Reports.{Reported, reportTurn, unreported, seasonReport}
 use Rattle.season_report.proofs.Reporting.{turn-is}
-use Rattle.reporting.specs.Outputs.{Outputs}
 use Rattle.samples.specs.Columns.{columnsOf}
 use Rattle.loops.specs.Loop.{from}
 use Rattle.loops.specs.LoopLaws.{again, done}

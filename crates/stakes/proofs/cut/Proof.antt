@@ -1,7 +1,7 @@
+-- `stakes::cut` meets its contract: a part of one of 32 stakes ends within the memory, so that no sum or product wraps.
 use mathlib.Core.Path.{refl}
 use Prim.Native.Nat.{_-_}
 use native.Mathlib.Omega.{arith}
-use Rattle.stakes.specs.Parts.{Cut}
 use Rattle.stakes.specs.PartLaws.{ends-within}
 use Rattle.stakes.proofs.cut.Statement.{statement}
 use Rattle.stakes.proofs.cut.Tie as tie

@@ -1,3 +1,4 @@
+-- `stakes::open_refusal` meets its contract: 1, of the counts and of each stake's part of the sums.
 use Prim.Native.Nat.{_-_}
 use borrow.Author.Needs.{needs}
 use Rattle.refusal.specs.Laws.{first-of, first-end}

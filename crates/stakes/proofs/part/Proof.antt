@@ -1,3 +1,4 @@
+-- `stakes::part` meets its contract: the places from where the part starts to where it ends.
 use Prim.Native.Nat.{_-_}
 use borrow.Author.Needs.{needs}
 use Rattle.stakes.specs.PartLaws.{cut-part}

@@ -1,3 +1,4 @@
+-- `stakes::stake_refusal` meets its contract: 18 of the stake's number stands before 1 of the counts.
 use mathlib.Core.Path.{refl}
 use Prim.Native.Nat.{_-_}
 use borrow.Author.Needs.{needs}
