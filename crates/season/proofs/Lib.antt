@@ -1,0 +1,2 @@
+-- What the proofs of the season's calls share.
+pub mod Changed

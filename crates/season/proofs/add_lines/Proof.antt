@@ -1,0 +1,15 @@
+-- `season::add_lines` meets its contract: it is `change`, asked for this call.
+use Prim.Native.Nat.{_-_}
+use borrow.Author.Needs.{needs}
+use Rattle.season.specs.Changes.{changeOf}
+use Rattle.season.proofs.add_lines.Statement.{statement}
+use Rattle.season.proofs.add_lines.Tie as tie
+
+returns : tie.Need-returns
+unfolding changeOf
+returns c =
+    let at-change = c .before .before .before .before .before .before .before .before .before .before .change in
+    at-change .ensures
+
+pub add-lines-spec : {M : Type 1} → statement M
+add-lines-spec = tie.close (tie.spec (λ c κs. search needs) (λ c. search needs) (λ c. search needs) (λ c. search needs) (λ c. search needs) (λ c. search needs) returns)

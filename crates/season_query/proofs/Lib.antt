@@ -1,0 +1,2 @@
+-- What the proofs of these calls share.
+pub mod Readings

@@ -1,0 +1,2 @@
+-- The calls that read a stake of the season book: what they answer and write.
+pub mod Reads

@@ -1,0 +1,2 @@
+-- What the proofs of reports share.
+pub mod Reporting

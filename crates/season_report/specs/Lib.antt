@@ -1,0 +1,2 @@
+-- Reports of the season book.
+pub mod Reports

@@ -1,0 +1,6 @@
+-- The theorems on season books.
+pub mod Lengths
+pub mod Stakes
+pub mod Written
+pub mod Turns
+pub mod Lists
