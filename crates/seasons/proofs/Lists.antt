@@ -33,11 +33,11 @@ use Rattle.ledger.specs.ReadCalls.{ReadCall, reports, Told, reportReply, readOn
 use Rattle.ledger.proofs.Book.{whole-book}
 use Rattle.stakes.specs.Parts.{stakes, partOf}
 use Rattle.stakes.specs.PartLaws.{length-part}
-use Rattle.stakes.specs.Season.{SeasonState, stakeState, seasonOpenRefusal}
-use Rattle.stakes.specs.SeasonLaws.{stake-taken, read-done}
-use Rattle.season.specs.Changes.{opens, openStakeOut, emptied, seasonOpenOut}
+use Rattle.stakes.specs.Season.{SeasonState, stakeState, stakeRefusal, seasonOpenRefusal}
+use Rattle.stakes.specs.SeasonLaws.{stake-below, counts-long, stake-taken, read-done}
+use Rattle.season.specs.Changes.{onStake, opens, openStakeOut, emptied, seasonOpenOut}
 use Rattle.seasons.specs.Calls.{opening, StakeCall, alters, looks, SeasonCall, names, seasonal, SeasonReply, byPart, outBy, readFrom, bookNext, bookReply, ownBook, asStake, refusedTold, partPlaces, reportAt, seasonNext, seasonReply, seasonBook, asPart, ownCall, ownReply}
-use Rattle.seasons.specs.Claims.{StakeByStake, WholeStakes}
+use Rattle.seasons.specs.Claims.{StakeByStake, StakeWhole, WholeStakes, WholeSince}
 use Rattle.seasons.proofs.Lengths.{Long, long-by}
 use Rattle.seasons.proofs.Stakes.{on-done, on-own, on-other, on-counts, counts-kept, leaves-others}
 
@@ -205,22 +205,51 @@ unfolding fold
 as-final b [] = refl
 as-final b (c ∷ ds) = ap (λ (a : State). fold bookNext a (map asStake ds)) (one-next b c) ∙ as-final (next b c) ds
 
-pub whole-stakes : WholeStakes
-whole-stakes S a t own cs ds e =
-    let z = open-taken S (seasonOpenRefusal (length (S .counts)) (length (S .sums))) refl a in
-    let room = open-room (length (S .counts)) (length (S .sums)) z in
-    let g = opened-by S (room .0) stakes (omega arith) in
-    let T = seasonOpenOut S .season in
-    let columns : Columns = λ k. partOf t (S .columns k) in
-    let sums = partOf t (S .sums) in
-    let q = opens-book sums (rw (length-part t (S .sums) own) (room .1)) in
-    let n = getD (S .counts) t 0 in
-    let is = emptied-is S z in
-    let b : stakeState t T ≡ opened columns sums = ap (stakeState t) is ∙ g .done t own own
-    ∙ (λ j. stateOf ((ap (bookAfter n) q ∙ sym (ap (bookAfter 0) q)) j) columns (openOut sums .sums)) in
-    let o = stake-by-stake T (omega (arith, room .0, ap (λ (U : SeasonState). length (U .counts)) is, g .counts)) t own cs in
+-- from a season in which the book of stake t is one just opened
+whole-from : (T : SeasonState) → stakes ≤ length (T .counts) → (t : ℕ) → t < stakes → (columns : Columns) (sums : List Float)
+    → openOut sums .answer ≡ bookOf 0 → stakeState t T ≡ opened columns sums → (cs : List SeasonCall) (ds : List (Call ReadCall))
+    → only (ownCall t) cs ≡ map asStake ds → StakeWhole columns sums T t cs ds
+whole-from T h t own columns sums q b cs ds e =
+    let o = stake-by-stake T h t own cs in
     record {
       replies = o .replies ∙ ap₂ (λ (u : State) l. replies ownBook u l) b e ∙ as-replies (opened columns sums) ds;
       book = o .book ∙ ap₂ (λ (u : State) l. fold bookNext u l) b e ∙ as-final (opened columns sums) ds;
       whole = whole-book columns sums q ds;
     }
+
+-- the opened book of stake t is the one that a ledger begins with
+opened-book : (t : ℕ) (S : SeasonState) → openOut (partOf t (S .sums)) .answer ≡ bookOf 0
+    → stateAfter (stakeState t S .count) (opens (stakeState t S)) ≡ opened (λ k. partOf t (S .columns k)) (partOf t (S .sums))
+opened-book t S q =
+    let sums = partOf t (S .sums) in
+    λ j. stateOf ((ap (bookAfter (getD (S .counts) t 0)) q ∙ sym (ap (bookAfter 0) q)) j) (λ k. partOf t (S .columns k)) (openOut sums .sums)
+
+pub whole-stakes : WholeStakes
+whole-stakes S a t own cs ds e =
+    let z = open-taken S (seasonOpenRefusal (length (S .counts)) (length (S .sums))) refl a in
+    let room = open-room (length (S .counts)) (length (S .sums)) z in
+    let g = opened-by S (room .0) stakes (omega arith) in
+    let sums = partOf t (S .sums) in
+    let q = opens-book sums (rw (length-part t (S .sums) own) (room .1)) in
+    let is = emptied-is S z in
+    whole-from (seasonOpenOut S .season) (omega (arith, room .0, ap (λ (U : SeasonState). length (U .counts)) is, g .counts)) t own
+    (λ k. partOf t (S .columns k)) sums q (ap (stakeState t) is ∙ g .done t own own ∙ opened-book t S q) cs ds e
+
+-- an opening of a stake that answers the book was not refused, and the book's own opening was not
+stake-open-taken : (S : SeasonState) (t k : ℕ) → stakeRefusal t (length (S .counts)) ≡ k → openStakeOut t S .answer ≡ bookOf 0
+    → (k ≡ 0) × (openOut (partOf t (S .sums)) .answer ≡ bookOf 0)
+unfolding onStake
+stake-open-taken S t zero e a = (refl, rw e at a)
+stake-open-taken S t (suc k) e a =
+    let w : answers.Refused (suc k) ≡ bookOf 0 = rw e at a in
+    let z : _≡_ {A = ℕ} 0 1 = cc in
+    absurd (omega arith)
+
+pub whole-since : WholeSince
+unfolding outBy
+whole-since S t a cs ds e =
+    let k = stake-open-taken S t (stakeRefusal t (length (S .counts))) refl a in
+    let own = stake-below t (length (S .counts)) (k .0) in
+    let h = counts-long t (length (S .counts)) (k .0) in
+    whole-from (openStakeOut t S .season) (omega (arith, h, on-counts t S opens)) t own (λ k. partOf t (S .columns k)) (partOf t (S .sums)) (k .1)
+    (on-own t S opens (long-by opening (stakeState t S)) own h ∙ opened-book t S (k .1)) cs ds e

@@ -19,7 +19,7 @@ use Rattle.ledger.specs.ReadCalls.{ReadCall, readOn}
 use Rattle.ledger.specs.Whole.{WholeBook}
 use Rattle.stakes.specs.Parts.{stakes, partOf, overPart}
 use Rattle.stakes.specs.Season.{SeasonState, stakeState}
-use Rattle.season.specs.Changes.{seasonOut, seasonOpenOut}
+use Rattle.season.specs.Changes.{seasonOut, openStakeOut, seasonOpenOut}
 use Rattle.season_query.specs.Reads.{fitFrom, validateFrom, stakeFitOut, bandFrom, stakeBandOut, lossFrom, stakeLossOut, scoresFrom, stakeScoresOut, splitFrom, stakeSplitOut}
 use Rattle.season_report.specs.declared.StakeReport.{StakeReport}
 use Rattle.season_report.specs.Reports.{partsOf, overParts, stakeReportOut, Reported, toldOf, seasonReport}
@@ -84,6 +84,13 @@ WholeStakes =
     (S : SeasonState) → seasonOpenOut S .answer ≡ bookOf 0 → (t : ℕ) → t < stakes → (cs : List SeasonCall) (ds : List (Call ReadCall))
     → only (ownCall t) cs ≡ map asStake ds
     → StakeWhole (λ k. partOf t (S .columns k)) (partOf t (S .sums)) (seasonOpenOut S .season) t cs ds
+
+-- the same from an opening of stake t alone, in any season and so after any calls
+abbrev pub WholeSince : Type 0
+WholeSince =
+    (S : SeasonState) (t : ℕ) → openStakeOut t S .answer ≡ bookOf 0 → (cs : List SeasonCall) (ds : List (Call ReadCall))
+    → only (ownCall t) cs ≡ map asStake ds
+    → StakeWhole (λ k. partOf t (S .columns k)) (partOf t (S .sums)) (openStakeOut t S .season) t cs ds
 
 -- ---- the user's case
 
