@@ -4,3 +4,5 @@ pub mod MarkLaws
 pub mod Bands
 pub mod BandsFrom
 pub mod Pruning
+pub mod Spread
+pub mod SpreadLaws

@@ -9,16 +9,18 @@ ghost use mathlib.Core.Path.{_≡_};
 ghost use mathlib.Core.List.{_++_};
 ghost use Prim.Native.Nat.{_≤_, _<_};
 ghost use lib.Ieee.{nan};
-ghost use lib.ListN.{length, getD, drop};
+ghost use lib.ListN.{length, getD, take, drop};
 ghost use Rattle.basis.specs.Sizes.{maxTerms};
 ghost use Rattle.loops.specs.Places.{each, table};
 ghost use Rattle.value.specs.Absolute.{absF};
+ghost use Rattle.statistics.specs.Variances.{stddevAndMean};
 ghost use Rattle.monomial.specs.Terms.{termsAt};
 ghost use Rattle.monomial.specs.Rows.{fitted, rowsAt};
 ghost use Rattle.covariance.specs.Covariance.{covarianceOf, errorsOf, columnOf, predictionVariance};
 ghost use Rattle.covariance.specs.Marks.{mark as markF, ones};
 ghost use Rattle.covariance.specs.BandsFrom.{bandFrom, outlierFrom};
 ghost use Rattle.covariance.specs.Bands.{widened, widthOf, bandOf, bandAt, outlies as outliesF, lowersOf, uppersOf, outliersOf};
+ghost use Rattle.covariance.specs.Spread.{DoesFor};
 ghost use Rattle.covariance.specs.Pruning.{tested as testedF, prunes as prunesF, prunedBytes};
 
 // 2 to the power −52.
@@ -100,6 +102,22 @@ fn allowed(tolerance: Tolerance, sd: f64, value: f64, variance: f64) -> Allowanc
             Allowance(variance + w * w, 0.0)
         }
         Tolerance::Measurement(p) => Allowance(variance, value::abs(value) * p),
+    }
+}
+
+// The standard deviation of the first n y's, where the tolerance reads it.
+pub fn deviation_read(tolerance: Tolerance, ys: &[f64], n: usize) -> f64
+    requires { ⌜ n ≤ length (now ys) ⌝ }
+    ensures { λ r. ⌜ DoesFor tolerance r (stddevAndMean (take n (now (ys .entry))) .stddev) ⌝ }
+{
+    match tolerance {
+        Tolerance::None => 0.0,
+        Tolerance::Absolute(a) => 0.0,
+        Tolerance::Variance(p) => {
+            let s = statistics::stddev_and_mean(ys, n);
+            s.stddev
+        }
+        Tolerance::Measurement(p) => 0.0,
     }
 }
 

@@ -137,7 +137,7 @@ pub fn write(
     let rule = settings.pruning;
     let t = statistics::t_score(confidence, df);
     let z = statistics::z_score(confidence);
-    let spread = statistics::stddev_and_mean(ys, n);
+    let sd = covariance::deviation_read(tolerance, ys, n);
     let e = covariance::errors(k, &v);
     lent::clear(scratch, n);
     lent::put_first(c, places, coefficients);
@@ -150,7 +150,7 @@ pub fn write(
         &v,
         tolerance,
         z,
-        spread.stddev,
+        sd,
         xs,
         zs,
         ys,

@@ -46,7 +46,7 @@ returns c =
     let at-put-first = c .before .before .before .before .before .before .before .before .before .before .before .before .before .before .before .before .before .before .before .before .before .before .before .before .put-first in
     let at-put-first2 = c .before .before .before .before .before .before .before .before .before .before .before .before .before .before .before .before .before .before .before .before .put-first2 in
     let at-put-pruned = c .before .before .before .before .before .before .before .before .before .before .before .before .before .before .put-pruned in
-    let at-stddev-and-mean = c .before .before .before .before .before .before .before .before .before .before .before .before .before .before .before .before .before .before .before .before .before .before .before .before .before .before .before .before .before .before .before .before .stddev-and-mean in
+    let at-deviation-read = c .before .before .before .before .before .before .before .before .before .before .before .before .before .before .before .before .before .before .before .before .before .before .before .before .before .before .before .before .before .before .before .before .deviation-read in
     let at-t-score = c .before .before .before .before .before .before .before .before .before .before .before .before .before .before .before .before .before .before .before .before .before .before .before .before .before .before .before .before .before .before .before .before .before .before .t-score in
     let at-term-places = c .before .before .before .before .before .before .before .before .before .before .before .before .before .before .before .before .before .before .before .before .before .before .before .before .before .before .before .before .before .before .before .before .before .before .before .before .before .term-places in
     let at-z-score = c .before .before .before .before .before .before .before .before .before .before .before .before .before .before .before .before .before .before .before .before .before .before .before .before .before .before .before .before .before .before .before .before .before .z-score in
@@ -56,8 +56,8 @@ returns c =
     writes-is (at-args .basis) n (at-args .settings) rows (at-args .degree .0) (at-args .solved) (at-args .t6) (at-args .t7) sized
     (at-term-places .result) (at-term-places .ensures .0) (at-term-places .ensures .1)
     (at-k .result .0) (at-k .ensures) (length-rows-at (at-args .basis) (at-args .xs .now) (at-args .zs .now) (at-args .ys .now) n)
-    (at-t-score .result) (at-z-score .result) (at-stddev-and-mean .result) (at-errors .result) (at-t-score .ensures) (at-z-score .ensures)
-    (at-stddev-and-mean .ensures ∙ ap stddevAndMean (sym (ys-in-rows (at-args .basis) n (at-args .xs .now) (at-args .zs .now) (at-args .ys .now) (at-pre .0 .2)))) (at-errors .ensures)
+    (at-t-score .result) (at-z-score .result) (at-deviation-read .result) (at-errors .result) (at-t-score .ensures) (at-z-score .ensures)
+    (rw (ys-in-rows (at-args .basis) n (at-args .xs .now) (at-args .zs .now) (at-args .ys .now) (at-pre .0 .2)) (at-deviation-read .ensures)) (at-errors .ensures)
     (at-put-bands .result) (at-put-pruned .result) _ _ (at-put-bands .ensures .0) (at-put-pruned .ensures .0) (at-clear .ensures) (at-put-first .ensures) (at-put-first2 .ensures) (at-put-pruned .ensures .1) (at-put-bands .ensures .1 .0) (at-put-bands .ensures .1 .1 .0) (at-put-bands .ensures .1 .1 .1)
 
 pub write-spec : {M : Type 1} → statement M
