@@ -4,11 +4,11 @@ use mathlib.Core.Bool.{Bool, true, false, not, _&&_}
 use mathlib.Core.List.{List, [], _∷_, _++_, map, map-append}
 use mathlib.Core.Logic.{_⊎_, inl, inr}
 use Prim.Native.Nat.{ℕ, suc, _+_, _-_, _≤_, _<_, zero-le}
-use native.Mathlib.Nat.{le-refl, le-trans, zero-add, add-comm}
+use native.Mathlib.Nat.{le-refl, le-trans, le-antisymm, zero-add, add-comm}
 use native.Mathlib.Numerals.{add-one}
 use native.Mathlib.Omega.{arith}
 use borrow.Author.Tests.{ltb-true, ltb-false, lt-ltb, leb-true, leb-false, le-leb, lt-leb}
-use lib.Dec.{T, leb, ltb, le→leb, nleb→lt}
+use lib.Dec.{T, leb, ltb, le→leb, leb→le, nleb→lt}
 use lib.ListN.{length, getD, take}
 use lib.Seq.{take-suc}
 use lib.Ieee.{Float, nan, binary64, sub, toBits, ofBits}
@@ -236,6 +236,61 @@ greatest-under b v (x ∷ xs) h =
         inr (let a = f (omega (arith, z, e .0)) in let d = g (e .1) in omega (arith, a, d, mn))
     joined b k v w r p q m n mn pq f g e (inr z) = inr (omega arith)
 
+-- ---- both ends of a range moved to numbers
+
+least-from : (b v : ℕ) (l : List Float) → b ≤ v → b ≤ leastOver b v l
+unfolding leastOver fold
+least-from b v [] h = h
+least-from b v (x ∷ xs) h = least-from b (nearer b (toBits binary64 x) v) xs (from-turn b (toBits binary64 x) v (nearer b (toBits binary64 x) v) h (turn b (toBits binary64 x) v .kind))
+  where
+    from-turn : (b k v w : ℕ) → b ≤ v → (w ≡ v) ⊎ ((w ≡ k) × (b ≤ k)) → b ≤ w
+    from-turn b k v w h (inl e) = omega arith
+    from-turn b k v w h (inr e) = omega (arith, e .0, e .1)
+
+greatest-below : (b v : ℕ) (l : List Float) → v < b → greatestOver b v l < b
+unfolding greatestOver fold
+greatest-below b v [] h = h
+greatest-below b v (x ∷ xs) h = greatest-below b (farther b (toBits binary64 x) v) xs (from-turn b (toBits binary64 x) v (farther b (toBits binary64 x) v) h (further b (toBits binary64 x) v .kind))
+  where
+    from-turn : (b k v w : ℕ) → v < b → (w ≡ v) ⊎ ((w ≡ k) × (k < b)) → w < b
+    from-turn b k v w h (inl e) = omega arith
+    from-turn b k v w h (inr e) = omega (arith, e .0, e .1)
+
+-- the least from lo on and the greatest up to hi, of a range that place m lies in: a range as good, and no wider
+pub record Moved (l : List Float) (lo hi low high : ℕ) : Type 0 where
+  pub from : lo ≤ low
+  pub to : high ≤ hi
+  pub ordered : low ≤ high
+  pub below : count (under low) l ≡ count (under lo) l
+  pub reached : count (upto high) l ≡ count (upto hi) l
+
+pub ends-moved : (l : List Float) (m lo hi : ℕ) → lo ≤ hi → hi ≤ 0x7FF0_0000_0000_0000 → count (under lo) l ≤ m → m < count (upto hi) l
+    → Moved l lo hi (leastFrom lo l) (greatestUnder (hi + 1) l)
+unfolding leastFrom leastOver greatestUnder greatestOver
+ends-moved l m lo hi o s b r =
+    let low = leastOver lo 0x7FF0_0000_0000_0000 l in
+    let high = greatestOver (hi + 1) 0 l in
+    let f = least-from lo 0x7FF0_0000_0000_0000 l (le-trans o s) in
+    let g = greatest-below (hi + 1) 0 l (omega arith) in
+    let u = least-under lo 0x7FF0_0000_0000_0000 l in
+    let v = count-mono (under lo) (under low) l (λ x t. under-wider lo low (toBits binary64 x) f t) in
+    let w = greatest-upto (hi + 1) 0 l in
+    let n = under-next hi l in
+    let z = count-mono (upto high) (upto hi) l (λ x t. le→leb (toBits binary64 x) hi (let q = leb→le (toBits binary64 x) high t in omega (arith, q, g))) in
+    record {
+      from = f;
+      to = omega (arith, g);
+      ordered = either low high (λ h. h) (λ h. absurd (let c = count-mono (upto high) (under low) l (λ x t. lesser (toBits binary64 x) high low (leb→le (toBits binary64 x) high t) h) in omega (arith, c, u, b, r, w, n)));
+      below = le-antisymm u v;
+      reached = le-antisymm z (omega (arith, w, n));
+    }
+  where
+    under-wider : (b r k : ℕ) → b ≤ r → T (not (leb b k)) → T (not (leb r k))
+    under-wider b r k h t = subst (λ (u : Bool). T (not u)) (sym (lt-leb r k (let g = nleb→lt b k t in omega arith))) tt
+
+    lesser : (k high low : ℕ) → k ≤ high → high < low → T (not (leb low k))
+    lesser k high low h g = subst (λ (u : Bool). T (not u)) (sym (lt-leb low k (omega arith))) tt
+
 -- ---- places
 
 -- where m are under b, the least from b on stands at place m
@@ -281,12 +336,17 @@ place-before : (l : List Float) (m b : ℕ) → AtPlace l m b → count (under b
 place-before l m b p h = let q = p .reached in record { small = p .small; below = omega arith; reached = omega arith }
 
 -- where m are under b, the greatest under b and the least from b on stand before place m and at it
-pub edges-stand : (l : List Float) → All Plain l → (m b : ℕ) → m < length l → b ≤ 0x7FF0_0000_0000_0000 → count (under b) l ≡ m → Middles l m (greatestUnder b l) (leastFrom b l)
+edges-stand : (l : List Float) → All Plain l → (m b : ℕ) → m < length l → b ≤ 0x7FF0_0000_0000_0000 → count (under b) l ≡ m → Middles l m (greatestUnder b l) (leastFrom b l)
 edges-stand l a m b h s e =
     record {
       upper = least-place l a m b (omega arith) e h;
       lower = λ p. greatest-place l (m - 1) b s (let z : m ≡ m - 1 + 1 = omega arith in e ∙ z);
     }
+
+-- the same of a range that is cut down so far
+pub edges-found : (l : List Float) → All Plain l → (m few lo hi below : ℕ) → Narrowed l m few lo hi below → m < length l → below ≡ m → (low high : ℕ)
+    → (low ≡ greatestUnder lo l) × (high ≡ leastFrom lo l) → Middles l m low high
+edges-found l a m few lo hi below p h e low high q = rw (q .0, q .1) (edges-stand l a m lo h (le-trans (p .ordered) (p .small)) (sym (p .is) ∙ e))
 
 -- what a range cut down to `few` is, where fewer than m are under it
 module _ (l : List Float) (m few lo hi below : ℕ) (p : Narrowed l m few lo hi below) (n : below ≡ m → ⊥) where

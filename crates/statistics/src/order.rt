@@ -9,7 +9,7 @@ ghost use lib.Ieee.{binary64, sub, toBits};
 ghost use Rattle.loops.specs.All.{All};
 ghost use Rattle.value.specs.Absolute.{absF};
 ghost use Rattle.statistics.specs.Medians.{anyNan, midpoint as midpointF, medianOf};
-ghost use Rattle.statistics.specs.Counting.{Plain, distances, one, count, upto, under, between, keep, Middles, Narrowed, nearer as nearerF, farther as fartherF};
+ghost use Rattle.statistics.specs.Counting.{Plain, distances, one, count, upto, under, between, keep, Middles, Narrowed, nearer as nearerF, farther as fartherF, leastFrom, greatestUnder};
 
 // The bits of ||x| − d|.
 fn key(x: f64, d: f64) -> u64
@@ -105,7 +105,7 @@ fn within(k: u64, lo: u64, hi: u64) -> u64
     hi - 1
 }
 
-// Where the range from lo to hi is cut: first at some number of the list, then by rank, each fourth time in half so that it shrinks soon whatever the
+// Where the range from lo to hi is cut: first (turn 0) at some number of the list, then by rank (1), and in half (2) so that it shrinks soon whatever the
 // numbers are; while hi is still +infinity, at four times lo. A bad cut costs a pass, no more.
 fn cut(first: u64, turn: u64, lo: u64, hi: u64, below: usize, upto: usize, m: usize) -> u64
     requires { ⌜ (lo < hi) × (hi ≤ 0x7FF0_0000_0000_0000) ⌝ }
@@ -114,13 +114,55 @@ fn cut(first: u64, turn: u64, lo: u64, hi: u64, below: usize, upto: usize, m: us
     if turn == 0 {
         return within(first, lo, hi);
     }
-    if turn == 4 {
+    if turn == 2 {
         return lo + (hi - lo) / 2;
     }
     if hi == 0x7FF0_0000_0000_0000 {
         return within(lo + 0x20_0000_0000_0000, lo, hi);
     }
     within(by_rank(lo, hi, below, upto, m), lo, hi)
+}
+
+// 1 where all in the range lie on one side of a cut, else 0.
+fn parts_none(below: usize, found: usize, upto: usize) -> usize
+    ensures { λ r. ⌜ r ≤ 1 ⌝ }
+{
+    if (found == below) | (found == upto) {
+        return 1;
+    }
+    0
+}
+
+// How to cut next: in half after a cut that left more than about three quarters of those in the range, but not twice running.
+fn next_turn(turn: u64, were: usize, left: usize) -> u64 {
+    if turn == 2 {
+        return 1;
+    }
+    if left / 3 > were / 4 {
+        return 2;
+    }
+    1
+}
+
+// The bits of two numbers.
+struct Pair {
+    low: u64,
+    high: u64,
+}
+
+// The greatest bits under b, and the least from lo on.
+fn edges(a: &[f64], n: usize, d: f64, lo: u64, b: u64) -> Pair
+    requires { ⌜ (n ≤ length (now a)) × All Plain (distances d (take n (now a))) ⌝ }
+    ensures { λ r. ⌜ (r .low ≡ greatestUnder b (distances d (take n (now (a .entry))))) × (r .high ≡ leastFrom lo (distances d (take n (now (a .entry))))) ⌝ }
+{
+    let mut low: u64 = 0;
+    let mut high: u64 = 0x7FF0_0000_0000_0000;
+    for i in 0..n {
+        let k = key(a[i], d);
+        low = farther(b, k, low);
+        high = nearer(lo, k, high);
+    }
+    Pair { low, high }
 }
 
 // A range that a place is looked for in: bits from lo to hi, and how many are under lo.
@@ -131,7 +173,8 @@ struct Range {
 }
 
 // Looks for place m, from 0. Its bits lie from lo to hi; `below` are under lo, `upto` up to hi. The range is cut until m are under lo, so that the least
-// from lo on stands at place m, or until lo is hi, which stands there itself, or until no more than `few` lie in it.
+// from lo on stands at place m, or until lo is hi, which stands there itself, or until no more than `few` lie in it. A cut that parts no numbers fell into
+// a gap between them: then both ends move to the next number, as they must where many are equal.
 fn narrow(a: &[f64], n: usize, d: f64, m: usize, few: usize) -> Range
     requires { ⌜ (n ≤ length (now a)) × All Plain (distances d (take n (now a))) × (m < n) ⌝ }
     ensures { λ r. ⌜ Narrowed (distances d (take n (now (a .entry)))) m few (r .lo) (r .hi) (r .below) ⌝ }
@@ -142,6 +185,7 @@ fn narrow(a: &[f64], n: usize, d: f64, m: usize, few: usize) -> Range
     let mut below: usize = 0;
     let mut upto: usize = n;
     let mut turn: u64 = 0;
+    let mut gap: usize = 0;
     while lo < hi {
         if below == m {
             return Range { lo, hi, below };
@@ -149,39 +193,27 @@ fn narrow(a: &[f64], n: usize, d: f64, m: usize, few: usize) -> Range
         if upto - below <= few {
             return Range { lo, hi, below };
         }
-        let mid = cut(first, turn, lo, hi, below, upto, m);
-        let found = count_upto(a, n, d, mid);
-        turn = turn % 4 + 1;
-        if m < found {
-            hi = mid;
-            upto = found;
+        if gap == 1 {
+            let e = edges(a, n, d, lo, hi + 1);
+            lo = e.high;
+            hi = e.low;
+            gap = 0;
         } else {
-            lo = mid + 1;
-            below = found;
+            let mid = cut(first, turn, lo, hi, below, upto, m);
+            let found = count_upto(a, n, d, mid);
+            gap = parts_none(below, found, upto);
+            if m < found {
+                turn = next_turn(turn, upto - below, found - below);
+                hi = mid;
+                upto = found;
+            } else {
+                turn = next_turn(turn, upto - below, upto - found);
+                lo = mid + 1;
+                below = found;
+            }
         }
     }
     Range { lo, hi, below }
-}
-
-// The bits of two numbers next to each other in order.
-struct Pair {
-    low: u64,
-    high: u64,
-}
-
-// The greatest bits under b and the least that are not, where m are under b.
-fn edges(a: &[f64], n: usize, d: f64, m: usize, b: u64) -> Pair
-    requires { ⌜ (n ≤ length (now a)) × All Plain (distances d (take n (now a))) × (m < n) × (b ≤ 0x7FF0_0000_0000_0000) × (count (under b) (distances d (take n (now a))) ≡ m) ⌝ }
-    ensures { λ r. ⌜ Middles (distances d (take n (now (a .entry)))) m (r .low) (r .high) ⌝ }
-{
-    let mut low: u64 = 0;
-    let mut high: u64 = 0x7FF0_0000_0000_0000;
-    for i in 0..n {
-        let k = key(a[i], d);
-        low = farther(b, k, low);
-        high = nearer(b, k, high);
-    }
-    Pair { low, high }
 }
 
 // The numbers at place m and before it. Where more than m are up to the bits at place m, and fewer than m under them, both are the same.
@@ -191,7 +223,7 @@ fn middles(a: &[f64], n: usize, d: f64, m: usize) -> Pair
 {
     let r = narrow(a, n, d, m, 0);
     if r.below == m {
-        return edges(a, n, d, m, r.lo);
+        return edges(a, n, d, r.lo, r.lo);
     }
     Pair {
         low: r.lo,
@@ -235,7 +267,7 @@ fn middles_of_many(a: &[f64], n: usize, d: f64, m: usize) -> Pair
 {
     let r = narrow(a, n, d, m, FEW);
     if r.below == m {
-        return edges(a, n, d, m, r.lo);
+        return edges(a, n, d, r.lo, r.lo);
     }
     if r.lo == r.hi {
         return Pair {

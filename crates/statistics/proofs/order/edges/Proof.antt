@@ -1,4 +1,4 @@
--- `statistics::order::edges` meets its contract. The invariant: low is the greatest under b and high the least from b on, so far.
+-- `statistics::order::edges` meets its contract. The invariant: low is the greatest under b and high the least from lo on, so far.
 use mathlib.Core.Path.{_≡_, refl}
 use Prim.Native.Nat.{_-_, _≤_, _<_}
 use native.Mathlib.Omega.{arith}
@@ -6,16 +6,16 @@ use borrow.Author.Needs.{needs}
 use lib.ListN.{length, take}
 use Rattle.loops.specs.Fold.{fold}
 use Rattle.statistics.specs.Counting.{distances, leastFrom, greatestUnder}
-use Rattle.statistics.proofs.Counts.{least-turn, greatest-turn, edges-stand}
-use Rattle.statistics.proofs.Deviations.{plain-at, length-distances}
+use Rattle.statistics.proofs.Counts.{least-turn, greatest-turn}
+use Rattle.statistics.proofs.Deviations.{plain-at}
 use Rattle.statistics.proofs.order.edges.Statement.{statement}
 use Rattle.statistics.proofs.order.edges.Tie as tie
 
 abbrev Inv-loop : tie.InvT-loop
-Inv-loop a n d m b low₀ high₀ i₀ low high i = (i ≤ n) × (low ≡ greatestUnder b (distances d (take i a))) × (high ≡ leastFrom b (distances d (take i a)))
+Inv-loop a n d lo b low₀ high₀ i₀ low high i = (i ≤ n) × (low ≡ greatestUnder b (distances d (take i a))) × (high ≡ leastFrom lo (distances d (take i a)))
 
 abbrev μ-loop : tie.MeasureT-loop
-μ-loop a n d m b low₀ high₀ i₀ low high i = n - i
+μ-loop a n d lo b low₀ high₀ i₀ low high i = n - i
 
 loop-holds : tie.Need-loop-holds Inv-loop μ-loop
 unfolding leastFrom greatestUnder fold distances
@@ -34,16 +34,14 @@ loop-again c =
     let k = c .before .before .key .ensures .0 in (
       omega arith,
       greatest-turn (s .args .d) (s .args .a .now) (at-loop .i) l _ k (s .args .b) _ _ (at-loop .inv .1) (c .before .farther .ensures),
-      least-turn (s .args .d) (s .args .a .now) (at-loop .i) l _ k (s .args .b) _ _ (at-loop .inv .2) (c .nearer .ensures),
+      least-turn (s .args .d) (s .args .a .now) (at-loop .i) l _ k (s .args .lo) _ _ (at-loop .inv .2) (c .nearer .ensures),
     )
 
 returns : tie.Need-returns Inv-loop μ-loop
 returns c =
     let s = c .before .before .before in
-    let l = distances (s .args .d) (take (s .args .n) (s .args .a .now)) in
-    let e = length-distances (s .args .d) (s .args .n) (s .args .a .now) (s .pre .0) in
     let z : c .before .loop .i ≡ s .args .n = omega arith in
-    rw (rw z at (c .before .loop .inv .1), rw z at (c .before .loop .inv .2)) (edges-stand l (s .pre .1) (s .args .m) (s .args .b) (rw e (s .pre .2)) (s .pre .3) (s .pre .4))
+    (rw z at (c .before .loop .inv .1), rw z at (c .before .loop .inv .2))
 
 pub edges-spec : {M : Type 1} → statement M
 edges-spec =
