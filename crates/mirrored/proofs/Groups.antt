@@ -29,7 +29,7 @@ use Rattle.mirrored.specs.SampleLaws.{rows-mirror, book-sums-mirror}
 use Rattle.mirrored.specs.Calls.{ByCall}
 use Rattle.mirrored.specs.CallLaws.{related-by-call}
 use Rattle.mirrored.specs.Groups.{MirrorShared, MirrorFed, MirrorGroupReply, MirrorLedger, heldBy, GroupImage, AnyGroupMirror}
-use Rattle.mirrored.specs.GroupLaws.{only-mirror, group-next-mirror, group-reply-mirror}
+use Rattle.mirrored.specs.GroupLaws.{only-mirror, surface-scores-mirror, group-next-mirror, group-reply-mirror}
 use Rattle.mirrored.specs.Flipped.{flipShared, SharedInBytes}
 use Rattle.mirrored.specs.FlippedLaws.{flip-shared-calls}
 use Rattle.mirrored.proofs.Strays.{start-length, strays}
@@ -86,6 +86,7 @@ group-mirror columns columns′ sums sums′ quota table table′ long done done
           ∙ sym (any-groups columns′ sums′ quota table′ done′ group one opens′ (take n ds) .1 .counter);
       samples = held;
       scores = λ n settings d. let e = held n in scored-mirror (settings .criterion) (book-sums-mirror e) (rows-mirror e) (rows-mirror e) (countOf Curve d);
+      surface-scores = surface-scores-mirror (only-mirror group p);
     }
   where
     held : (n : ℕ)

@@ -2,19 +2,24 @@
 -- every y, and what a group is replied. The theorem, `group-mirror`, is proved in proofs/Groups.antt, and so is `flipped-groups`, that every list of
 -- such calls has its mirror image. Definitions only.
 use mathlib.Core.Path.{_≡_}
+use mathlib.Core.Option.{Option, none, some}
 use mathlib.Core.List.{List}
 use Prim.Native.Nat.{ℕ, _<_}
 use lib.ListN.{length, take}
 use lib.Ieee.{Float}
 use Rattle.loops.specs.Fold.{fold}
 use Rattle.runs.specs.Runs.{replies, only, pick}
+use Rattle.basis.specs.Counts.{countOf}
+use Rattle.basis.specs.declared.Basis.the-variants.{Surface}
 use Rattle.statistics.specs.declared.Confidence.{Confidence}
 use Rattle.statistics.specs.declared.Tolerance.{Tolerance}
 use Rattle.samples.specs.Samples.{Sample}
 use Rattle.samples.specs.Columns.{Columns, samplesOf}
+use Rattle.choice.specs.declared.Scored.{Scored}
+use Rattle.fit.specs.Solved.{scoredBy}
 use Rattle.settings.specs.declared.Settings.{Settings}
 use Rattle.reporting.specs.declared.Places.{Places}
-use Rattle.surface.specs.Points.{PointColumns}
+use Rattle.surface.specs.Points.{Point, PointColumns, pointsOf, rowsOfPoints, surfaceSums}
 use Rattle.split.specs.declared.Places.{Places as SplitPlaces}
 use Rattle.book.specs.Calls.{bookOf, openOut}
 use Rattle.ledger.specs.Ledger.{Call, Reply, told, lentOf}
@@ -95,6 +100,33 @@ pub record MirrorLedger (g k : GroupLedger) : Type 0 where
   pub counter : g .counter ≡ k .counter
   pub quota : g .quota ≡ k .quota
 
+-- ---- a surface's reports
+
+-- what such a report is asked of: its settings and its samples
+pub record SurfaceReport : Type 0 where
+  pub settings : Settings
+  pub points : List Point
+
+-- of what a group is fed, the surface's reports, those that cost and those that do not
+abbrev pub surfaceReported : Fed → Option SurfaceReport
+surfaceReported (starts quota) = none
+surfaceReported renews = none
+surfaceReported (calls (books c)) = none
+surfaceReported (calls (surfaces (surfaceFits n degree columns scratch coefficients))) = none
+surfaceReported (calls (surfaces (surfaceReports n settings columns places))) = some (record { settings = settings; points = pointsOf n columns })
+surfaceReported (calls (surfaces (surfaceBands n x z degree confidence tolerance columns scratch))) = none
+surfaceReported (calls (costs (groupReports settings places))) = none
+surfaceReported (calls (costs (groupSurfaces n settings columns places))) = some (record { settings = settings; points = pointsOf n columns })
+surfaceReported (calls (costs (groupSplits settings places))) = none
+
+-- whether a total degree is solved, and its score: `scored` of crate `ledger`, of a surface's rows and sums
+abbrev pub surfaceScored : Settings → List Point → ℕ → Scored
+surfaceScored settings points d =
+    scoredBy (settings .criterion) (surfaceSums points) (rowsOfPoints points) (rowsOfPoints points) (countOf Surface d)
+
+abbrev pub SameScores : SurfaceReport → SurfaceReport → Type 0
+SameScores a b = (d : ℕ) → surfaceScored (a .settings) (a .points) d ≡ surfaceScored (b .settings) (b .points) d
+
 -- ---- what is claimed
 
 -- the samples that stand in a group's columns
@@ -115,6 +147,8 @@ pub record GroupImage (group : ℕ) (s t : Shared) (cs ds : List SharedCall) : T
   -- and of every degree whether it is solved, and its score, are equal.
   pub scores : (n : ℕ) (settings : Settings) (d : ℕ)
       → scored settings (heldBy group (fold sharedNext s (take n cs))) d ≡ scored settings (heldBy group (fold sharedNext t (take n ds))) d
+  -- So they are, of every total degree, in its surface's reports, report by report.
+  pub surface-scores : Pairs SameScores (only surfaceReported (only (mine group) cs)) (only surfaceReported (only (mine group) ds))
 
 -- Take two lists of starts, renewals and calls of all groups, refused ones included, in any order, alike but for the sign of every y, from books just
 -- opened and tables just started with the same quota, whose lent memory has the same lengths and held anything.
