@@ -41,17 +41,17 @@ use Rattle.mirrored.specs.Calls.{MirrorCall, MirrorReply, ByCall}
 
 -- a surface's samples come with its call: x and z are equal, and every y has its sign changed; all else is asked alike
 pub data MirrorSurface : SurfaceCall → SurfaceCall → Type 0 where
-  surfaceFitting : (n degree : ℕ) {c d : PointColumns} → MirrorPointColumns c d → (scratch coefficients : ℕ)
+  surfaceFitting : (n degree : ℕ) {c d : PointColumns} → MirrorPointColumns n c d → (scratch coefficients : ℕ)
       → MirrorSurface (surfaceFits n degree c scratch coefficients) (surfaceFits n degree d scratch coefficients)
-  surfaceReporting : (n : ℕ) (settings : Settings) {c d : PointColumns} → MirrorPointColumns c d → (places : Places)
+  surfaceReporting : (n : ℕ) (settings : Settings) {c d : PointColumns} → MirrorPointColumns n c d → (places : Places)
       → MirrorSurface (surfaceReports n settings c places) (surfaceReports n settings d places)
-  surfaceBanding : (n : ℕ) (x z : Float) (degree : ℕ) (confidence : Confidence) (tolerance : Tolerance) {c d : PointColumns} → MirrorPointColumns c d
+  surfaceBanding : (n : ℕ) (x z : Float) (degree : ℕ) (confidence : Confidence) (tolerance : Tolerance) {c d : PointColumns} → MirrorPointColumns n c d
       → (scratch : ℕ) → MirrorSurface (surfaceBands n x z degree confidence tolerance c scratch) (surfaceBands n x z degree confidence tolerance d scratch)
 
 -- calls that cost are asked alike
 pub data MirrorCost : CostCall → CostCall → Type 0 where
   groupReporting : (settings : Settings) (places : Places) → MirrorCost (groupReports settings places) (groupReports settings places)
-  groupSurfacing : (n : ℕ) (settings : Settings) {c d : PointColumns} → MirrorPointColumns c d → (places : Places)
+  groupSurfacing : (n : ℕ) (settings : Settings) {c d : PointColumns} → MirrorPointColumns n c d → (places : Places)
       → MirrorCost (groupSurfaces n settings c places) (groupSurfaces n settings d places)
   groupSplitting : (settings : Settings) (places : SplitPlaces) → MirrorCost (groupSplits settings places) (groupSplits settings places)
 
