@@ -4,7 +4,7 @@
 use mathlib.Core.Path.{_≡_}
 use mathlib.Core.Option.{Option, none, some}
 use mathlib.Core.List.{List}
-use Prim.Native.Nat.{ℕ, _<_}
+use Prim.Native.Nat.{ℕ, _≤_, _<_}
 use lib.ListN.{length, take}
 use lib.Ieee.{Float}
 use Rattle.loops.specs.Fold.{fold}
@@ -25,13 +25,12 @@ use Rattle.book.specs.Calls.{bookOf, openOut}
 use Rattle.ledger.specs.Ledger.{Call, Reply, told, lentOf}
 use Rattle.ledger.specs.ReadCalls.{ReadCall, Told}
 use Rattle.ledger.specs.Words.{scored}
-use Rattle.allowance.specs.Table.{groups, startOut}
+use Rattle.allowance.specs.Table.{groups, tablePlaces, counterOf, quotaOf}
 use Rattle.allowance.specs.declared.TableAnswer.{TableAnswer}
-use Rattle.allowance.specs.declared.TableAnswer.the-variants as answers
 use Rattle.groups.specs.Calls.{SurfaceCall, surfaceFits, surfaceReports, surfaceBands, CostCall, groupReports, groupSurfaces, groupSplits, GroupCall, books, surfaces, costs, GroupReply, tabled, replied}
 use Rattle.groups.specs.Ledger.{Fed, starts, renews, calls, GroupLedger}
 use Rattle.groups.specs.Shared.{Shared, SharedCall, startAll, renewAll, of, sharedNext, shared, mine, seenBy}
-use Rattle.groups.specs.Claims.{begun}
+use Rattle.groups.specs.Claims.{openedOn}
 use Rattle.mirror.specs.Pairs.{Pairs}
 use Rattle.mirrored.specs.Samples.{MirrorSamples, MirrorPointColumns}
 use Rattle.mirrored.specs.Replies.{MirrorTold, BySize}
@@ -150,13 +149,18 @@ pub record GroupImage (group : ℕ) (s t : Shared) (cs ds : List SharedCall) : T
   -- So they are, of every total degree, in its surface's reports, report by report.
   pub surface-scores : Pairs SameScores (only surfaceReported (only (mine group) cs)) (only surfaceReported (only (mine group) ds))
 
+-- two tables of one length that are the same to a number: its counter, where it is a group's, and the quota; its calls see no other place
+pub record SameTable (group : ℕ) (table table′ : List ℕ) : Type 0 where
+  pub long : length table ≡ length table′
+  pub counter : group < groups → counterOf table group ≡ counterOf table′ group
+  pub quota : quotaOf table ≡ quotaOf table′
+
 -- Take two lists of starts, renewals and calls of all groups, refused ones included, in any order, alike but for the sign of every y, from books just
--- opened and tables just started with the same quota, whose lent memory has the same lengths and held anything.
+-- opened, whose lent memory has the same lengths and held anything, and tables with the same counter and quota, such as two just started with one quota.
 abbrev pub AnyGroupMirror : Type 0
 AnyGroupMirror =
-    (columns columns′ : ℕ → Columns) (sums sums′ : ℕ → List Float) (quota : ℕ) (table table′ : List ℕ) → length table ≡ length table′
-    → startOut quota table .answer ≡ answers.Done → startOut quota table′ .answer ≡ answers.Done
-    → (group : ℕ) → lentOf (columns group) (sums group) ≡ lentOf (columns′ group) (sums′ group)
+    (columns columns′ : ℕ → Columns) (sums sums′ : ℕ → List Float) (table table′ : List ℕ) → tablePlaces ≤ length table
+    → (group : ℕ) → SameTable group table table′ → lentOf (columns group) (sums group) ≡ lentOf (columns′ group) (sums′ group)
     → openOut (sums group) .answer ≡ bookOf 0 → openOut (sums′ group) .answer ≡ bookOf 0
     → (cs ds : List SharedCall) → Pairs MirrorShared cs ds
-    → GroupImage group (begun columns sums quota table) (begun columns′ sums′ quota table′) cs ds
+    → GroupImage group (openedOn columns sums table) (openedOn columns′ sums′ table′) cs ds
