@@ -37,7 +37,8 @@ use Rattle.mirrored.specs.FlippedLaws.{flip-shared-calls}
 use Rattle.mirrored.proofs.Strays.{strays}
 
 -- What the program replies and holds of a number is what its ledger does, from a book that holds the ledger's samples and a table that has its quota and, of
--- a group, its counter.
+-- a group, its counter. Such is a book just opened (`opened-now`), a book in use (`whole-from` of crate `ledger`) and one that was carried over (`carried-holds`
+-- of crate `carried`).
 module _ (group : ℕ) (m : Lent) (rest : List Float) (s : Shared) (g : GroupLedger) where
   pub record Begins : Type 0 where
     pub long : tablePlaces ≤ length (s .table)
@@ -45,7 +46,7 @@ module _ (group : ℕ) (m : Lent) (rest : List Float) (s : Shared) (g : GroupLed
     pub counter : group < groups → counterOf (s .table) group ≡ g .counter
     pub quota : quotaOf (s .table) ≡ g .quota
 
-  record ByLedger (cs : List SharedCall) : Type 0 where
+  pub record ByLedger (cs : List SharedCall) : Type 0 where
     pub answered : pick (mine group) cs (replies shared s cs) ≡ replies (groupLedger group (length (s .table)) m) g (only (mine group) cs)
     pub held : heldBy group (fold sharedNext s cs) ≡ fold (groupNext group (length (s .table)) m) g (only (mine group) cs) .samples
     pub counter : group < groups → seenBy group (fold sharedNext s cs) .counter ≡ fold (groupNext group (length (s .table)) m) g (only (mine group) cs) .counter
@@ -70,7 +71,7 @@ module _ (group : ℕ) (m : Lent) (rest : List Float) (s : Shared) (g : GroupLed
         counter = λ l. counter l ∙ a .1 .counter;
       }
 
-  by-ledger : Begins → (cs : List SharedCall) → ByLedger cs
+  pub by-ledger : Begins → (cs : List SharedCall) → ByLedger cs
   by-ledger b cs = either groups group above below
     where
       below : group < groups → ByLedger cs
@@ -97,7 +98,7 @@ group-ledger-mirror group {n′} e m {g} {k} h p =
     (related-by-call (groupLedger group n′ m) (groupLedger group n′ m) MirrorLedger MirrorFed MirrorGroupReply
     (λ a b c d i q. (group-reply-mirror group n′ m i q, group-next-mirror group n′ m i q)) g k h p)
 
--- From any two such beginnings whose ledgers are mirrored: a book just opened is one, and so is a book in use, or one that was carried over.
+-- from any two such beginnings whose ledgers are mirrored
 module _ (group : ℕ) (m : Lent) (rest rest′ : List Float) (s t : Shared) (g k : GroupLedger) (b : Begins group m rest s g) (b′ : Begins group m rest′ t k)
     (long : length (s .table) ≡ length (t .table)) (h : MirrorLedger g k) where
   pub mirror-from : (cs ds : List SharedCall) → Pairs MirrorShared cs ds → GroupImage group s t cs ds

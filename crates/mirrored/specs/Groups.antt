@@ -99,14 +99,14 @@ pub record MirrorLedger (g k : GroupLedger) : Type 0 where
   pub counter : g .counter ≡ k .counter
   pub quota : g .quota ≡ k .quota
 
--- ---- a surface's reports
+-- ---- the reports of surfaces
 
--- what such a report is asked of: its settings and its samples
+-- the settings and the samples of one
 pub record SurfaceReport : Type 0 where
   pub settings : Settings
   pub points : List Point
 
--- of what a group is fed, the surface's reports, those that cost and those that do not
+-- of what a group is fed, the reports of surfaces, those that cost and those that do not
 abbrev pub surfaceReported : Fed → Option SurfaceReport
 surfaceReported (starts quota) = none
 surfaceReported renews = none
@@ -146,7 +146,7 @@ pub record GroupImage (group : ℕ) (s t : Shared) (cs ds : List SharedCall) : T
   -- and of every degree whether it is solved, and its score, are equal.
   pub scores : (n : ℕ) (settings : Settings) (d : ℕ)
       → scored settings (heldBy group (fold sharedNext s (take n cs))) d ≡ scored settings (heldBy group (fold sharedNext t (take n ds))) d
-  -- So they are, of every total degree, in its surface's reports, report by report.
+  -- So they are, of every total degree, in its reports of surfaces, report by report.
   pub surface-scores : Pairs SameScores (only surfaceReported (only (mine group) cs)) (only surfaceReported (only (mine group) ds))
 
 -- two tables of one length that are the same to a number: its counter, where it is a group's, and the quota; its calls see no other place
@@ -156,7 +156,8 @@ pub record SameTable (group : ℕ) (table table′ : List ℕ) : Type 0 where
   pub quota : quotaOf table ≡ quotaOf table′
 
 -- Take two lists of starts, renewals and calls of all groups, refused ones included, in any order, alike but for the sign of every y, from books just
--- opened, whose lent memory has the same lengths and held anything, and tables with the same counter and quota, such as two just started with one quota.
+-- opened, whose lent memory has the same lengths and held anything, and tables of nine places or more with the same counter and quota, such as two just
+-- started with one quota.
 abbrev pub AnyGroupMirror : Type 0
 AnyGroupMirror =
     (columns columns′ : ℕ → Columns) (sums sums′ : ℕ → List Float) (table table′ : List ℕ) → tablePlaces ≤ length table
