@@ -2,3 +2,4 @@
 pub mod Image
 pub mod Strays
 pub mod Groups
+pub mod Carried

@@ -24,6 +24,7 @@ use Rattle.signs.specs.OppositeLaws.{opposite-of}
 use Rattle.mirror.specs.Pairs.{Pairs, none, and}
 use Rattle.mirror.specs.Mirror.{Opposites}
 use Rattle.mirrored.specs.Samples.{MirrorSample, MirrorPointColumns}
+use Rattle.mirrored.specs.SampleLaws.{columns-mirror}
 use Rattle.mirrored.specs.Frames.{Flipped, SignsFlipped}
 use Rattle.mirrored.specs.FrameLaws.{frame-mirror}
 use Rattle.mirrored.specs.Calls.{adding, correcting, withdrawing, framing, writing, windowing, MirrorCall, changing, reading, MirrorCalls}
@@ -93,19 +94,19 @@ flip-ys : (l : List Float) → Opposites l (map neg l)
 flip-ys [] = none
 flip-ys (y ∷ l) = and (opposite-of y) (flip-ys l)
 
-flip-points : (c : PointColumns) → MirrorPointColumns c (flipPoints c)
-flip-points c = record { xs = refl; zs = refl; ys = flip-ys (c .ys) }
+flip-points : (n : ℕ) (c : PointColumns) → MirrorPointColumns n c (flipPoints c)
+flip-points n c = columns-mirror refl refl (flip-ys (c .ys)) n
 
 flip-surface : (q : SurfaceCall) → MirrorSurface q (flipSurface q)
 unfolding flipSurface
-flip-surface (surfaceFits n degree columns scratch coefficients) = surfaceFitting n degree (flip-points columns) scratch coefficients
-flip-surface (surfaceReports n settings columns places) = surfaceReporting n settings (flip-points columns) places
-flip-surface (surfaceBands n x z degree confidence tolerance columns scratch) = surfaceBanding n x z degree confidence tolerance (flip-points columns) scratch
+flip-surface (surfaceFits n degree columns scratch coefficients) = surfaceFitting n degree (flip-points n columns) scratch coefficients
+flip-surface (surfaceReports n settings columns places) = surfaceReporting n settings (flip-points n columns) places
+flip-surface (surfaceBands n x z degree confidence tolerance columns scratch) = surfaceBanding n x z degree confidence tolerance (flip-points n columns) scratch
 
 flip-cost : (q : CostCall) → MirrorCost q (flipCost q)
 unfolding flipCost
 flip-cost (groupReports settings places) = groupReporting settings places
-flip-cost (groupSurfaces n settings columns places) = groupSurfacing n settings (flip-points columns) places
+flip-cost (groupSurfaces n settings columns places) = groupSurfacing n settings (flip-points n columns) places
 flip-cost (groupSplits settings places) = groupSplitting settings places
 
 pub flip-shared : (c : SharedCall) → SharedInBytes c → MirrorShared c (flipShared c)

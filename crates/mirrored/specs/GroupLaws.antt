@@ -7,11 +7,13 @@ use Prim.Native.Nat.{ℕ}
 use lib.Dec.{eqb}
 use lib.ListN.{length}
 use Rattle.runs.specs.Runs.{frontOf, only}
+use Rattle.basis.specs.Counts.{countOf}
 use Rattle.basis.specs.declared.Basis.the-variants.{Curve, Surface}
 use Rattle.samples.specs.Samples.{Sample}
+use Rattle.settings.specs.declared.Settings.{Settings}
 use Rattle.fit.specs.declared.Choice.{Choice}
 use Rattle.report.specs.Limited.{withinPast}
-use Rattle.surface.specs.Points.{pointLengths}
+use Rattle.surface.specs.Points.{Point, pointLengths}
 use Rattle.surface.specs.Limited.{surfaceWithinPast}
 use Rattle.ledger.specs.Ledger.{Lent}
 use Rattle.allowance.specs.Table.{tableRefusal}
@@ -21,15 +23,16 @@ use Rattle.groups.specs.Ledger.{Fed, calls, GroupLedger, tableAnswer, refusedBy
 use Rattle.groups.specs.Shared.{SharedCall, mine}
 use Rattle.mirror.specs.Pairs.{Pairs, none, and}
 use Rattle.mirror.specs.PairLaws.{pairs-length}
+use Rattle.mirror.specs.FitLaws.{scored-mirror}
 use Rattle.mirror.specs.SplitLaws.{search-mirror}
-use Rattle.mirrored.specs.Samples.{MirrorSamples}
-use Rattle.mirrored.specs.SampleLaws.{rows-mirror, weights-mirror, book-sums-mirror, all-finite-mirror, point-rows-mirror, surface-sums-mirror, points-finite-mirror, points-of-mirror, point-lengths-mirror}
+use Rattle.mirrored.specs.Samples.{MirrorSamples, MirrorPoints}
+use Rattle.mirrored.specs.SampleLaws.{rows-mirror, weights-mirror, book-sums-mirror, all-finite-mirror, point-rows-mirror, surface-sums-mirror, points-finite-mirror}
 use Rattle.mirrored.specs.Replies.{MirrorTold, MirrorReport, MirrorSplit, fit, band, report, split, BySize}
 use Rattle.mirrored.specs.ReplyLaws.{settle-mirror, report-refused, split-refused, split-past-mirror, limited-mirror}
 use Rattle.mirrored.specs.ReadLaws.{report-choice-mirror}
 use Rattle.mirrored.specs.SurfaceLaws.{surface-fit-mirror, surface-report-mirror, surface-band-mirror, surface-choice-mirror}
 use Rattle.mirrored.specs.CallLaws.{next-mirror, reply-mirror}
-use Rattle.mirrored.specs.Groups.{MirrorSurface, surfaceFitting, surfaceReporting, surfaceBanding, MirrorCost, groupReporting, groupSurfacing, groupSplitting, ofBook, ofSurface, ofCost, MirrorShared, startingAll, renewingAll, made, MirrorFed, starting, renewing, calling, SurfaceBySize, CostBySize, MirrorGroupReply, startReply, renewReply, bookReply, surfaceReply, chargedReply, MirrorLedger}
+use Rattle.mirrored.specs.Groups.{MirrorSurface, surfaceFitting, surfaceReporting, surfaceBanding, MirrorCost, groupReporting, groupSurfacing, groupSplitting, ofBook, ofSurface, ofCost, MirrorShared, startingAll, renewingAll, made, MirrorFed, starting, renewing, calling, SurfaceBySize, CostBySize, MirrorGroupReply, startReply, renewReply, bookReply, surfaceReply, chargedReply, MirrorLedger, surfaceReported, surfaceScored, SameScores}
 
 -- ---- what a group is fed
 
@@ -51,11 +54,32 @@ module _ (group : ℕ) where
 pub surface-on-mirror : {c d : SurfaceCall} → MirrorSurface c d → MirrorTold (SurfaceBySize c) (surfaceOn c) (surfaceOn d)
 unfolding surfaceOn
 surface-on-mirror (surfaceFitting n degree {d} h scratch coefficients) =
-    rw (point-lengths-mirror h) (fit (surface-fit-mirror (points-of-mirror h n) n (pointLengths d) degree scratch coefficients))
+    rw (h .lengths) (fit (surface-fit-mirror (h .points) n (pointLengths d) degree scratch coefficients))
 surface-on-mirror (surfaceReporting n settings {d} h places) =
-    rw (point-lengths-mirror h) (report (surface-report-mirror (points-of-mirror h n) n (pointLengths d) settings places))
+    rw (h .lengths) (report (surface-report-mirror (h .points) n (pointLengths d) settings places))
 surface-on-mirror (surfaceBanding n x z degree confidence tolerance {d} h scratch) =
-    rw (point-lengths-mirror h) (band (surface-band-mirror (points-of-mirror h n) n (pointLengths d) x z degree confidence tolerance scratch))
+    rw (h .lengths) (band (surface-band-mirror (h .points) n (pointLengths d) x z degree confidence tolerance scratch))
+
+surface-scored-mirror : {ps qs : List Point} → MirrorPoints ps qs → (settings : Settings) (d : ℕ) → surfaceScored settings ps d ≡ surfaceScored settings qs d
+surface-scored-mirror p settings d =
+    let r = point-rows-mirror p in
+    scored-mirror (settings .criterion) (surface-sums-mirror p) r r (countOf Surface d)
+
+-- the reports among what a group is fed
+pub surface-scores-mirror : {fs gs : List Fed} → Pairs MirrorFed fs gs → Pairs SameScores (only surfaceReported fs) (only surfaceReported gs)
+unfolding only
+surface-scores-mirror none = none
+surface-scores-mirror (and (starting quota) p) = surface-scores-mirror p
+surface-scores-mirror (and renewing p) = surface-scores-mirror p
+surface-scores-mirror (and (calling (ofBook q)) p) = surface-scores-mirror p
+surface-scores-mirror (and (calling (ofSurface (surfaceFitting n degree h scratch coefficients))) p) = surface-scores-mirror p
+surface-scores-mirror (and (calling (ofSurface (surfaceReporting n settings h places))) p) =
+    and (surface-scored-mirror (h .points) settings) (surface-scores-mirror p)
+surface-scores-mirror (and (calling (ofSurface (surfaceBanding n x z degree confidence tolerance h scratch))) p) = surface-scores-mirror p
+surface-scores-mirror (and (calling (ofCost (groupReporting settings places))) p) = surface-scores-mirror p
+surface-scores-mirror (and (calling (ofCost (groupSurfacing n settings h places))) p) =
+    and (surface-scored-mirror (h .points) settings) (surface-scores-mirror p)
+surface-scores-mirror (and (calling (ofCost (groupSplitting settings places))) p) = surface-scores-mirror p
 
 -- ---- a call that costs, of any group number
 
@@ -64,7 +88,7 @@ module _ (group table : ℕ) (m : Lent) {l k : List Sample} (p : MirrorSamples l
   pub cost-refusal-mirror : {q r : CostCall} → MirrorCost q r → refusedBy group table m l q ≡ refusedBy group table m k r
   unfolding costRefusal groupReportRefusal groupSurfaceRefusal groupSplitRefusal
   cost-refusal-mirror (groupReporting settings places) = rw (pairs-length p, all-finite-mirror p)
-  cost-refusal-mirror (groupSurfacing n settings h places) = rw (point-lengths-mirror h, points-finite-mirror (points-of-mirror h n))
+  cost-refusal-mirror (groupSurfacing n settings h places) = rw (h .lengths, points-finite-mirror (h .points))
   cost-refusal-mirror (groupSplitting settings places) = rw (pairs-length p, all-finite-mirror p)
 
   -- the cost is equal
@@ -72,7 +96,7 @@ module _ (group table : ℕ) (m : Lent) {l k : List Sample} (p : MirrorSamples l
   unfolding costOf
   cost-mirror (groupReporting settings places) =
       rw (pairs-length p) (ap (λ (c : Choice). c .tests) (report-choice-mirror (book-sums-mirror p) p (length k) [] 0 settings))
-  cost-mirror (groupSurfacing n settings h places) = ap (λ (c : Choice). c .tests) (surface-choice-mirror (points-of-mirror h n) n [] settings)
+  cost-mirror (groupSurfacing n settings h places) = ap (λ (c : Choice). c .tests) (surface-choice-mirror (h .points) n [] settings)
   cost-mirror (groupSplitting settings places) = search-mirror (settings .bound) (settings .criterion) (weights-mirror p)
 
   -- and so is what is left of the counter
@@ -89,7 +113,7 @@ module _ (group table : ℕ) (m : Lent) {l k : List Sample} (p : MirrorSamples l
       (settle-mirror (MirrorReport (BySize settings)) r (limited-mirror Curve (book-sums-mirror p) (rows-mirror p) (length k) settings counter _)
       (report-refused (BySize settings) r)))
   cost-told-mirror counter (groupSurfacing n settings {d} h places) =
-      let q = points-of-mirror h n in
+      let q = h .points in
       let r = refusedBy group table m k (groupSurfaces n settings d places) in
       rw (cost-refusal-mirror (groupSurfacing n settings h places), surface-choice-mirror q n [] settings)
       (report

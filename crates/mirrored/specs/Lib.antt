@@ -12,6 +12,7 @@ pub mod CallLaws
 pub mod Image
 pub mod Groups
 pub mod GroupLaws
+pub mod Carried
 pub mod Flipped
 pub mod TextLaws
 pub mod FlippedLaws

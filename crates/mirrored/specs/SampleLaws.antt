@@ -15,12 +15,12 @@ use Rattle.monomial.specs.Rows.{rowOf, rowsOf, weightedOf, weightedRows}
 use Rattle.monomial.specs.Plain.{atOne}
 use Rattle.monomial.specs.Sums.{sumsOf}
 use Rattle.refusal.specs.Tests.{sampleFinite, allFinite, weightAbove, allAbove}
-use Rattle.surface.specs.Points.{Point, PointColumns, pointLengths, pointAt, pointsOf, xsIn, zsIn, rowOfPoint, rowsOfPoints, surfaceSums}
+use Rattle.surface.specs.Points.{Point, PointColumns, pointAt, pointsOf, xsIn, zsIn, rowOfPoint, rowsOfPoints, surfaceSums}
 use Rattle.surface.specs.Refusals.{pointFinite, pointsFinite}
 use Rattle.signs.specs.OppositeLaws.{opposite-nan}
 use Rattle.signs.specs.Steps.{finite-opposite}
 use Rattle.mirror.specs.PairLaws.{pairs-length, pairs-at, pairs-table, pairs-map, pairs-equal, pairs-all}
-use Rattle.mirror.specs.Mirror.{MirrorRow, MirrorRows, MirrorWeighted, MirrorWeights, MirrorSums}
+use Rattle.mirror.specs.Mirror.{MirrorRow, MirrorRows, MirrorWeighted, MirrorWeights, Opposites, MirrorSums}
 use Rattle.mirror.specs.SumLaws.{sums-mirror}
 use Rattle.mirrored.specs.Samples.{MirrorSample, MirrorSamples, MirrorPoint, MirrorPoints, MirrorPointColumns}
 
@@ -78,13 +78,13 @@ module _ {ps qs : List Point} (p : MirrorPoints ps qs) where
   pub points-finite-mirror : pointsFinite ps ≡ pointsFinite qs
   points-finite-mirror = pairs-all pointFinite pointFinite (λ a b h. rw (h .x, h .z, finite-opposite (h .y))) p
 
--- read off columns: the points, and the lengths that refusals judge
-module _ {c d : PointColumns} (h : MirrorPointColumns c d) where
-  pub points-of-mirror : (n : ℕ) → MirrorPoints (pointsOf n c) (pointsOf n d)
-  unfolding pointsOf
-  points-of-mirror n =
-      pairs-table (pointAt c) (pointAt d) n
-      (λ t l. record { x = ap (λ s. getD s t nan) (h .xs); z = ap (λ s. getD s t nan) (h .zs); y = pairs-at (h .ys) opposite-nan t })
-
-  pub point-lengths-mirror : pointLengths c ≡ pointLengths d
-  point-lengths-mirror = rw (h .xs, h .zs, pairs-length (h .ys))
+-- columns mirrored whole are so for every count
+pub columns-mirror : {c d : PointColumns} → c .xs ≡ d .xs → c .zs ≡ d .zs → Opposites (c .ys) (d .ys) → (n : ℕ) → MirrorPointColumns n c d
+unfolding pointsOf
+columns-mirror {c} {d} x z y n =
+    record {
+      points =
+          pairs-table (pointAt c) (pointAt d) n
+          (λ t l. record { x = ap (λ s. getD s t nan) x; z = ap (λ s. getD s t nan) z; y = pairs-at y opposite-nan t });
+      lengths = rw (x, z, pairs-length y);
+    }

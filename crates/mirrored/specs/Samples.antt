@@ -1,11 +1,11 @@
 -- Samples alike but for the sign of y, of a book and of a surface. Definitions only.
 use mathlib.Core.Path.{_≡_}
 use mathlib.Core.List.{List}
+use Prim.Native.Nat.{ℕ}
 use Rattle.samples.specs.Samples.{Sample}
-use Rattle.surface.specs.Points.{Point, PointColumns}
+use Rattle.surface.specs.Points.{Point, PointColumns, pointLengths, pointsOf}
 use Rattle.signs.specs.Opposite.{Opposite}
 use Rattle.mirror.specs.Pairs.{Pairs}
-use Rattle.mirror.specs.Mirror.{Opposites}
 
 pub record MirrorSample (p q : Sample) : Type 0 where
   pub x : p .x ≡ q .x
@@ -23,8 +23,8 @@ pub record MirrorPoint (p q : Point) : Type 0 where
 abbrev pub MirrorPoints : List Point → List Point → Type 0
 MirrorPoints ps qs = Pairs MirrorPoint ps qs
 
--- the columns that a surface's call is lent
-pub record MirrorPointColumns (c d : PointColumns) : Type 0 where
-  pub xs : c .xs ≡ d .xs
-  pub zs : c .zs ≡ d .zs
-  pub ys : Opposites (c .ys) (d .ys)
+-- The columns that a surface's call of n samples is lent: these samples are mirrored, and the lengths, which 1 judges, are equal. What stands past the
+-- count is free, since no call reads it.
+pub record MirrorPointColumns (n : ℕ) (c d : PointColumns) : Type 0 where
+  pub points : MirrorPoints (pointsOf n c) (pointsOf n d)
+  pub lengths : pointLengths c ≡ pointLengths d
