@@ -1,7 +1,7 @@
 -- A call that costs, by the ledger: when it gets 16, what is told of a report that is let through, and that work of at most the quota gets through.
 use mathlib.Core.Path.{_≡_, refl, sym, ap, subst, _∙_}
 use mathlib.Core.Bool.{Bool, true, false, cond}
-use mathlib.Core.List.{List, [], _∷_, _++_, List·Memᴰ, List·Memᴰ·head, List·Memᴰ·tail}
+use mathlib.Core.List.{List, [], _∷_, _++_, map, List·Memᴰ, List·Memᴰ·head, List·Memᴰ·tail}
 use Prim.Native.Nat.{ℕ, zero, suc, _+_, _-_, _≤_, _<_}
 use native.Mathlib.Omega.{arith}
 use borrow.Author.Tests.{ltb-true, ltb-false, lt-ltb, le-ltb}
@@ -10,7 +10,7 @@ use lib.ListN.{length}
 use lib.Ieee.{Float}
 use Rattle.loops.specs.Fold.{fold}
 use Rattle.runs.specs.Runs.{replies, along}
-use Rattle.runs.specs.RunLaws.{afforded, replies-at}
+use Rattle.runs.specs.RunLaws.{afforded, replies-at, length-replies}
 use Rattle.basis.specs.declared.Basis.{Basis}
 use Rattle.basis.specs.declared.OptionDegree.{OptionDegree}
 use Rattle.basis.specs.declared.OptionDegree.the-variants.{Some, None}
@@ -40,8 +40,8 @@ use Rattle.allowance.specs.Table.{tablePlaces, tableRefusal}
 use Rattle.allowance.specs.RefusalLaws.{group-report-numbers, group-split-numbers, group-surface-numbers}
 use Rattle.allowance.specs.Refusals.{groupReportRefusal, groupSurfaceRefusal, groupSplitRefusal}
 use Rattle.groups.specs.Calls.{CostCall, groupReports, groupSurfaces, groupSplits, GroupCall, books, surfaces, costs, costRefusal, costOf, costReply, leftOf}
-use Rattle.groups.specs.Ledger.{GroupLedger, calls, refusedBy, costing, costTold, groupNext, groupReply, groupLedger}
-use Rattle.groups.specs.Claims.{toldNumber, Costs, ReportLetThrough, afterCalls, costFor, ledgerOf, CostedIn, AnyCost, Refilled, GetsThrough}
+use Rattle.groups.specs.Ledger.{Fed, renews, GroupLedger, calls, refusedBy, costing, costTold, groupNext, groupReply, groupLedger}
+use Rattle.groups.specs.Claims.{toldNumber, Costs, ReportLetThrough, afterCalls, costFor, ledgerOf, CostedIn, AnyCost, Refilled, GetsThrough, RightAfter}
 use Rattle.groups.proofs.Tables.{long-table}
 use Rattle.groups.proofs.Ledgers.{any-table}
 
@@ -161,4 +161,50 @@ any-cost columns sums table long group one o cs before q after e =
           any-table columns sums table long group one o cs .answered ∙ ap (replies (groupLedger group n m) start) e
           ∙ replies-at (groupLedger group n m) start before (calls (costs q)) after;
       costs = costs-of group n m (g .counter) (g .samples) q;
+      words = λ settings places z. report-let-through group n m (g .counter) (g .samples) settings places;
+    }
+
+-- calls of the group alone, as calls that it is fed
+fed-calls : (group table : ℕ) (m : Lent) (g : GroupLedger) (cs : List GroupCall)
+    → fold (groupNext group table m) g (map (λ c. calls c) cs) ≡ fold (afterCalls group table m) g cs
+unfolding fold
+fed-calls group table m g [] = refl
+fed-calls group table m g (c ∷ cs) = fed-calls group table m (groupNext group table m g (calls c)) cs
+
+fold-behind : (group table : ℕ) (m : Lent) (g : GroupLedger) (cs ds : List Fed)
+    → fold (groupNext group table m) g (cs ++ ds) ≡ fold (groupNext group table m) (fold (groupNext group table m) g cs) ds
+unfolding fold
+fold-behind group table m g [] ds = refl
+fold-behind group table m g (c ∷ cs) ds = fold-behind group table m (groupNext group table m g c) cs ds
+
+renewed-then : (group table : ℕ) (m : Lent) (g : GroupLedger) (cs : List GroupCall)
+    → fold (groupNext group table m) g (renews ∷ map (λ c. calls c) cs) ≡ fold (afterCalls group table m) (groupNext group table m g renews) cs
+unfolding fold
+renewed-then group table m g cs = fed-calls group table m (groupNext group table m g renews) cs
+
+renewed-quota : (group table : ℕ) (m : Lent) (g : GroupLedger) → tablePlaces ≤ table → groupNext group table m g renews .counter ≡ groupNext group table m g renews .quota
+unfolding groupNext
+renewed-quota group table m g long = rw (long-table table long) refl
+
+pub right-after : RightAfter
+right-after columns sums table long group one o cs first before q after rest e h =
+    let m = lentOf (columns group) (sums group) in
+    let n = length table in
+    let start = ledgerOf group table in
+    let fed = first ++ (renews ∷ map (λ c. calls c) before) in
+    let g = groupNext group n m (fold (groupNext group n m) start first) renews in
+    let r = any-cost columns sums table long group one o cs fed q (map (λ c. calls c) after ++ rest) e in
+    let then : fold (groupNext group n m) start fed ≡ fold (afterCalls group n m) g before
+    = fold-behind group n m start first (renews ∷ map (λ c. calls c) before) ∙ renewed-then group n m (fold (groupNext group n m) start first) before in
+    let room : along (afterCalls group n m) (costFor group n m) g (before ++ (costs q ∷ after)) ≤ g .counter
+    = omega (arith, h, renewed-quota group n m (fold (groupNext group n m) start first) long) in
+    record {
+      earlier = replies (groupLedger group n m) start fed;
+      answer = costTold group n m (fold (groupNext group n m) start fed .counter) (fold (groupNext group n m) start fed .samples) q;
+      later = r .later;
+      long = length-replies (groupLedger group n m) start fed;
+      stands = r .stands;
+      through = λ z.
+          gets-through group n m g before q after room
+          (sym (ap (λ (k : GroupLedger). toldNumber (costTold group n m (k .counter) (k .samples) q)) then) ∙ z);
     }

@@ -135,6 +135,9 @@ pub record CostedIn (group table : ℕ) (m : Lent) (start : GroupLedger) (before
       ≡ replies (groupLedger group table m) start before
       ++ (replied (told (costTold group table m (fold (groupNext group table m) start before .counter) (fold (groupNext group table m) start before .samples) q)) ∷ later)
   pub costs : Costs group table m (fold (groupNext group table m) start before .counter) (fold (groupNext group table m) start before .samples) q
+  -- of a report that 16 and 17 let through demand 3's words hold
+  pub words : (settings : Settings) (places : Places) → q ≡ groupReports settings places
+      → ReportLetThrough group table m (fold (groupNext group table m) start before .counter) (fold (groupNext group table m) start before .samples) settings places
 
 -- each call that costs, in the run of all groups
 abbrev pub AnyCost : Type 0
@@ -170,3 +173,25 @@ GetsThrough =
     → along (afterCalls group table m) (costFor group table m) g (before ++ (costs q ∷ after)) ≤ g .counter
     → let then = fold (afterCalls group table m) g before in
     toldNumber (costTold group table m (then .counter) (then .samples) q) ≡ 16 → ⊥
+
+-- of the replies to what a group is fed, the one after so many is that of a call that costs, and not 16
+pub record LetThrough (place : ℕ) (all : List GroupReply) : Type 0 where
+  pub earlier : List GroupReply
+  pub answer : Told
+  pub later : List GroupReply
+  pub long : length earlier ≡ place
+  pub stands : all ≡ earlier ++ (replied (told answer) ∷ later)
+  pub through : toldNumber answer ≡ 16 → ⊥
+
+-- In the run of all groups: of a group's work right after a renewal, which costs at most the quota, no call gets 16, whatever the others call meanwhile. `first` is what the group was fed
+-- before the renewal.
+abbrev pub RightAfter : Type 0
+RightAfter =
+    (columns : ℕ → Columns) (sums : ℕ → List Float) (table : List ℕ) → tablePlaces ≤ length table → (group : ℕ) → group < groups
+    → openOut (sums group) .answer ≡ bookOf 0 → (cs : List SharedCall) (first : List Fed) (before : List GroupCall) (q : CostCall) (after : List GroupCall) (rest : List Fed)
+    → only (mine group) cs ≡ (first ++ (renews ∷ map (λ c. calls c) before)) ++ (calls (costs q) ∷ (map (λ c. calls c) after ++ rest))
+    → let m = lentOf (columns group) (sums group) in
+    let n = length table in
+    let g = groupNext group n m (fold (groupNext group n m) (ledgerOf group table) first) renews in
+    along (afterCalls group n m) (costFor group n m) g (before ++ (costs q ∷ after)) ≤ g .quota
+    → LetThrough (length (first ++ (renews ∷ map (λ c. calls c) before))) (pick (mine group) cs (replies shared (openedOn columns sums table) cs))

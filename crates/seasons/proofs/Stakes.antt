@@ -3,15 +3,18 @@ use mathlib.Core.Path.{_≡_, refl, ap, _∙_}
 use Prim.Native.Nat.{ℕ, zero, suc, _≤_, _<_}
 use native.Mathlib.Omega.{arith}
 use lib.ListN.{length, length-set}
-use Rattle.refusal.specs.Refusals.{settle}
+use borrow.Author.Tests.{le-leb}
+use mathlib.Core.List.{[], _∷_}
+use Rattle.refusal.specs.Refusals.{settle, firstOf, numbersOf, isAmong, those, InOrder}
 use Rattle.book.specs.Calls.{Out, State, stateAfter}
+use Rattle.ledger.specs.Ledger.{said, told}
 use Rattle.stakes.specs.Parts.{stakes}
 use Rattle.stakes.specs.PartLaws.{length-part}
-use Rattle.stakes.specs.Season.{SeasonState, stakeState, withStake, Sized, stakeRefusal}
+use Rattle.stakes.specs.Season.{SeasonState, stakeState, withStake, Sized, stakeTests, stakeRefusal, readStake}
 use Rattle.stakes.specs.SeasonLaws.{stake-below, stake-taken, own-stake, other-stake}
 use Rattle.season.specs.Changes.{SeasonOut, leftAlone, onStake}
-use Rattle.seasons.specs.Calls.{alters, looks, SeasonCall, names, seasonal, outBy, seasonNext}
-use Rattle.seasons.specs.Claims.{LeavesOthers}
+use Rattle.seasons.specs.Calls.{StakeCall, alters, looks, names, ofStake, byPart, outBy, readFrom, refusedTold, seasonNext, seasonReply}
+use Rattle.seasons.specs.Claims.{LeavesOthers, Strays}
 use Rattle.seasons.proofs.Lengths.{Long, long-by}
 
 -- a call on stake s of the season S, not refused, refused, and in either case
@@ -53,14 +56,49 @@ module _ (s : ℕ) (S : SeasonState) (call : State → Out) where
   pub on-counts : length (onStake s S call .season .counts) ≡ length (S .counts)
   on-counts = by-refusal (λ T. length (T .counts) ≡ length (S .counts)) refl (λ z. length-set (S .counts) s (left .count))
 
--- no call changes the number of counts
-pub counts-kept : (S : SeasonState) (c : SeasonCall) → length (seasonNext S c .counts) ≡ length (S .counts)
+-- no call that names a stake changes the number of counts
+pub counts-kept : (S : SeasonState) (s : ℕ) (c : StakeCall) → length (seasonNext S (names s c) .counts) ≡ length (S .counts)
 unfolding seasonNext
-counts-kept S (names s (alters c)) = on-counts s S (outBy c)
-counts-kept S (names s (looks q)) = refl
-counts-kept S (seasonal settings places) = refl
+counts-kept S s (alters c) = on-counts s S (outBy c)
+counts-kept S s (looks q) = refl
 
 pub leaves-others : LeavesOthers
 unfolding seasonNext
 leaves-others S s t (alters c) h ne = on-other s S (outBy c) (long-by c (stakeState s S)) t h ne
 leaves-others S s t (looks q) h ne = refl
+
+-- 18 and 1 stand in the checking order, and 18 before the numbers of every call of a book
+pub stake-in-order : (s n : ℕ) → InOrder (numbersOf (stakeTests s n))
+unfolding those isAmong
+stake-in-order s n = refl
+
+pub season-in-order : InOrder (18 ∷ 1 ∷ 2 ∷ 3 ∷ 13 ∷ 14 ∷ 4 ∷ 15 ∷ 5 ∷ 6 ∷ 7 ∷ 8 ∷ 9 ∷ 10 ∷ 16 ∷ 11 ∷ 12 ∷ [])
+unfolding those isAmong
+season-in-order = refl
+
+above-31 : (s n : ℕ) → stakes ≤ s → stakeRefusal s n ≡ 18
+unfolding stakeRefusal firstOf
+above-31 s n h = rw (le-leb stakes s h) refl
+
+-- a number above 31
+on-stray : (s : ℕ) (S : SeasonState) (call : State → Out) → stakes ≤ s → onStake s S call ≡ leftAlone 18 S
+unfolding onStake
+on-stray s S call h = rw (above-31 s (length (S .counts)) h)
+
+read-stray : {O : Type 0} (s : ℕ) (S : SeasonState) (call : State → O) (refused : ℕ → O) → stakes ≤ s → readStake s S call refused ≡ refused 18
+unfolding readStake
+read-stray s S call refused h = rw (above-31 s (length (S .counts)) h)
+
+stray-left : (S : SeasonState) (s : ℕ) → stakes ≤ s → (c : StakeCall) → seasonNext S (names s c) ≡ S
+unfolding seasonNext
+stray-left S s h (alters c) = ap (λ (o : SeasonOut). o .season) (on-stray s S (outBy c) h)
+stray-left S s h (looks q) = refl
+
+pub strays : Strays
+unfolding seasonReply
+strays S s h =
+    record {
+      changes = λ c. ap (λ (o : SeasonOut). ofStake (said (o .answer))) (on-stray s S (outBy c) h);
+      reads = λ q. ap (λ r. ofStake (told r)) (read-stray s S (readFrom (byPart q)) (refusedTold q) h);
+      season = stray-left S s h;
+    }

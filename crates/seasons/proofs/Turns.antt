@@ -1,7 +1,7 @@
 -- The season report, stake by stake: what the first b turns leave. Then the user's case.
 use mathlib.Core.Path.{_≡_, refl, sym, ap, ap₂, _∙_}
-use mathlib.Core.List.{List, map, _++_}
-use Prim.Native.Nat.{ℕ, zero, suc, _+_, _≤_, _<_}
+use mathlib.Core.List.{List, [], _∷_, map, _++_}
+use Prim.Native.Nat.{ℕ, zero, suc, _+_, _*_, _/_, _≤_, _<_}
 use native.Mathlib.Omega.{arith}
 use native.Mathlib.Numerals.{add-one}
 use native.Mathlib.Nat.{eq-or-lt-of-le}
@@ -13,24 +13,25 @@ use Rattle.loops.specs.FoldLaws.{fold-table}
 use Rattle.loops.specs.Loop.{from}
 use Rattle.loops.specs.LoopLaws.{last-from, done}
 use Rattle.loops.specs.Places.{each, table}
-use Rattle.loops.specs.PlaceLaws.{each-again, each-table, map-table, table-at, table-same}
+use Rattle.loops.specs.PlaceLaws.{each-again, each-table, length-table, map-table, table-at, table-same}
 use Rattle.lent.specs.Written.{over}
 use Rattle.settings.specs.declared.Settings.{Settings}
 use Rattle.refusal.specs.Refusals.{settle}
 use Rattle.reporting.specs.declared.Places.{Places}
+use Rattle.reporting.specs.declared.ReportAnswer.{ReportAnswer}
 use Rattle.reporting.specs.declared.ReportAnswer.the-variants as answers
 use Rattle.reporting.specs.Outputs.{Outputs, placesOf, overAll}
 use Rattle.reporting.specs.Reports.{ReportOut, refusedEarly}
 use Rattle.ledger.specs.Ledger.{corrects}
-use Rattle.stakes.specs.Parts.{stakes}
-use Rattle.stakes.specs.PartLaws.{length-over, over-own, over-other}
+use Rattle.stakes.specs.Parts.{stakes, size, partOf, overPart}
+use Rattle.stakes.specs.PartLaws.{length-over, over-own, over-other, over-rest}
 use Rattle.stakes.specs.Season.{SeasonState, stakeState, stakeRefusal, readStake}
 use Rattle.season.specs.Changes.{seasonOut}
 use Rattle.season_report.specs.declared.StakeReport.{StakeReport}
 use Rattle.season_report.specs.Reports.{partsOf, overParts, stakeReportOut, passes, Reported, toldOf, reportTurn, unreported, seasonReport, reportFrom}
 use Rattle.seasons.specs.Calls.{changing, reportAt, reportsOf, passedOf, outBy}
 use Rattle.seasons.specs.CallLaws.{report-is}
-use Rattle.seasons.specs.Claims.{EachReports, OneCorrected}
+use Rattle.seasons.specs.Claims.{restOf, EachReports, OneCorrected}
 use Rattle.seasons.proofs.Lengths.{long-by}
 use Rattle.seasons.proofs.Stakes.{on-other, on-counts}
 use Rattle.seasons.proofs.Written.{Fits, stake-fits}
@@ -85,6 +86,21 @@ module _ (s : ℕ) (h : s < stakes) (v w : Outputs) (f : Fits v (placesOf (parts
         outliers = length-over s (w .outliers) h (v .outliers) (f .outliers) j;
       }
 
+  rest-of : {A : Type 0} (l v : List A) → length v ≤ length (partOf s l) → drop (stakes * size (overPart s v l)) (overPart s v l) ≡ drop (stakes * size l) l
+  rest-of l v k = ap (λ (n : ℕ). drop (stakes * (n / stakes)) (overPart s v l)) (length-over s l h v k) ∙ over-rest s l h v k
+
+  rest-kept : restOf (overParts s v w) ≡ restOf w
+  rest-kept =
+      λ j. record {
+        scratch = rest-of (w .scratch) (v .scratch) (f .scratch) j;
+        coefficients = rest-of (w .coefficients) (v .coefficients) (f .coefficients) j;
+        errors = rest-of (w .errors) (v .errors) (f .errors) j;
+        pruned = rest-of (w .pruned) (v .pruned) (f .pruned) j;
+        lower = rest-of (w .lower) (v .lower) (f .lower) j;
+        upper = rest-of (w .upper) (v .upper) (f .upper) j;
+        outliers = rest-of (w .outliers) (v .outliers) (f .outliers) j;
+      }
+
 -- the same values written once more
 twice : {A : Type 0} (v l : List A) → over v (over v l) ≡ over v l
 twice {A} v l = ap (λ (r : List A). v ++ r) (drop-at v (drop (length v) l) (length v) refl)
@@ -100,6 +116,16 @@ twice-all v w =
       upper = twice (v .upper) (w .upper) j;
       outliers = twice (v .outliers) (w .outliers) j;
     }
+
+-- at most all are not refused
+passes-most : (a : ReportAnswer) → passes a ≤ 1
+passes-most (answers.Report d s o p) = omega arith
+passes-most (answers.Refused k) = omega arith
+
+passed-most : (os : List ReportOut) (n : ℕ) → fold (λ (m : ℕ) (o : ReportOut). m + passes (o .answer)) n os ≤ n + length os
+unfolding fold
+passed-most [] n = omega arith
+passed-most (o ∷ os) n = omega (arith, passes-most (o .answer), passed-most os (n + passes (o .answer)))
 
 -- ---- the turns
 
@@ -119,12 +145,13 @@ module _ (settings : Settings) (S : SeasonState) (w : Outputs) where
     pub reports : t .reports ≡ each (λ s _. tell s) b noReports
     pub passed : t .passed ≡ passedOf (table own b)
     pub places : placesOf (t .lent) ≡ placesOf w
+    pub rest : restOf (t .lent) ≡ restOf w
     pub later : (s : ℕ) → b ≤ s → s < stakes → partsOf s (t .lent) ≡ partsOf s w
     pub done : (s : ℕ) → s < b → s < stakes → partsOf s (t .lent) ≡ overAll (own s .written) (partsOf s w)
 
   turned-first : Turned 0 (unreported w)
   unfolding each table fold
-  turned-first = record { reports = refl; passed = refl; places = refl; later = λ s h k. refl; done = λ s h k. absurd (omega arith) }
+  turned-first = record { reports = refl; passed = refl; places = refl; rest = refl; later = λ s h k. refl; done = λ s h k. absurd (omega arith) }
 
   module _ (b : ℕ) (h : b < stakes) (t : Reported) (g : Turned b t) where
     abbrev now-told : ReportOut
@@ -158,6 +185,7 @@ module _ (settings : Settings) (S : SeasonState) (w : Outputs) where
               ap₂ (λ (n : ℕ) (o : ReportOut). n + passes (o .answer)) (g .passed) same
               ∙ sym (fold-table (λ (n : ℕ) (o : ReportOut). n + passes (o .answer)) 0 own b) ∙ ap (λ (k : ℕ). passedOf (table own k)) (add-one b);
           places = places-kept b h (now-told .written) (t .lent) fits ∙ g .places;
+          rest = rest-kept b h (now-told .written) (t .lent) fits ∙ g .rest;
           later = λ s k l. parts-other b h (now-told .written) (t .lent) fits s l (λ e. omega (arith, k, e)) ∙ g .later s (omega arith) l;
           done = done-by;
         }
@@ -189,6 +217,8 @@ module _ (settings : Settings) (S : SeasonState) (w : Outputs) where
         passed = all-turned .passed ∙ ap passedOf own-reports;
         answer = told-at;
         written = λ t h. all-turned .done t h h;
+        rest = all-turned .rest;
+        most = rw (all-turned .passed) (omega (arith, passed-most (table own stakes) 0, length-table own stakes));
       }
 
 -- ---- the user's case, for any season that is the same to stake t

@@ -25,7 +25,7 @@ use Rattle.ledger.specs.Ledger.{Change, Call, changes, reads, Reply, said, told
 use Rattle.ledger.specs.ReadCalls.{ReadCall, fits, validates, bands, reports, splits, losses, scores, Told, fitReply, bandReply, reportReply, splitReply, lossReply, scoresReply, readOn}
 use Rattle.stakes.specs.Parts.{stakes}
 use Rattle.stakes.specs.Season.{SeasonState, readStake}
-use Rattle.season.specs.Changes.{onStake, opens, carries}
+use Rattle.season.specs.Changes.{onStake, opens, carries, seasonOpenOut}
 use Rattle.season_report.specs.Reports.{passes}
 
 -- ---- calls
@@ -41,9 +41,10 @@ pub data StakeCall : Type 0 where
   alters : StakeChange → StakeCall
   looks : ReadCall → StakeCall
 
--- a call on a season: one that names a stake, or a season report. The lengths are those of memory lent whole.
+-- a call on a season: one that names a stake, the opening of all stakes, or a season report. The lengths are those of memory lent whole.
 pub data SeasonCall : Type 0 where
   names : ℕ → StakeCall → SeasonCall
+  opensAll : SeasonCall
   seasonal : Settings → Places → SeasonCall
 
 -- what comes back: of a call that names a stake what the book replies, of a season report each stake's report and the number of stakes not refused
@@ -132,11 +133,13 @@ passedOf os = fold (λ n (o : ReportOut). n + passes (o .answer)) 0 os
 unfoldable pub seasonNext : SeasonState → SeasonCall → SeasonState
 seasonNext S (names s (alters c)) = onStake s S (outBy c) .season
 seasonNext S (names s (looks q)) = S
+seasonNext S opensAll = seasonOpenOut S .season
 seasonNext S (seasonal settings places) = S
 
 unfoldable pub seasonReply : SeasonState → SeasonCall → SeasonReply
 seasonReply S (names s (alters c)) = ofStake (said (onStake s S (outBy c) .answer))
 seasonReply S (names s (looks q)) = ofStake (told (readSeason s S q))
+seasonReply S opensAll = ofStake (said (seasonOpenOut S .answer))
 seasonReply S (seasonal settings places) = ofSeason (reportsOf settings places S) (passedOf (reportsOf settings places S))
 
 abbrev pub seasonBook : Machine SeasonState SeasonCall SeasonReply
@@ -151,6 +154,7 @@ asPart (looks q) = looks (byPart q)
 
 unfoldable pub ownCall : ℕ → SeasonCall → Option StakeCall
 ownCall t (names s c) = cond (eqb s t) (some (asPart c)) none
+ownCall t opensAll = some (alters opening)
 ownCall t (seasonal settings places) = some (looks (reports settings (partPlaces places)))
 
 unfoldable pub ownReply : ℕ → SeasonReply → Reply Told

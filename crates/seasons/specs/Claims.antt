@@ -1,8 +1,8 @@
 -- What is claimed of a season book. The theorems are in proofs/. Definitions only.
 use mathlib.Core.Path.{_≡_}
 use mathlib.Core.List.{List, map}
-use Prim.Native.Nat.{ℕ, _≤_, _<_}
-use lib.ListN.{length, getD}
+use Prim.Native.Nat.{ℕ, _*_, _≤_, _<_}
+use lib.ListN.{length, getD, drop}
 use lib.Ieee.{Float}
 use Rattle.loops.specs.Fold.{fold}
 use Rattle.runs.specs.Runs.{replies as repliesOf, only, pick}
@@ -12,24 +12,35 @@ use Rattle.statistics.specs.declared.DegreeBound.{DegreeBound}
 use Rattle.statistics.specs.declared.Tolerance.{Tolerance}
 use Rattle.score.specs.declared.Criterion.{Criterion}
 use Rattle.settings.specs.declared.Settings.{Settings}
-use Rattle.book.specs.Calls.{bookOf}
+use Rattle.book.specs.declared.Answer.the-variants as answers
+use Rattle.book.specs.Calls.{bookOf, openOut}
 use Rattle.reporting.specs.Outputs.{Outputs, placesOf, overAll}
-use Rattle.ledger.specs.Ledger.{Call, corrects, programReplies, final, opened}
+use Rattle.ledger.specs.Ledger.{Call, said, told, corrects, programReplies, final, opened}
 use Rattle.ledger.specs.ReadCalls.{ReadCall, readOn}
 use Rattle.ledger.specs.Whole.{WholeBook}
-use Rattle.stakes.specs.Parts.{stakes, partOf, overPart}
+use Rattle.stakes.specs.Parts.{stakes, size, partOf, overPart}
 use Rattle.stakes.specs.Season.{SeasonState, stakeState}
 use Rattle.season.specs.Changes.{seasonOut, openStakeOut, seasonOpenOut}
 use Rattle.season_query.specs.Reads.{fitFrom, validateFrom, stakeFitOut, bandFrom, stakeBandOut, lossFrom, stakeLossOut, scoresFrom, stakeScoresOut, splitFrom, stakeSplitOut}
 use Rattle.season_report.specs.declared.StakeReport.{StakeReport}
 use Rattle.season_report.specs.Reports.{partsOf, overParts, stakeReportOut, Reported, toldOf, seasonReport}
-use Rattle.seasons.specs.Calls.{StakeCall, SeasonCall, names, asStake, ownBook, bookNext, seasonNext, seasonBook, reportsOf, passedOf, ownCall, ownReply}
+use Rattle.seasons.specs.Calls.{StakeChange, StakeCall, alters, looks, SeasonCall, names, ofStake, asStake, ownBook, bookNext, refusedTold, seasonNext, seasonReply, seasonBook, reportsOf, passedOf, ownCall, ownReply}
 
 -- ---- a call on one stake changes no count, column or sum of another
 
 abbrev pub LeavesOthers : Type 0
 LeavesOthers =
     (S : SeasonState) (s t : ℕ) (c : StakeCall) → t < stakes → (t ≡ s → ⊥) → stakeState t (seasonNext S (names s c)) ≡ stakeState t S
+
+-- ---- a stake number above 31 gets 18, before every other check, and changes nothing
+
+pub record Stray (S : SeasonState) (s : ℕ) : Type 0 where
+  pub changes : (c : StakeChange) → seasonReply S (names s (alters c)) ≡ ofStake (said (answers.Refused 18))
+  pub reads : (q : ReadCall) → seasonReply S (names s (looks q)) ≡ ofStake (told (refusedTold q 18))
+  pub season : (c : StakeCall) → seasonNext S (names s c) ≡ S
+
+abbrev pub Strays : Type 0
+Strays = (S : SeasonState) (s : ℕ) → stakes ≤ s → Stray S s
 
 -- ---- and a call that reads one stake writes no place of another's parts
 
@@ -54,6 +65,19 @@ ReadsLeaveOthers = (s t : ℕ) (S : SeasonState) → t < stakes → (t ≡ s →
 
 -- ---- a season report
 
+-- what is past the 32 parts
+abbrev pub restOf : Outputs → Outputs
+restOf w =
+    record {
+      scratch = drop (stakes * size (w .scratch)) (w .scratch);
+      coefficients = drop (stakes * size (w .coefficients)) (w .coefficients);
+      errors = drop (stakes * size (w .errors)) (w .errors);
+      pruned = drop (stakes * size (w .pruned)) (w .pruned);
+      lower = drop (stakes * size (w .lower)) (w .lower);
+      upper = drop (stakes * size (w .upper)) (w .upper);
+      outliers = drop (stakes * size (w .outliers)) (w .outliers);
+    }
+
 -- of the stakes together: each one's report on the memory as it was found
 pub record EachReports (settings : Settings) (S : SeasonState) (w : Outputs) : Type 0 where
   pub told : seasonReport settings S w .reports ≡ map (λ o. toldOf (o .answer)) (reportsOf settings (placesOf w) S)
@@ -61,6 +85,9 @@ pub record EachReports (settings : Settings) (S : SeasonState) (w : Outputs) : T
   -- stake t's answer, and its parts of the written memory, are those of its own report
   pub answer : (t : ℕ) → t < stakes → (d : StakeReport) → getD (seasonReport settings S w .reports) t d ≡ toldOf (stakeReportOut settings t S w .answer)
   pub written : (t : ℕ) → t < stakes → partsOf t (seasonReport settings S w .lent) ≡ overAll (stakeReportOut settings t S w .written) (partsOf t w)
+  -- the rest is nobody's, and at most 32 are not refused
+  pub rest : restOf (seasonReport settings S w .lent) ≡ restOf w
+  pub most : seasonReport settings S w .passed ≤ stakes
 
 -- ---- any list of calls
 
@@ -79,18 +106,24 @@ pub record StakeWhole (columns : Columns) (sums : List Float) (S : SeasonState) 
   pub book : stakeState t (fold seasonNext S cs) ≡ final (opened columns sums) ds
   pub whole : WholeBook columns sums ds
 
+-- wherever the stake is a book just opened, by the opening of all or by its own
+abbrev pub WholeStake : Type 0
+WholeStake =
+    (S : SeasonState) → stakes ≤ length (S .counts) → (t : ℕ) → t < stakes → (columns : Columns) (sums : List Float) → openOut sums .answer ≡ bookOf 0
+    → stakeState t S ≡ opened columns sums → (cs : List SeasonCall) (ds : List (Call ReadCall)) → only (ownCall t) cs ≡ map asStake ds
+    → StakeWhole columns sums S t cs ds
+
+-- after open_stake
+abbrev pub OpenedStake : Type 0
+OpenedStake =
+    (S : SeasonState) (t : ℕ) → openStakeOut t S .answer ≡ bookOf 0 → (cs : List SeasonCall) (ds : List (Call ReadCall)) → only (ownCall t) cs ≡ map asStake ds
+    → StakeWhole (λ k. partOf t (S .columns k)) (partOf t (S .sums)) (openStakeOut t S .season) t cs ds
+
 abbrev pub WholeStakes : Type 0
 WholeStakes =
     (S : SeasonState) → seasonOpenOut S .answer ≡ bookOf 0 → (t : ℕ) → t < stakes → (cs : List SeasonCall) (ds : List (Call ReadCall))
     → only (ownCall t) cs ≡ map asStake ds
     → StakeWhole (λ k. partOf t (S .columns k)) (partOf t (S .sums)) (seasonOpenOut S .season) t cs ds
-
--- the same from an opening of stake t alone, in any season and so after any calls
-abbrev pub WholeSince : Type 0
-WholeSince =
-    (S : SeasonState) (t : ℕ) → openStakeOut t S .answer ≡ bookOf 0 → (cs : List SeasonCall) (ds : List (Call ReadCall))
-    → only (ownCall t) cs ≡ map asStake ds
-    → StakeWhole (λ k. partOf t (S .columns k)) (partOf t (S .sums)) (openStakeOut t S .season) t cs ds
 
 -- ---- the user's case
 
