@@ -270,15 +270,19 @@ into-fits places o h = go (ltb places 3)
     go true = (omega arith, omega arith)
     go false = h
 
+pub band-out-fits : (n : ℕ) (x : Float) (degree : ℕ) (confidence : Confidence) (tolerance : Tolerance) (columns : Columns) (sums scratch : List Float)
+    → BandFits (bandOut n x degree confidence tolerance columns sums scratch .answer)
+unfolding bandFor bandPast
+band-out-fits n x degree confidence tolerance columns sums scratch =
+    let samples = samplesOf n columns in
+    out-settles (bandRefusal n x degree confidence tolerance samples (lengths columns) (length sums) (length scratch)) _
+    (omega (arith, among _ (band-numbers n samples (lengths columns) (length sums) (length scratch) x degree confidence tolerance)))
+    (band-settles (measureRefusal (take 272 sums) (rowsOf samples) (countOf Curve degree)) _ (measure-most _ _ _))
+
 pub band-fits : (n : ℕ) (x : Float) (degree : ℕ) (confidence : Confidence) (tolerance : Tolerance) (columns : Columns) (sums scratch : List Float) (places : ℕ)
     → BandFits (bandInto places (bandOut n x degree confidence tolerance columns sums scratch) .answer)
-unfolding bandFor bandPast
 band-fits n x degree confidence tolerance columns sums scratch places =
-    let samples = samplesOf n columns in
-    into-fits places _
-    (out-settles (bandRefusal n x degree confidence tolerance samples (lengths columns) (length sums) (length scratch)) _
-    (omega (arith, among _ (band-numbers n samples (lengths columns) (length sums) (length scratch) x degree confidence tolerance)))
-    (band-settles (measureRefusal (take 272 sums) (rowsOf samples) (countOf Curve degree)) _ (measure-most _ _ _)))
+    into-fits places _ (band-out-fits n x degree confidence tolerance columns sums scratch)
 
 -- ---- the report
 

@@ -12,3 +12,6 @@ pub mod SplitFitting
 pub mod ScoresFitting
 pub mod SurfaceFitting
 pub mod GroupFitting
+pub mod SeasonPacked
+pub mod SeasonFitting
+pub mod StakeFitting

@@ -38,7 +38,7 @@ unfolding LossFits
 settles zero good h g = g refl
 settles (suc k) good h g = (omega arith, h)
 
-into-fits : (places : ℕ) (o : LossOut) → LossFits (o .answer) → LossFits (lossInto places o .answer)
+pub into-fits : (places : ℕ) (o : LossOut) → LossFits (o .answer) → LossFits (lossInto places o .answer)
 unfolding lossInto LossFits
 into-fits places o h = go (ltb places 2)
   where
@@ -46,13 +46,15 @@ into-fits places o h = go (ltb places 2)
     go true = (omega arith, omega arith)
     go false = h
 
-pub loss-fits : (n : ℕ) (settings : Settings) (columns : Columns) (sums scratch losses : List Float) (places : ℕ)
-    → LossFits (lossInto places (lossOut n settings columns sums scratch losses) .answer)
+pub told-fits : (n : ℕ) (settings : Settings) (columns : Columns) (sums scratch losses : List Float) → LossFits (lossOut n settings columns sums scratch losses .answer)
 unfolding lossOn
-loss-fits n settings columns sums scratch losses places =
+told-fits n settings columns sums scratch losses =
     let samples = samplesOf n columns in
-    into-fits places _
-    (settles (lossRefusal n settings samples (lengths columns) (length sums) (length scratch) (length losses)) _
+    settles (lossRefusal n settings samples (lengths columns) (length sums) (length scratch) (length losses)) _
     (omega (arith, among _ (loss-numbers n settings samples (lengths columns) (length sums) (length scratch) (length losses))))
     (λ e.
-    past-fits n settings (rowsOf samples) (take 272 sums) (loss-room n settings samples (lengths columns) (length sums) (length scratch) (length losses) e .2)))
+    past-fits n settings (rowsOf samples) (take 272 sums) (loss-room n settings samples (lengths columns) (length sums) (length scratch) (length losses) e .2))
+
+pub loss-fits : (n : ℕ) (settings : Settings) (columns : Columns) (sums scratch losses : List Float) (places : ℕ)
+    → LossFits (lossInto places (lossOut n settings columns sums scratch losses) .answer)
+loss-fits n settings columns sums scratch losses places = into-fits places _ (told-fits n settings columns sums scratch losses)

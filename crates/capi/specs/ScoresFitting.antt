@@ -52,7 +52,7 @@ unfolding ScoresFits
 settles zero good h g = g refl
 settles (suc k) good h g = (omega arith, h)
 
-into-fits : (places : ℕ) (o : ScoresOut) → ScoresFits (o .answer) → ScoresFits (scoresInto places o .answer)
+pub into-fits : (places : ℕ) (o : ScoresOut) → ScoresFits (o .answer) → ScoresFits (scoresInto places o .answer)
 unfolding scoresInto ScoresFits
 into-fits places o h = go (ltb places 1)
   where
@@ -73,7 +73,7 @@ scores-fits n settings columns sums scratch solved told =
 
 -- ---- read back
 
-scores-read : (a : ScoresAnswer) → ScoresFits a → ScoresRead (packedScores a) a
+pub scores-read : (a : ScoresAnswer) → ScoresFits a → ScoresRead (packedScores a) a
 unfolding ScoresFits ScoresRead packedScores
 scores-read (scores.Scores d bound solved least tests) h =
     let hd : d .0 < 0x100 = omega (arith, h .0) in

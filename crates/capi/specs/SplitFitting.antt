@@ -34,7 +34,7 @@ unfolding SplitFits
 split-settles zero good scratch h g = g refl
 split-settles (suc k) good scratch h g = (omega arith, h)
 
-split-into : (places : ℕ) (o : SplitOut) → SplitFits (o .answer) → SplitFits (splitInto places o .answer)
+pub split-into : (places : ℕ) (o : SplitOut) → SplitFits (o .answer) → SplitFits (splitInto places o .answer)
 unfolding splitInto SplitFits
 split-into places o h = go (ltb places 1)
   where
