@@ -3,3 +3,4 @@ pub mod Parts
 pub mod PartLaws
 pub mod Season
 pub mod SeasonLaws
+pub mod RefusalLaws

@@ -1,5 +1,6 @@
 -- The season book of 32 stakes: what it keeps, a stake's book in it, and the tests of its own. Definitions only.
 use mathlib.Core.Path.{_≡_}
+use mathlib.Core.Bool.{_||_}
 use mathlib.Core.List.{List, [], _∷_}
 use Prim.Native.Nat.{ℕ, _/_}
 use lib.Dec.{ltb, leb}
@@ -42,6 +43,11 @@ stakeTests s counts = by (leb stakes s) 18 ∷ by (ltb counts stakes) 1 ∷ []
 
 unfoldable pub stakeRefusal : ℕ → ℕ → ℕ
 stakeRefusal s counts = firstOf (stakeTests s counts)
+
+-- with the tests of a call on the stake's parts, of which the first is 1
+abbrev pub seasonTests : ℕ → ℕ → List Refusal → List Refusal
+seasonTests s counts [] = []
+seasonTests s counts (short ∷ later) = by (leb stakes s) 18 ∷ by (ltb counts stakes || short .holds) 1 ∷ later
 
 -- of all 32 books to be opened: there are so many counts, and each stake's part of the sums has its 272 places
 abbrev pub seasonOpenTests : ℕ → ℕ → List Refusal
