@@ -639,8 +639,11 @@ const SEASON_AIM: f64 = 1.05;
 
 /// A season whose 32 stakes have so many samples each, on memory of just as many places.
 fn season_of(count: usize) -> Memory {
-    let ripple = Input::Ripple.samples(STAKES * count);
-    let stakes: Vec<&[Sample]> = ripple.chunks(count).collect();
+    let raised = |stake: usize| {
+        let raise = |s: Sample| Sample { y: s.y + stake as f64, ..s };
+        Input::Ripple.samples(count).into_iter().map(raise).collect::<Vec<_>>()
+    };
+    let stakes: Vec<Vec<Sample>> = (0..STAKES).map(raised).collect();
     let all = |of: fn(&Memory) -> &[f64]| -> Vec<f64> {
         stakes.iter().flat_map(|samples| of(&memory_of(samples)).to_vec()).collect()
     };
