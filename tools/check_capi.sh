@@ -1,6 +1,6 @@
 #!/usr/bin/env bash
 # The C interface: the static library, the C examples against the judge's answers, checks in C of what no list of calls reaches (frames read sample by
-# sample, a window, a replay, the calls of two columns, a book carried over from them), and the Rust wrapper's tests.
+# sample, a window, a replay, the calls of two columns, a book carried over from them, the stakes of a season), and the Rust wrapper's tests.
 set -euo pipefail
 cd "$(dirname "$0")/.."
 rt staticlib capi | tail -n 1

@@ -14,7 +14,7 @@ check() {
     cmp "$printed" "tests/$list.answers"
 }
 
-for list in edges season lines weights split windows losses scores surface groups fixed; do
+for list in edges season lines weights split windows losses scores surface groups glacier fixed; do
     check "$list"
     check "$list" --judge
     echo "journal: $list agrees, by the library and by the judge"

@@ -2,18 +2,22 @@
 //!
 //! Before a call is timed, port, judge and limit must have answered it alike. Where a side has no such call, its places are empty.
 
+use std::cell::RefCell;
 use std::mem::ManuallyDrop;
 use std::ptr;
 
 use journal::port::losses_into;
 use journal::{Answer, Call, Judge, Lent, Memory, Port, Side};
 use judge::fit::{Criterion, PruningRule, Settings};
+use judge::season::STAKES;
 use judge::statistics::{Confidence, DegreeBound, Tolerance};
 use judge::surface::SurfaceSample;
 use judge::Sample;
+use stakebook::sys;
 
 use crate::gsl;
 use crate::limit;
+use crate::memory::difference;
 use crate::random::Random;
 use crate::reference;
 use crate::samples::wild;
@@ -97,6 +101,7 @@ fn memory_of(samples: &[Sample]) -> Memory {
         solved: vec![0; 16],
         scores: vec![0.0; 16],
         table: Vec::new(),
+        counts: Vec::new(),
     }
 }
 
@@ -120,6 +125,7 @@ fn lent(memory: &mut Memory) -> Lent<'_> {
         solved: &mut memory.solved,
         scores: &mut memory.scores,
         table: &mut memory.table,
+        counts: &mut memory.counts,
     }
 }
 
@@ -627,6 +633,167 @@ fn print_surfaces() {
     }
 }
 
+/// Readings of each stake, and what is asked of a season report beside the single reports of its stakes.
+const STAKE_COUNT: usize = 100;
+const SEASON_AIM: f64 = 1.05;
+
+/// A season whose 32 stakes have so many samples each, on memory of just as many places.
+fn season_of(count: usize) -> Memory {
+    let raised = |stake: usize| {
+        let raise = |s: Sample| Sample { y: s.y + stake as f64, ..s };
+        Input::Ripple.samples(count).into_iter().map(raise).collect::<Vec<_>>()
+    };
+    let stakes: Vec<Vec<Sample>> = (0..STAKES).map(raised).collect();
+    let all = |of: fn(&Memory) -> &[f64]| -> Vec<f64> {
+        stakes.iter().flat_map(|samples| of(&memory_of(samples)).to_vec()).collect()
+    };
+    let floats = |places: usize| vec![0.0; STAKES * places];
+    Memory {
+        x: all(|memory| &memory.x),
+        y: all(|memory| &memory.y),
+        weight: all(|memory| &memory.weight),
+        sums: all(|memory| &memory.sums),
+        scratch: floats(count),
+        coefficients: floats(16),
+        errors: floats(16),
+        pruned: vec![0; STAKES * 16],
+        lower: floats(count),
+        upper: floats(count),
+        outlier: vec![0; STAKES * count],
+        counts: vec![count; STAKES],
+        ..memory_of(&[])
+    }
+}
+
+/// The season report, and the answers of its stakes.
+fn season_report(memory: &mut Memory, words: &[u32], values: &[f64]) -> (u64, [u64; STAKES]) {
+    let mut answers = [0; STAKES];
+    // SAFETY: the slices are initialised and apart.
+    let answered = unsafe {
+        sys::stakebook_season_report(
+            words.as_ptr(),
+            words.len(),
+            values.as_ptr(),
+            values.len(),
+            memory.counts.as_ptr(),
+            memory.counts.len(),
+            memory.x.as_ptr(),
+            memory.x.len(),
+            memory.y.as_ptr(),
+            memory.y.len(),
+            memory.weight.as_ptr(),
+            memory.weight.len(),
+            memory.sums.as_ptr(),
+            memory.sums.len(),
+            memory.scratch.as_mut_ptr(),
+            memory.scratch.len(),
+            memory.coefficients.as_mut_ptr(),
+            memory.coefficients.len(),
+            memory.errors.as_mut_ptr(),
+            memory.errors.len(),
+            memory.pruned.as_mut_ptr(),
+            memory.pruned.len(),
+            memory.lower.as_mut_ptr(),
+            memory.lower.len(),
+            memory.upper.as_mut_ptr(),
+            memory.upper.len(),
+            memory.outlier.as_mut_ptr(),
+            memory.outlier.len(),
+            answers.as_mut_ptr(),
+            answers.len(),
+        )
+    };
+    (answered, answers)
+}
+
+/// A stake's part.
+fn part<T>(whole: &mut [T], stake: usize) -> &mut [T] {
+    let places = whole.len() / STAKES;
+    &mut whole[stake * places..(stake + 1) * places]
+}
+
+/// The 32 single reports on the same parts, and how many are not refused.
+fn single_reports(memory: &mut Memory, words: &[u32], values: &[f64]) -> (u64, [u64; STAKES]) {
+    let mut answers = [0; STAKES];
+    for (stake, answer) in answers.iter_mut().enumerate() {
+        let count = memory.counts[stake];
+        let (x, y) = (part(&mut memory.x, stake), part(&mut memory.y, stake));
+        let (weight, sums) = (part(&mut memory.weight, stake), part(&mut memory.sums, stake));
+        let scratch = part(&mut memory.scratch, stake);
+        let coefficients = part(&mut memory.coefficients, stake);
+        let errors = part(&mut memory.errors, stake);
+        let pruned = part(&mut memory.pruned, stake);
+        let (lower, upper) = (part(&mut memory.lower, stake), part(&mut memory.upper, stake));
+        let outlier = part(&mut memory.outlier, stake);
+        // SAFETY: the slices are initialised and apart.
+        *answer = unsafe {
+            sys::stakebook_report_by(
+                count,
+                words.as_ptr(),
+                words.len(),
+                values.as_ptr(),
+                values.len(),
+                x.as_ptr(),
+                x.len(),
+                y.as_ptr(),
+                y.len(),
+                weight.as_ptr(),
+                weight.len(),
+                sums.as_ptr(),
+                sums.len(),
+                scratch.as_mut_ptr(),
+                scratch.len(),
+                coefficients.as_mut_ptr(),
+                coefficients.len(),
+                errors.as_mut_ptr(),
+                errors.len(),
+                pruned.as_mut_ptr(),
+                pruned.len(),
+                lower.as_mut_ptr(),
+                lower.len(),
+                upper.as_mut_ptr(),
+                upper.len(),
+                outlier.as_mut_ptr(),
+                outlier.len(),
+            )
+        };
+    }
+    let answered = answers.iter().filter(|answer| sys::refusal(**answer) == 0).count();
+    (answered as u64, answers)
+}
+
+/// A season report of 32 stakes beside 32 single reports on the same parts, which take turns.
+pub fn print_season() {
+    println!("\n### Seasons\n");
+    println!("| Call | readings a stake | season report, µs | 32 single reports, µs | season / single | aim, at most |");
+    println!("|---|---|---|---|---|---|");
+    for degree in BOUNDS {
+        let (words, values) = ([3, degree as u32, 0, 2, 0, 0], [0.0; 2]);
+        let memory = RefCell::new(season_of(STAKE_COUNT));
+        let told = season_report(&mut memory.borrow_mut(), &words, &values);
+        let season = memory.borrow().clone();
+        assert_eq!(told, single_reports(&mut memory.borrow_mut(), &words, &values));
+        assert_eq!(told.0, STAKES as u64, "every stake is reported");
+        assert!(difference(&season, &memory.borrow()).is_none(), "the same is written");
+        let sides: [Option<Timed>; 2] = [
+            Some(Box::new(|| {
+                black_box(season_report(&mut memory.borrow_mut(), &words, &values));
+            })),
+            Some(Box::new(|| {
+                black_box(single_reports(&mut memory.borrow_mut(), &words, &values));
+            })),
+        ];
+        let [season, single] = timing::best(sides, 3);
+        let ratio = season.and_then(|season| Some(season / single?));
+        println!(
+            "| season report, bound {degree} | {STAKE_COUNT} | {} | {} | {} | {SEASON_AIM} |",
+            shown(season),
+            shown(single),
+            shown_ratio(ratio)
+        );
+    }
+}
+
 /// The lines of a text that is timed: as many as fill a book.
 const LINES: usize = 4_096;
 
@@ -686,6 +853,7 @@ pub fn run() {
     print_losses();
     print_splits();
     print_surfaces();
+    print_season();
     print_lines();
     let missing = [
         (cells.iter().any(|cell| cell.times[GSL].is_some()), "GSL"),

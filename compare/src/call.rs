@@ -5,6 +5,8 @@ use judge::refusals::{self, Conditions, Lengths};
 use judge::surface::SurfaceSample;
 use judge::Sample;
 
+use crate::season::stake_conditions;
+
 /// A value written into the lent memory before a call, by someone other than the book.
 #[derive(Debug, Clone, Copy, PartialEq)]
 pub enum Poke {
@@ -14,12 +16,13 @@ pub enum Poke {
     Sums { at: usize, value: f64 },
     Z { at: usize, value: f64 },
     Table { at: usize, number: usize },
+    Counts { at: usize, number: usize },
 }
 
 impl Poke {
     /// Whether it is the book's memory: its columns and sums.
     pub fn is_the_books(&self) -> bool {
-        !matches!(self, Poke::Z { .. } | Poke::Table { .. })
+        !matches!(self, Poke::Z { .. } | Poke::Table { .. } | Poke::Counts { .. })
     }
 }
 
@@ -66,7 +69,32 @@ pub fn name(call: &Call) -> &'static str {
         Call::GroupReport { .. } => "group_report",
         Call::GroupSurfaceReport { .. } => "group_surface_report",
         Call::GroupSplit { .. } => "group_split",
+        Call::SeasonOpen => "season_open",
+        Call::Season { call, .. } => stake_name(call),
+        Call::SeasonReport(_) => "season_report",
         Call::Reader(_) => "reader",
+    }
+}
+
+/// How a stake's call is counted.
+fn stake_name(call: &Call) -> &'static str {
+    match call {
+        Call::Open => "season_open_stake",
+        Call::Add(_) => "season_add",
+        Call::AddWindow(_) => "season_add_window",
+        Call::Correct { .. } => "season_correct",
+        Call::Withdraw { .. } => "season_withdraw",
+        Call::AddFrame(_) => "season_add_frame",
+        Call::AddLines(_) => "season_add_lines",
+        Call::Carry => "season_carry",
+        Call::Fit { .. } => "season_fit",
+        Call::Report(_) => "season_report_stake",
+        Call::Split { .. } => "season_split",
+        Call::Losses(_) => "season_losses",
+        Call::Scores(_) => "season_scores",
+        Call::Validate { .. } => "season_validate",
+        Call::Band { .. } => "season_band",
+        other => panic!("a season has no {other}"),
     }
 }
 
@@ -115,6 +143,9 @@ pub fn conditions(
         Call::GroupSplit { group, settings } => {
             refusals::group_split(lengths, count, samples, *settings, *group)
         }
+        Call::SeasonOpen => refusals::season_open(lengths),
+        Call::Season { stake, call } => stake_conditions(*stake, call, lengths, count, samples),
+        Call::SeasonReport(_) => Vec::new(),
         Call::Reader(frame) => refusals::reader(frame),
     }
 }

@@ -22,6 +22,7 @@ use crate::lines;
 use crate::mirror;
 use crate::replay;
 use crate::run::{passes_nine, places_of_terms};
+use crate::season;
 use crate::split;
 use crate::surface;
 use crate::two_column;
@@ -56,6 +57,9 @@ pub struct Coverage {
     /// Calls compared with those of the mirror image.
     pub mirrored: u64,
     pub mirror_seconds: f64,
+    /// Calls of seasons.
+    pub season_calls: u64,
+    pub season_seconds: f64,
 }
 
 /// What each call may answer, besides being let through, in checking order.
@@ -289,6 +293,7 @@ impl Coverage {
         keys.extend(windows::events());
         keys.extend(surface::events());
         keys.extend(groups::events());
+        keys.extend(season::events());
         keys.extend(two_column::EVENTS.map(String::from));
         for (call, numbers) in two_column::REFUSALS {
             keys.push(format!("two columns: {call} answered"));
@@ -356,6 +361,28 @@ impl Coverage {
         for event in groups::happened(seen) {
             self.note(event);
         }
+    }
+
+    /// A call of a season's list, the conditions that held, and what else happened.
+    pub fn note_season(
+        &mut self,
+        call: &Call,
+        answer: &Answer,
+        conditions: &Conditions,
+        events: Vec<String>,
+    ) {
+        self.calls += 1;
+        if !season::is_season(call) {
+            return;
+        }
+        self.season_calls += 1;
+        let name = name(call);
+        self.note(match answer {
+            Answer::Refused(number) => format!("{name}: refused by {number}"),
+            _ => format!("{name}: answered"),
+        });
+        self.note_pairs(name, conditions);
+        events.into_iter().for_each(|event| self.note(event));
     }
 
     /// What happened in a list of several groups.

@@ -1,13 +1,14 @@
 //! Runs random lists of calls through the judge, the plain ledger, polyfit and the port, and compares
 //! every answer and every bit, NaNs as one value; lists of surfaces through the judge and the port; lists of
-//! several course groups through all of them, and for each group once more without the others. Judge and port also
-//! run the first of these lists beside their mirror images.
+//! several course groups through all of them, and for each group once more without the others; lists of a season's
+//! stakes through the judge and the port, and each stake once more by a book of its own. Judge and port also run the
+//! first of the lists of books, surfaces and groups beside their mirror images.
 //!
 //! `compare [--seed N] [--calls N] [--lists N]`: runs until so many calls were judged by polyfit, and
 //! at least so many lists. The seed is printed; `--seed clock` takes one from the clock. `--list N`
 //! runs one list only and prints it. `--write N` runs nothing and prints lists of N calls in the text
 //! form of docs/JOURNAL.md; `--journal FILE` runs the calls of such a text as one list. `--bench` times
-//! the calls instead, and `--limit N` holds the benchmark's limit against the port on N books.
+//! the calls instead, `--bench-season` season reports beside single ones alone, and `--limit N` holds the benchmark's limit against the port on N books.
 //!
 //! Fails on a difference, which it shrinks and prints, and where something that the runs must make
 //! never happened.
@@ -29,6 +30,7 @@ mod reference;
 mod replay;
 mod run;
 mod samples;
+mod season;
 mod shrink;
 mod split;
 mod surface;
@@ -58,6 +60,7 @@ struct Options {
     write: Option<u64>,
     journal: Option<String>,
     bench: bool,
+    bench_season: bool,
     limit: Option<u64>,
 }
 
@@ -70,12 +73,14 @@ fn options() -> Result<Options, String> {
         write: None,
         journal: None,
         bench: false,
+        bench_season: false,
         limit: None,
     };
     let mut arguments = std::env::args().skip(1);
     while let Some(name) = arguments.next() {
-        if name == "--bench" {
-            options.bench = true;
+        if name == "--bench" || name == "--bench-season" {
+            options.bench |= name == "--bench";
+            options.bench_season |= name == "--bench-season";
             continue;
         }
         let value = arguments.next().ok_or(format!("{name} needs a value"))?;
@@ -149,6 +154,18 @@ fn print_mirrored(course: &Course, side: &dyn Side) {
     }
 }
 
+/// The same of a list of a season's stakes.
+fn print_season(list: &List, difference: &Difference, sides: &[&dyn Side]) {
+    println!("step {}: {}", difference.step, difference.what);
+    let outcome = |list: &List| season::run(list, sides, &mut Coverage::default());
+    let smallest = shrink::shrink(list, |list| outcome(list).is_err());
+    println!("shrunk to:");
+    print_list(&smallest);
+    if let Err(difference) = outcome(&smallest) {
+        println!("step {}: {}", difference.step, difference.what);
+    }
+}
+
 /// The list beside its mirror image, by the judge and by the other sides; false at a difference.
 fn mirrored(course: &Course, sides: &[&dyn Side], coverage: &mut Coverage) -> bool {
     let (judge, start): (&dyn Side, _) = (&Judge, Instant::now());
@@ -200,6 +217,16 @@ fn run_all(options: &Options, sides: &[&dyn Side], coverage: &mut Coverage) -> b
                 return false;
             }
         }
+        if number % 16 == 6 {
+            let list = season::list(options.seed, number / 16);
+            let start = Instant::now();
+            if let Err(difference) = season::run(&list, sides, coverage) {
+                println!("seed {}, list {number}, season: DIFFERENCE", options.seed);
+                print_season(&list, &difference, sides);
+                return false;
+            }
+            coverage.season_seconds += start.elapsed().as_secs_f64();
+        }
         number += 1;
     }
     println!("{number} lists");
@@ -209,7 +236,12 @@ fn run_all(options: &Options, sides: &[&dyn Side], coverage: &mut Coverage) -> b
 /// Runs one list.
 fn run_list(list: &List, sides: &[&dyn Side]) -> ExitCode {
     let mut coverage = Coverage::default();
-    if let Err(difference) = run(list, sides, &mut coverage) {
+    if season::is_glacier(list) {
+        if let Err(difference) = season::run(list, sides, &mut coverage) {
+            print_season(list, &difference, sides);
+            return ExitCode::FAILURE;
+        }
+    } else if let Err(difference) = run(list, sides, &mut coverage) {
         print_failure(list, &difference, sides);
         return ExitCode::FAILURE;
     }
@@ -271,6 +303,10 @@ fn main() -> ExitCode {
         bench::run();
         return ExitCode::SUCCESS;
     }
+    if options.bench_season {
+        bench::print_season();
+        return ExitCode::SUCCESS;
+    }
     if let Some(books) = options.limit {
         return verify_limit(books, options.seed);
     }
@@ -302,6 +338,8 @@ fn finish(coverage: &Coverage, same: bool, start: Instant) -> ExitCode {
     }
     let (mirrored, seconds) = (coverage.mirrored, coverage.mirror_seconds);
     println!("{mirrored} calls beside those of mirror images, in {seconds:.1} s of it");
+    let (calls, seconds) = (coverage.season_calls, coverage.season_seconds);
+    println!("{calls} calls of seasons beside books of their stakes, in {seconds:.1} s of it");
     println!(
         "{} calls, {} of them judged by polyfit, in {:.1} s: {} difference, {} never happened",
         coverage.calls,

@@ -89,6 +89,7 @@ pub fn filled_for(contents: u64, lengths: &Lengths) -> Memory {
         solved: bytes(random, lengths.solved),
         scores: numbers(random, lengths.scores),
         table: whole_numbers(random, lengths.table),
+        counts: whole_numbers(random, lengths.counts),
     }
 }
 
@@ -101,6 +102,12 @@ pub fn poke(memory: &mut Memory, poke: Poke) {
         Poke::Z { at, value } => (&mut memory.z, at, value),
         Poke::Table { at, number } => {
             if let Some(place) = memory.table.get_mut(at) {
+                *place = number;
+            }
+            return;
+        }
+        Poke::Counts { at, number } => {
+            if let Some(place) = memory.counts.get_mut(at) {
                 *place = number;
             }
             return;

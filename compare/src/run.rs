@@ -618,6 +618,8 @@ fn check_writes(
     copy_table_places(call, answer, &mut expected, after);
     match answer {
         Answer::Refused(_) | Answer::Done | Answer::Band { .. } | Answer::Samples(_) => {}
+        // Of a list of its own.
+        Answer::Season { .. } => {}
         Answer::Book(new_count) => copy_book_places(call, count, *new_count, &mut expected, after),
         Answer::Degree(_) => {
             let terms = places_of_terms(call);

@@ -136,6 +136,13 @@ fn simpler_calls(call: &Call) -> Vec<Call> {
                 .map(|settings| Call::GroupSplit { group, settings })
                 .collect()
         }
+        Call::Season { stake, call } => {
+            let of = |call| Call::Season { stake: *stake, call: Box::new(call) };
+            simpler_calls(call).into_iter().map(of).collect()
+        }
+        Call::SeasonReport(settings) => {
+            simpler_settings(*settings).map(Call::SeasonReport).collect()
+        }
         _ => Vec::new(),
     }
 }

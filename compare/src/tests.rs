@@ -11,6 +11,7 @@ use crate::groups::{self, Course};
 use crate::mirror;
 use crate::replay::{self, Replays};
 use crate::run::run;
+use crate::season;
 use crate::shrink::shrink;
 use crate::surface;
 use crate::text;
@@ -42,6 +43,7 @@ fn again<'a>(lent: &'a mut Lent<'_>) -> Lent<'a> {
         solved: lent.solved,
         scores: lent.scores,
         table: lent.table,
+        counts: lent.counts,
     }
 }
 
@@ -233,6 +235,204 @@ fn lists_of_groups() {
         calls.iter().any(|call| key.starts_with(call))
     };
     let missing: Vec<String> = coverage.missing().into_iter().filter(of_groups).collect();
+    assert!(missing.is_empty(), "{missing:#?}");
+}
+
+/// The same among the lists of seasons.
+fn found_in_seasons(fault: Fault) -> List {
+    let side = Faulty(fault);
+    let fails = |list: &List| season::run(list, &[&side], &mut Coverage::default()).is_err();
+    let list = (1..400).map(|number| season::list(7, number)).find(|list| fails(list));
+    let smallest = shrink(&list.expect("the fault is found"), fails);
+    assert!(fails(&smallest));
+    smallest
+}
+
+/// The stake that a season's call names, if there is one, and the call.
+fn of_stake(call: &Call) -> Option<(usize, &Call)> {
+    match call {
+        Call::Season { stake, call } if *stake < 32 => Some((*stake, &**call)),
+        _ => None,
+    }
+}
+
+#[test]
+fn seasons_with_faults() {
+    let none = Faulty(|_, _, _, _, answer| answer);
+    for number in 0..60 {
+        let outcome = season::run(&season::list(7, number), &[&none], &mut Coverage::default());
+        assert!(outcome.is_ok(), "{number}: {outcome:?}");
+    }
+    let faults: [Fault; 14] = [
+        // The next stake's count goes along.
+        |call, _, lent, _, answer| {
+            if let (Some((stake @ 0..=30, _)), Answer::Book(count)) = (of_stake(call), &answer) {
+                lent.counts[stake + 1] = *count + 1;
+            }
+            answer
+        },
+        // 1 before 18.
+        |call, _, lent, _, answer| match call {
+            Call::Season { .. } if lent.counts.len() < 32 => Answer::Refused(1),
+            _ => answer,
+        },
+        // Stake 32 is told otherwise.
+        |call, _, _, _, answer| match call {
+            Call::Season { stake: 32, .. } => Answer::Refused(6),
+            _ => answer,
+        },
+        // The greatest number wraps around.
+        |call, _, _, _, answer| match call {
+            Call::Season { stake: usize::MAX, .. } => Answer::Refused(1),
+            _ => answer,
+        },
+        // What is nobody's is written.
+        |call, _, lent, _, answer| {
+            let rest = lent.coefficients.len() % 32 > 0;
+            if let (Some(_), Answer::Degree(_), true) = (of_stake(call), &answer, rest) {
+                lent.coefficients[lent.coefficients.len() - 1] = 0.5;
+            }
+            answer
+        },
+        // A season report ends at a stake that 11 refuses.
+        |_, _, _, _, answer| match answer {
+            Answer::Season { answered, mut stakes } => {
+                let by_11 = stakes.iter().position(|stake| *stake == Answer::Refused(11));
+                for stake in stakes.iter_mut().skip(by_11.unwrap_or(32)) {
+                    *stake = Answer::Refused(11);
+                }
+                Answer::Season { answered, stakes }
+            }
+            _ => answer,
+        },
+        // Refused stakes are counted too.
+        |_, _, _, _, answer| match answer {
+            Answer::Season { stakes, .. } => Answer::Season { answered: 32, stakes },
+            _ => answer,
+        },
+        // The last stake's count is left where the season is opened.
+        |call, _, lent, _, answer| {
+            if let (Call::SeasonOpen, Answer::Done) = (call, &answer) {
+                lent.counts[31] = 1;
+            }
+            answer
+        },
+        // The first sum of the next stake goes along.
+        |call, _, lent, _, answer| {
+            if let (Some((stake @ 0..=30, _)), Answer::Book(_)) = (of_stake(call), &answer) {
+                let part = lent.sums.len() / 32;
+                lent.sums[part * (stake + 1)] += 1.0;
+            }
+            answer
+        },
+        // All scratch is cleared.
+        |call, _, lent, _, answer| {
+            if let (Some((_, Call::Report(_))), Answer::Report { .. }) = (of_stake(call), &answer) {
+                lent.scratch.fill(0.0);
+            }
+            answer
+        },
+        // A count that is not kept, and one that is kept though the call is refused.
+        |call, _, lent, _, answer| {
+            if let (Some((stake, Call::Withdraw { .. })), Answer::Book(count)) =
+                (of_stake(call), &answer)
+            {
+                lent.counts[stake] = count + 1;
+            }
+            answer
+        },
+        |call, _, lent, _, answer| {
+            if let (Some((stake, _)), Answer::Refused(5)) = (of_stake(call), &answer) {
+                lent.counts[stake] += 1;
+            }
+            answer
+        },
+        // Losses, which are not cut, in a stake's part of them.
+        |call, _, lent, _, answer| {
+            if let (Some((stake, Call::Losses(_))), Answer::Losses { .. }) =
+                (of_stake(call), &answer)
+            {
+                let many = lent.losses.len();
+                lent.losses.rotate_right(stake.min(many));
+            }
+            answer
+        },
+        // The errors of another stake move with a correction.
+        |call, _, lent, _, answer| {
+            if let Some((stake, Call::Correct { .. })) = of_stake(call) {
+                let part = lent.errors.len() / 32;
+                if part > 0 {
+                    lent.errors[part * ((stake + 1) % 32)] += 1.0;
+                }
+            }
+            answer
+        },
+    ];
+    for (number, fault) in faults.into_iter().enumerate() {
+        let list = found_in_seasons(fault);
+        let outcome = season::run(&list, &[&Faulty(fault)], &mut Coverage::default());
+        // Fewer calls would leave other things in memory at first, counts too.
+        assert!(list.steps.len() <= 10, "{number}: {outcome:?} of {list:?}");
+    }
+}
+
+/// A side whose report of a stake hangs on another stake's y's, which no list without a correction shows.
+struct Leaks;
+
+impl Side for Leaks {
+    fn name(&self) -> &'static str {
+        "leaking"
+    }
+    fn make(&self, call: &Call, count: usize, mut lent: Lent) -> Answer {
+        let answer = Judge.make(call, count, again(&mut lent));
+        if let Call::SeasonReport(_) = call {
+            // The sum of all y's, of which one that is corrected is another.
+            let sum: f64 = lent.y.iter().filter(|y| y.is_finite()).map(|y| y.fract()).sum();
+            lent.lower.iter_mut().for_each(|lower| *lower = sum);
+        }
+        answer
+    }
+}
+
+/// Every list is the same when made again; some hundred of them bring all that must happen with seasons.
+#[test]
+fn lists_of_seasons() {
+    let mut coverage = Coverage::default();
+    for number in 0..800 {
+        let list = season::list(5, number);
+        assert!(format!("{list:?}") == format!("{:?}", season::list(5, number)), "{number}");
+        let outcome = season::run(&list, &[&Port], &mut coverage);
+        assert!(outcome.is_ok(), "{number}: {outcome:?}");
+    }
+    let of_season = |key: &String| key.starts_with("season");
+    let missing: Vec<String> = coverage.missing().into_iter().filter(of_season).collect();
+    assert!(missing.is_empty(), "{missing:#?}");
+    let leaks = |number| {
+        season::run(&season::list(5, number), &[&Leaks], &mut Coverage::default()).is_err()
+    };
+    assert!((0..40).any(leaks));
+}
+
+/// The list of a season in tests/: every call answered and refused by each of its numbers, and 18 before every
+/// other.
+#[test]
+fn text_of_a_season() {
+    let list = text::list_of(&file("glacier.calls"));
+    let mut coverage = Coverage::default();
+    let outcome = season::run(&list, &[&Port], &mut coverage);
+    assert!(outcome.is_ok(), "{outcome:?}");
+    let asked = |key: &String| {
+        let outcome = key.starts_with("season_") && !key.contains("greatest number");
+        outcome || key.contains("short of that") || key.contains("corrected")
+    };
+    let missing: Vec<String> = coverage.missing().into_iter().filter(asked).collect();
+    // Those that the list of plain calls and the comparison have.
+    let late = |key: &&String| {
+        [": refused by 10", ": refused by 11", ": refused by 12", ": refused by 8"]
+            .iter()
+            .any(|end| key.ends_with(end))
+    };
+    let missing: Vec<&String> = missing.iter().filter(|key| !late(key)).collect();
     assert!(missing.is_empty(), "{missing:#?}");
 }
 
@@ -749,14 +949,23 @@ fn missing_in(name: &str, asked: impl Fn(&str) -> bool) -> Vec<String> {
 #[test]
 fn texts_are_judged() {
     missing_in("edges.calls", |_| false);
-    // Every refusal of every call but lines, splits, windows, losses, scores, surfaces and groups, and every pair
+    // Every refusal of every call but lines, splits, windows, losses, scores, surfaces, groups and seasons, and every pair
     // in order. A text has no reader. 15 is met with the weights.
     let of_groups =
         |key: &str| ["group", "start", "renew"].iter().any(|call| key.starts_with(call));
     let refusal = |key: &str| {
         let refusal = key.contains(" before ") || key.contains(": refused by ");
-        let elsewhere =
-            ["reader", "add_lines", "add_window", "split", "losses", "scores", "surface", "length"];
+        let elsewhere = [
+            "reader",
+            "add_lines",
+            "add_window",
+            "split",
+            "losses",
+            "scores",
+            "surface",
+            "season",
+            "length",
+        ];
         let elsewhere = of_groups(key) || elsewhere.iter().any(|call| key.starts_with(call));
         refusal && !elsewhere && !key.contains("by polyfit")
     };
@@ -806,12 +1015,13 @@ fn texts_are_judged() {
     });
     assert!(missing.is_empty(), "{missing:?}");
     // Every call and refusal, by polyfit too, every setting and event; the pairs are the season's. It has no
-    // surfaces and no groups.
+    // surfaces, no groups and no stakes.
     let missing = missing_in("fixed.calls", |key| {
         let call = key.ends_with(": answered") || key.contains(": refused by ");
         let calls = ["report: ", "split: criterion", "split: bound", "validate: ", "band: "];
         let setting = calls.iter().any(|call| key.starts_with(call));
-        let elsewhere = key.starts_with("reader") || key.starts_with("surface") || of_groups(key);
+        let elsewhere = ["reader", "surface", "season"].iter().any(|call| key.starts_with(call));
+        let elsewhere = elsewhere || of_groups(key);
         (call || setting) && !elsewhere && !key.contains(": 1 before ")
     });
     assert!(missing.is_empty(), "{missing:?}");

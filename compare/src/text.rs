@@ -1,7 +1,7 @@
 //! Lists of calls in the text form of docs/JOURNAL.md: generated lists written, and any text read.
 
-use journal::memory::NAMES;
-use journal::request::{read, MEMORY, MOST_BYTES};
+use journal::memory::{MEMORY, NAMES};
+use journal::request::{read, MOST_BYTES};
 use journal::{Answer, Call, Journal, Judge, Name, Request};
 use judge::statistics::DegreeBound;
 use judge::sums::{PLACES, TERMS};
@@ -11,6 +11,7 @@ use crate::call::{List, Poke, Step};
 use crate::generate;
 use crate::groups::{is_group, without_group, Course};
 use crate::random::Random;
+use crate::season::is_season;
 use crate::surface::is_surface;
 
 /// The greatest whole number of the text.
@@ -81,7 +82,13 @@ fn written(call: &Call) -> Call {
             *folds = GREATEST.min(*folds);
             *bound = written_bound(*bound);
         }
-        Call::Open
+        Call::Season { stake, call } => {
+            *stake = GREATEST.min(*stake);
+            **call = written(call);
+        }
+        Call::SeasonReport(settings) => settings.bound = written_bound(settings.bound),
+        Call::SeasonOpen
+        | Call::Open
         | Call::Add(_)
         | Call::AddWindow(_)
         | Call::AddFrame(_)
@@ -126,6 +133,11 @@ impl Writer {
                     self.ask(Request::PutNumber { name: Name::Table, index, number });
                     continue;
                 }
+                Poke::Counts { at: index, number } => {
+                    let number = GREATEST.min(number);
+                    self.ask(Request::PutNumber { name: Name::Counts, index, number });
+                    continue;
+                }
                 Poke::X { at, value } => (Name::Xs, at, value),
                 Poke::Y { at, value } => (Name::Ys, at, value),
                 Poke::Weight { at, value } => (Name::Ws, at, value),
@@ -136,9 +148,12 @@ impl Writer {
         }
         let (mut lent, mut lengths) = (self.journal.lent(), step.lengths);
         for (name, _) in NAMES {
-            // Only a surface is lent z's, and only a group the table.
+            // Only a surface is lent z's, only a group the table, and only a season its counts.
             let lent_z = is_surface(&without_group(&step.call));
             if name == Name::Zs && !lent_z || name == Name::Table && !is_group(&step.call) {
+                continue;
+            }
+            if name == Name::Counts && !is_season(&step.call) {
                 continue;
             }
             let length = *name.length(&mut lengths);
@@ -225,7 +240,10 @@ pub fn list_of(text: &[u8]) -> List {
         };
         match request {
             Request::Put { name, index, value } => pokes.extend(poke_of(name, index, value)),
-            Request::PutNumber { index: at, number, .. } => pokes.push(Poke::Table { at, number }),
+            Request::PutNumber { name, index: at, number } => pokes.push(match name {
+                Name::Counts => Poke::Counts { at, number },
+                _ => Poke::Table { at, number },
+            }),
             Request::Row { index: at, sample: SurfaceSample { x, z, y } } => {
                 pokes.push(Poke::X { at, value: x });
                 pokes.push(Poke::Z { at, value: z });
@@ -237,8 +255,9 @@ pub fn list_of(text: &[u8]) -> List {
         if let Request::Call(call) = request {
             let (pokes, lengths) = (std::mem::take(&mut pokes), journal.lent());
             let answer = journal.call(&call);
-            steps.push(Step { pokes, count: forced, lengths, call });
-            if let Answer::Book(_) = answer {
+            let own = is_season(&call);
+            steps.push(Step { pokes, count: forced.filter(|_| !own), lengths, call });
+            if let (false, Answer::Book(_)) = (own, answer) {
                 forced = None;
             }
         } else {
@@ -250,9 +269,10 @@ pub fn list_of(text: &[u8]) -> List {
 
 fn zeros() -> Vec<Poke> {
     let names = [Name::Xs, Name::Ys, Name::Ws, Name::Sums, Name::Zs];
-    let zeros = |at| names.map(|name| poke_of(name, at, 0.0));
+    let zeros = |name: Name| (0..name.places()).filter_map(move |at| poke_of(name, at, 0.0));
     let table = (0..MEMORY).map(|at| Poke::Table { at, number: 0 });
-    (0..MEMORY).flat_map(zeros).flatten().chain(table).collect()
+    let counts = (0..MEMORY).map(|at| Poke::Counts { at, number: 0 });
+    names.into_iter().flat_map(zeros).chain(table).chain(counts).collect()
 }
 
 fn poke_of(name: Name, at: usize, value: f64) -> Option<Poke> {

@@ -1,5 +1,5 @@
 /* Checks of the C interface that no list of calls reaches: a frame read sample by sample, a window of the latest samples, a replay beside its single calls,
- * the calls of two columns beside those of three at weight 1, a book carried over from two columns to three, what a split, the losses and the scores write, a surface by its settings, and course groups that use up their allowance. What is expected is worked out by hand here, or is what
+ * the calls of two columns beside those of three at weight 1, a book carried over from two columns to three, what a split, the losses and the scores write, a surface by its settings, course groups that use up their allowance, and the stakes of a season. What is expected is worked out by hand here, or is what
  * the other calls leave. It prints what fails, and ends with 1 if anything does. */
 #include <math.h>
 #include <stdio.h>
@@ -580,6 +580,113 @@ static void check_groups(void) {
     CHECK(table[5] == 0 && table[4] == 30 && table[8] == 30 && before[1] > 0.9 && after[1] < -0.8);
 }
 
+/* A season of four readings a stake on memory that is no multiple of 32: what each call writes of a stake's parts and of nothing else, what is short beside a stake
+ * above 31, and a report of all stakes before and after one is corrected. The line of stake 31 is 1 + 2x, that of stake 0 is 5 - x with weights of 2 */
+#define PLACES(places, rest) (STAKEBOOK_STAKES * (places) + (rest))
+#define COLUMN PLACES(ROOM, 3)
+#define SEASON_SUMS PLACES(STAKEBOOK_SUMS, 31)
+#define SEASON_TERMS PLACES(STAKEBOOK_TERMS, 1)
+
+struct season {
+    size_t counts[STAKEBOOK_STAKES + 1];
+    double xs[COLUMN], ys[COLUMN], ws[COLUMN], sums[SEASON_SUMS], scratch[COLUMN];
+    double coefficients[SEASON_TERMS], errors[SEASON_TERMS], lower[COLUMN], upper[COLUMN];
+    uint8_t pruned[SEASON_TERMS], outliers[COLUMN];
+};
+
+static void check_season(void) {
+    static const uint32_t words[2] = {STAKEBOOK_CUSTOM_DEGREE, 1};
+    static const double values[1];
+    static struct season season, kept;
+    uint64_t answers[STAKEBOOK_STAKES + 1], before[STAKEBOOK_STAKES];
+    double numbers[STAKEBOOK_BAND + 1] = {7, 7, 7, 7}, losses[ROOM], scores[STAKEBOOK_TERMS], least[2] = {7, 7}, sides[2][STAKEBOOK_TERMS], total[2] = {7, 7};
+    uint8_t solved[STAKEBOOK_TERMS];
+    const uint64_t short_memory = (uint64_t)1 << 56, no_stake = (uint64_t)18 << 56;
+#define COUNTS season.counts, STAKEBOOK_STAKES
+#define KEPT season.xs, COLUMN, season.ys, COLUMN, season.ws, COLUMN, season.sums, SEASON_SUMS
+#define READ COUNTS, KEPT, season.scratch, COLUMN
+#define WRITTEN                                                                                                                                    \
+    season.coefficients, SEASON_TERMS, season.errors, SEASON_TERMS, season.pruned, SEASON_TERMS, season.lower, COLUMN, season.upper, COLUMN, \
+        season.outliers, COLUMN
+#define SEASON_REPORT(answers_len) stakebook_season_report(words, 2, values, 0, READ, WRITTEN, answers, answers_len)
+    for (size_t i = 0; i <= STAKEBOOK_STAKES; i++) season.counts[i] = 77, answers[i] = 77;
+    for (size_t i = 0; i < SEASON_SUMS; i++) season.sums[i] = 7;
+    /* an opening needs 32 counts and parts of 272 sums; it writes no 33rd count and nothing of what is nobody's */
+    CHECK(stakebook_season_open(season.counts, STAKEBOOK_STAKES - 1, season.sums, SEASON_SUMS) == short_memory);
+    CHECK(stakebook_season_open(COUNTS, season.sums, PLACES(STAKEBOOK_SUMS, 0) - 1) == short_memory && season.counts[0] == 77 && season.sums[0] == 7);
+    CHECK(stakebook_season_open(season.counts, STAKEBOOK_STAKES + 1, season.sums, SEASON_SUMS) == 0);
+    for (size_t i = 0; i < STAKEBOOK_STAKES; i++) CHECK(season.counts[i] == 0 && season.sums[i * STAKEBOOK_SUMS] == 0);
+    CHECK(season.counts[STAKEBOOK_STAKES] == 77 && season.sums[PLACES(STAKEBOOK_SUMS, 0) - 1] == 0 && season.sums[PLACES(STAKEBOOK_SUMS, 0)] == 7);
+
+    /* each stake's readings stand in its own places, and the count that is answered in its counts */
+    for (size_t i = 0; i < ROOM; i++) {
+        double x = (double)i;
+        CHECK(stakebook_season_add(31, x, 1 + 2 * x, 1, COUNTS, KEPT) == i + 1 && season.counts[31] == i + 1);
+        CHECK(stakebook_season_add(0, x, 5 - x, 2, COUNTS, KEPT) == i + 1 && season.counts[0] == i + 1);
+    }
+    CHECK(season.xs[1] == 1 && season.ys[1] == 4 && season.ws[1] == 2 && season.xs[31 * ROOM + 1] == 1 && season.ys[31 * ROOM + 1] == 3);
+    CHECK(season.xs[ROOM] == 0 && season.ws[30 * ROOM] == 0 && season.ws[PLACES(ROOM, 0)] == 0 && season.counts[1] == 0);
+    CHECK(season.sums[0] == 8 && season.sums[31 * STAKEBOOK_SUMS] == 4 && season.sums[30 * STAKEBOOK_SUMS] == 0);
+    CHECK(stakebook_season_add(0, 9, 9, 1, COUNTS, KEPT) == (uint64_t)5 << 56 && season.counts[0] == ROOM);
+    /* a full window slides, a withdrawal and a correction go back; frames and lines are the book's */
+    CHECK(stakebook_season_add_window(31, 4, 9, 1, COUNTS, KEPT) == ROOM && season.xs[31 * ROOM] == 1 && season.xs[31 * ROOM + 3] == 4);
+    CHECK(stakebook_season_withdraw(31, 3, COUNTS, KEPT) == 3 && season.counts[31] == 3);
+    CHECK(stakebook_season_add_lines(31, (const uint8_t *)"4 8\n", 4, COUNTS, KEPT) == 4 && stakebook_season_correct(31, 3, 9, COUNTS, KEPT) == 4);
+    CHECK(stakebook_season_add_frame(7, (const uint8_t *)"\0\1\2", 3, COUNTS, KEPT) == 0 && stakebook_season_carry(7, COUNTS, KEPT) == 0);
+
+    /* what a report does not write is lent for the call and not cut, and is not written past its places */
+    CHECK(stakebook_season_fit(31, 1, READ, season.coefficients, SEASON_TERMS) == 1 && season.coefficients[31 * STAKEBOOK_TERMS] == 1);
+    CHECK(season.coefficients[31 * STAKEBOOK_TERMS + 1] == 2 && season.coefficients[0] == 0 && season.coefficients[PLACES(STAKEBOOK_TERMS, 0)] == 0);
+    CHECK(stakebook_season_validate(0, 2, STAKEBOOK_CUSTOM_DEGREE, 1, STAKEBOOK_AIC, READ, season.coefficients, SEASON_TERMS) <= 1);
+    CHECK(stakebook_season_band(31, 2, 1, STAKEBOOK_P95, 0, STAKEBOOK_NO_TOLERANCE, NAN, READ, numbers, 4) == 0 && numbers[0] == 5 && numbers[3] == 7);
+    CHECK(stakebook_season_losses(31, words, 2, values, 0, READ, losses, ROOM, numbers, 2) == 1 && numbers[0] == 0 && numbers[3] == 7);
+    CHECK(stakebook_degree(stakebook_season_scores(31, words, 2, values, 0, READ, solved, 16, scores, 16, least, 2)) == 1 && solved[1] == 1 && least[1] == 7);
+    CHECK(stakebook_break(stakebook_season_split(31, words, 2, values, 0, SIZE_MAX, READ, sides[0], 16, sides[1], 16, total, 2)) == 2 && total[1] == 7);
+    /* 18 before every other number, also before the 1 of numbers, least and total; with no counts and no places nothing is touched */
+    const size_t above[3] = {STAKEBOOK_STAKES, 1000, SIZE_MAX};
+    memcpy(&kept, &season, sizeof kept);
+    for (size_t i = 0; i < 3; i++) {
+        size_t stake = above[i];
+        CHECK(stakebook_season_open_stake(stake, season.counts, 0, season.sums, 0) == no_stake);
+        CHECK(stakebook_season_add(stake, NAN, 0, 0, season.counts, 0, KEPT) == no_stake && stakebook_season_withdraw(stake, 9, COUNTS, KEPT) == no_stake);
+        CHECK(stakebook_season_add_frame(stake, (const uint8_t *)"", 0, COUNTS, KEPT) == no_stake);
+        CHECK(stakebook_season_band(stake, NAN, 99, 0, 0, 0, 0, READ, numbers, 0) == no_stake);
+        CHECK(stakebook_season_losses(stake, words, 2, values, 0, READ, losses, 0, numbers, 0) == no_stake);
+        CHECK(stakebook_season_scores(stake, words, 2, values, 0, READ, solved, 0, scores, 0, least, 0) == no_stake);
+        CHECK(stakebook_season_split(stake, words, 2, values, 0, 0, READ, sides[0], 0, sides[1], 0, total, 0) == no_stake);
+        CHECK(stakebook_season_report_stake(stake, words, 0, values, 0, READ, WRITTEN) == no_stake);
+    }
+    CHECK(stakebook_season_band(31, NAN, 99, 0, 0, 0, 0, READ, numbers, 2) == short_memory);
+    CHECK(stakebook_season_scores(31, words, 2, values, 0, READ, solved, 16, scores, 16, least, 0) == short_memory);
+    CHECK(stakebook_season_split(31, words, 2, values, 0, 0, READ, sides[0], 16, sides[1], 16, total, 0) == short_memory);
+    /* so is a season report with 31 places for its answers */
+    CHECK(SEASON_REPORT(STAKEBOOK_STAKES - 1) == short_memory && answers[0] == 77 && memcmp(&kept, &season, sizeof kept) == 0);
+
+    /* 32 answers and none past them: two stakes have readings, the others get 7 */
+    CHECK(SEASON_REPORT(STAKEBOOK_STAKES + 1) == 2 && answers[STAKEBOOK_STAKES] == 77);
+    for (size_t i = 0; i < STAKEBOOK_STAKES; i++) CHECK(stakebook_refusal(answers[i]) == (i == 0 || i == 31 ? 0 : 7));
+    CHECK(answers[31] == stakebook_season_report_stake(31, words, 2, values, 0, READ, WRITTEN) && stakebook_degree(answers[31]) == 1);
+    CHECK(season.coefficients[0] == 5 && season.coefficients[1] == -1 && season.coefficients[31 * STAKEBOOK_TERMS + 1] == 2);
+    CHECK(season.upper[31 * ROOM] == 3 && season.upper[ROOM] == 0 && season.lower[PLACES(ROOM, 0)] == 0);
+    /* fewer counts than stakes: 1 for each, and nothing is written */
+    memcpy(before, answers, sizeof before);
+    memcpy(&kept, &season, sizeof kept);
+    CHECK(stakebook_season_report(words, 2, values, 0, season.counts, STAKEBOOK_STAKES - 1, KEPT, season.scratch, COLUMN, WRITTEN, answers, STAKEBOOK_STAKES) == 0);
+    for (size_t i = 0; i < STAKEBOOK_STAKES; i++) CHECK(answers[i] == short_memory);
+    CHECK(memcmp(&kept, &season, sizeof kept) == 0);
+    /* one stake corrected between two reports: the others' answers and parts keep their bits */
+    CHECK(stakebook_season_correct(0, 2, 40, COUNTS, KEPT) == ROOM && SEASON_REPORT(STAKEBOOK_STAKES) == 2);
+    CHECK(memcmp(answers + 1, before + 1, 31 * sizeof *answers) == 0 && season.coefficients[0] != kept.coefficients[0]);
+    CHECK(same_numbers(season.coefficients + STAKEBOOK_TERMS, kept.coefficients + STAKEBOOK_TERMS, SEASON_TERMS - STAKEBOOK_TERMS));
+    CHECK(same_numbers(season.errors + STAKEBOOK_TERMS, kept.errors + STAKEBOOK_TERMS, SEASON_TERMS - STAKEBOOK_TERMS));
+    CHECK(same_numbers(season.lower + ROOM, kept.lower + ROOM, COLUMN - ROOM) && same_numbers(season.upper + ROOM, kept.upper + ROOM, COLUMN - ROOM));
+    CHECK(same_numbers(season.sums + STAKEBOOK_SUMS, kept.sums + STAKEBOOK_SUMS, SEASON_SUMS - STAKEBOOK_SUMS));
+    CHECK(memcmp(season.outliers + ROOM, kept.outliers + ROOM, COLUMN - ROOM) == 0);
+    /* one stake opened, and the others stay */
+    CHECK(stakebook_season_open_stake(0, COUNTS, season.sums, SEASON_SUMS) == 0 && season.counts[0] == 0 && season.counts[31] == ROOM);
+    CHECK(SEASON_REPORT(STAKEBOOK_STAKES) == 1 && answers[0] == (uint64_t)7 << 56 && answers[31] == before[31]);
+}
+
 int main(void) {
     check_surface();
     check_weights();
@@ -591,6 +698,7 @@ int main(void) {
     check_split_and_losses();
     check_scores();
     check_groups();
+    check_season();
     printf("C interface: %d checks, %d failed\n", checks, failures);
     return failures != 0;
 }

@@ -163,6 +163,39 @@ static void group_split(void) {
     stakebook_group_split(0, count, words, 2, no_values, 0, xs, ROOM, ys, ROOM, ws, ROOM, sums, STAKEBOOK_SUMS, scratch, ROOM, coefficients,
                           STAKEBOOK_TERMS, errors, STAKEBOOK_TERMS, numbers, 1, table, STAKEBOOK_TABLE);
 }
+/* a season book, of which stake 31 has the book's readings and the others none */
+#define WHOLE (STAKEBOOK_STAKES * ROOM)
+static size_t counts[STAKEBOOK_STAKES];
+static double all_xs[WHOLE], all_ys[WHOLE], all_ws[WHOLE], all_sums[STAKEBOOK_STAKES * STAKEBOOK_SUMS], all_scratch[WHOLE], all_lower[WHOLE], all_upper[WHOLE];
+static double all_coefficients[STAKEBOOK_STAKES * STAKEBOOK_TERMS], all_errors[STAKEBOOK_STAKES * STAKEBOOK_TERMS];
+static uint8_t all_pruned[STAKEBOOK_STAKES * STAKEBOOK_TERMS], all_outliers[WHOLE];
+static uint64_t answers[STAKEBOOK_STAKES];
+static const uint32_t up_to_15[] = {STAKEBOOK_CUSTOM_DEGREE, 15};
+#define SEASON counts, STAKEBOOK_STAKES, all_xs, WHOLE, all_ys, WHOLE, all_ws, WHOLE, all_sums, STAKEBOOK_STAKES * STAKEBOOK_SUMS
+#define SEASON_READ SEASON, all_scratch, WHOLE
+#define SEASON_WRITTEN                                                                                                                             \
+    all_coefficients, STAKEBOOK_STAKES *STAKEBOOK_TERMS, all_errors, STAKEBOOK_STAKES *STAKEBOOK_TERMS, all_pruned, STAKEBOOK_STAKES *STAKEBOOK_TERMS, \
+        all_lower, WHOLE, all_upper, WHOLE, all_outliers, WHOLE
+static void season_open(void) { stakebook_season_open(counts, STAKEBOOK_STAKES, all_sums, STAKEBOOK_STAKES * STAKEBOOK_SUMS); }
+static void season_window(void) { stakebook_season_add_window(31, 0.5, 1, 0.3, SEASON); }
+static void season_correct(void) { stakebook_season_correct(31, ROOM / 2, 1, SEASON); }
+static void season_fit(void) { stakebook_season_fit(31, 15, SEASON_READ, all_coefficients, STAKEBOOK_STAKES * STAKEBOOK_TERMS); }
+static void season_validate(void) {
+    stakebook_season_validate(31, 10, STAKEBOOK_CUSTOM_DEGREE, 15, STAKEBOOK_AIC, SEASON_READ, all_coefficients, STAKEBOOK_STAKES * STAKEBOOK_TERMS);
+}
+static void season_band(void) {
+    stakebook_season_band(31, 0.5, 15, STAKEBOOK_P95, 0, STAKEBOOK_VARIANCE, 0.1, SEASON_READ, numbers, STAKEBOOK_BAND);
+}
+static void season_losses(void) { stakebook_season_losses(31, up_to_15, 2, no_values, 0, SEASON_READ, lower, ROOM, numbers, STAKEBOOK_LOSSES); }
+static void season_scores(void) {
+    stakebook_season_scores(31, up_to_15, 2, no_values, 0, SEASON_READ, pruned, STAKEBOOK_TERMS, errors, STAKEBOOK_TERMS, numbers, 1);
+}
+static void season_split(void) {
+    static const uint32_t up_to_3[] = {STAKEBOOK_CUSTOM_DEGREE, 3};
+    stakebook_season_split(31, up_to_3, 2, no_values, 0, SIZE_MAX, SEASON_READ, coefficients, STAKEBOOK_TERMS, errors, STAKEBOOK_TERMS, numbers, 1);
+}
+static void season_report_stake(void) { stakebook_season_report_stake(31, up_to_15, 2, no_values, 0, SEASON_READ, SEASON_WRITTEN); }
+static void season_report(void) { stakebook_season_report(up_to_15, 2, no_values, 0, SEASON_READ, SEASON_WRITTEN, answers, STAKEBOOK_STAKES); }
 /* settings by two lists: Custom `most`, AIC */
 static uint64_t split(uint32_t most) {
     const uint32_t words[] = {STAKEBOOK_CUSTOM_DEGREE, most};
@@ -317,6 +350,18 @@ int main(void) {
     show_cost("group_report up to degree 15", group_report, 100);
     show_cost("group_surface_report up to total degree 4", group_surface_report, 100);
     show_cost("group_split up to degree 3", group_split, 3);
+    show_cost("season_open", season_open, 100);
+    for (size_t i = 0; i < count; i++) stakebook_season_add(31, xs[i], ys[i], 1, SEASON);
+    show_cost("season_correct", season_correct, 100);
+    show_cost("season_fit of degree 15", season_fit, 100);
+    show_cost("season_band of degree 15", season_band, 100);
+    show_cost("season_validate in 10 folds up to degree 15", season_validate, 20);
+    show_cost("season_losses up to degree 15", season_losses, 100);
+    show_cost("season_scores up to degree 15", season_scores, 100);
+    show_cost("season_split up to degree 3", season_split, 3);
+    show_cost("season_report_stake up to degree 15", season_report_stake, 100);
+    show_cost("season_report up to degree 15, 31 of 32 stakes empty", season_report, 100);
+    show_cost("season_add_window, full", season_window, 100);
     show_cost("split up to degree 3", split_3, 3);
     show_cost("split up to degree 8", split_8, 3);
     show_cost("split up to degree 15", split_15, 3);

@@ -72,6 +72,14 @@ pub enum Call {
         group: usize,
         settings: Settings,
     },
+    /// The opening of all stakes of a season.
+    SeasonOpen,
+    /// One of a book's calls, on a stake's parts.
+    Season {
+        stake: usize,
+        call: Box<Call>,
+    },
+    SeasonReport(Settings),
     /// No line of the text asks for it.
     Reader(Vec<u8>),
 }
@@ -113,6 +121,11 @@ pub enum Answer {
         lower: f64,
         upper: f64,
     },
+    /// How many stakes are not refused, and each one's report or refusal.
+    Season {
+        answered: usize,
+        stakes: Vec<Answer>,
+    },
     /// Everything a reader hands out before it tells the end.
     Samples(Vec<Sample>),
 }
@@ -140,6 +153,10 @@ impl fmt::Display for Answer {
             Answer::Band { value, lower, upper } => {
                 let [value, lower, upper] = [*value, *lower, *upper].map(float_field);
                 write!(f, "band {value} {lower} {upper}")
+            }
+            Answer::Season { answered, stakes } => {
+                write!(f, "season {answered}")?;
+                stakes.iter().try_for_each(|stake| write!(f, " | {stake}"))
             }
             Answer::Samples(samples) => {
                 write!(f, "samples")?;

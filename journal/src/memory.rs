@@ -5,7 +5,10 @@ use judge::refusals::{Lengths, MOST_SAMPLES};
 use judge::season::STAKES;
 use judge::sums::{PLACES, TERMS};
 
-/// The names of the memory; pruned, outliers and solved hold bytes, the table whole numbers.
+/// The places of each memory but the sums, lent or not.
+pub const MEMORY: usize = 4200;
+
+/// The names of the memory; pruned, outliers and solved hold bytes, the table and the counts whole numbers.
 #[derive(Debug, Clone, Copy, PartialEq, Eq)]
 pub enum Name {
     Xs,
@@ -26,10 +29,11 @@ pub enum Name {
     Scores,
     Zs,
     Table,
+    Counts,
 }
 
 /// All names, with their words.
-pub const NAMES: [(Name, &str); 18] = [
+pub const NAMES: [(Name, &str); 19] = [
     (Name::Xs, "xs"),
     (Name::Ys, "ys"),
     (Name::Ws, "ws"),
@@ -48,6 +52,7 @@ pub const NAMES: [(Name, &str); 18] = [
     (Name::Scores, "scores"),
     (Name::Zs, "zs"),
     (Name::Table, "table"),
+    (Name::Counts, "counts"),
 ];
 
 /// What a text lends before its first line.
@@ -94,6 +99,7 @@ pub struct Memory {
     pub solved: Vec<u8>,
     pub scores: Vec<f64>,
     pub table: Vec<usize>,
+    pub counts: Vec<usize>,
 }
 
 /// What one call is lent.
@@ -116,6 +122,7 @@ pub struct Lent<'a> {
     pub solved: &'a mut [u8],
     pub scores: &'a mut [f64],
     pub table: &'a mut [usize],
+    pub counts: &'a mut [usize],
 }
 
 /// The places of one memory.
@@ -135,7 +142,15 @@ impl Name {
     }
 
     pub fn holds_numbers(self) -> bool {
-        matches!(self, Name::Table)
+        matches!(self, Name::Table | Name::Counts)
+    }
+
+    /// How many places a text has of it: of the sums enough for the 32 stakes of a season.
+    pub fn places(self) -> usize {
+        match self {
+            Name::Sums => 8800,
+            _ => MEMORY,
+        }
     }
 
     /// Its length among those of all.
@@ -159,6 +174,7 @@ impl Name {
             Name::Solved => &mut lengths.solved,
             Name::Scores => &mut lengths.scores,
             Name::Table => &mut lengths.table,
+            Name::Counts => &mut lengths.counts,
         }
     }
 }
@@ -187,7 +203,13 @@ impl Memory {
             solved: bytes(),
             scores: floats(),
             table: vec![0; places],
+            counts: vec![0; places],
         }
+    }
+
+    /// All places of a text, +0 or 0.
+    pub fn of_text() -> Self {
+        Self { sums: vec![0.0; Name::Sums.places()], ..Self::zeros(MEMORY) }
     }
 
     /// The first places of everything, as the lengths say.
@@ -211,6 +233,7 @@ impl Memory {
             solved: &mut self.solved[..lengths.solved],
             scores: &mut self.scores[..lengths.scores],
             table: &mut self.table[..lengths.table],
+            counts: &mut self.counts[..lengths.counts],
         }
     }
 
@@ -234,6 +257,7 @@ impl Memory {
             Name::Solved => Places::Bytes(&self.solved),
             Name::Scores => Places::Floats(&self.scores),
             Name::Table => Places::Numbers(&self.table),
+            Name::Counts => Places::Numbers(&self.counts),
         }
     }
 
@@ -254,12 +278,18 @@ impl Memory {
             Name::Losses => &mut self.losses,
             Name::Scores => &mut self.scores,
             Name::Zs => &mut self.z,
-            Name::Pruned | Name::Outliers | Name::Solved | Name::Table => return None,
+            Name::Pruned | Name::Outliers | Name::Solved | Name::Table | Name::Counts => {
+                return None
+            }
         })
     }
 
     /// The places of a memory of whole numbers, to be written.
     pub fn numbers(&mut self, name: Name) -> Option<&mut [usize]> {
-        (name == Name::Table).then_some(&mut self.table)
+        match name {
+            Name::Table => Some(&mut self.table),
+            Name::Counts => Some(&mut self.counts),
+            _ => None,
+        }
     }
 }

@@ -1,12 +1,13 @@
 //! The port, through the C interface of the static library.
 
 use judge::fit::{Criterion, PruningRule, Settings};
+use judge::season::STAKES;
 use judge::statistics::{Confidence, DegreeBound, Tolerance};
 use judge::surface::Site;
 use judge::Sample;
 use stakebook::sys;
 
-use crate::call::Answer;
+use crate::call::{Answer, Call};
 use crate::memory::Lent;
 use crate::side::Calls;
 
@@ -199,6 +200,126 @@ macro_rules! book_changed {
     };
 }
 
+/// What a season's call that reads is lent: its counts, then as a book's.
+macro_rules! season_read {
+    ($call:expr, $lent:ident, ($($first:expr),*), ($($written:ident),*), ($($last:expr),*)) => {
+        book_read!(
+            $call,
+            $lent,
+            ($($first,)* $lent.counts.as_ptr(), $lent.counts.len()),
+            ($($written),*),
+            ($($last),*)
+        )
+    };
+}
+
+/// What a season's call that changes a stake is lent.
+macro_rules! season_changed {
+    ($call:expr, $lent:ident, ($($first:expr),*)) => {
+        book_changed!(
+            $call,
+            $lent,
+            ($($first,)* $lent.counts.as_mut_ptr(), $lent.counts.len())
+        )
+    };
+}
+
+/// A stake's count, 0 where there is none.
+fn stake_count(stake: usize, lent: &Lent) -> usize {
+    lent.counts.get(stake).copied().unwrap_or(0)
+}
+
+/// In turn with the settings.
+fn settings_turn(settings: Settings) -> usize {
+    usize::from(settings.pruning == PruningRule::Size)
+}
+
+/// Every place that is lent, as bits.
+fn places_of(lent: &Lent) -> (Vec<Vec<u64>>, Vec<Vec<u8>>, Vec<Vec<usize>>) {
+    let columns = [&*lent.x, &*lent.y, &*lent.weight, &*lent.sums, &*lent.scratch];
+    let curves = [&*lent.coefficients, &*lent.errors, &*lent.lower, &*lent.upper];
+    let own = [&*lent.before, &*lent.after, &*lent.losses, &*lent.scores];
+    let floats = columns.into_iter().chain(curves).chain(own).map(bits_of).collect();
+    let bytes = [&*lent.pruned, &*lent.outlier, &*lent.solved].map(<[u8]>::to_vec).to_vec();
+    (floats, bytes, vec![lent.counts.to_vec()])
+}
+
+/// A stake's band, split, losses or scores, with so many places more than one too few for its numbers.
+fn season_into(more: usize, stake: usize, lent: &mut Lent, call: &Call) -> Answer {
+    let count = stake_count(stake, lent);
+    let (mut band, mut total) = ([UNWRITTEN; 4], [UNWRITTEN; 2]);
+    let (mut losses, mut least) = ([UNWRITTEN; 3], [UNWRITTEN; 2]);
+    match call {
+        Call::Band { x, degree, confidence, tolerance } => {
+            let (confidence, score) = confidence_numbers(*confidence);
+            let (tolerance, value) = tolerance_numbers(*tolerance);
+            let packed = season_read!(
+                sys::stakebook_season_band,
+                lent,
+                (stake, *x, *degree, confidence, score, tolerance, value),
+                (),
+                (band.as_mut_ptr(), 2 + more)
+            );
+            band_of(packed, band)
+        }
+        Call::Split { limit, settings } => {
+            let (words, values) = settings_lists(*settings, count);
+            let packed = season_read!(
+                sys::stakebook_season_split,
+                lent,
+                (stake, words.as_ptr(), words.len(), values.as_ptr(), values.len(), *limit),
+                (before, after),
+                (total.as_mut_ptr(), more)
+            );
+            split_of(packed, total)
+        }
+        Call::Losses(settings) => {
+            let (words, values) = settings_lists(*settings, count);
+            let packed = season_read!(
+                sys::stakebook_season_losses,
+                lent,
+                (stake, words.as_ptr(), words.len(), values.as_ptr(), values.len()),
+                (losses),
+                (losses.as_mut_ptr(), 1 + more)
+            );
+            losses_of(packed, losses)
+        }
+        Call::Scores(settings) => {
+            let (words, values) = settings_lists(*settings, count);
+            let packed = season_read!(
+                sys::stakebook_season_scores,
+                lent,
+                (stake, words.as_ptr(), words.len(), values.as_ptr(), values.len()),
+                (solved, scores),
+                (least.as_mut_ptr(), more)
+            );
+            scores_of(packed, least)
+        }
+        other => panic!("{other} has no numbers of its own"),
+    }
+}
+
+/// A season report with so many places for its answers. It writes 32 and none past them, or none at all.
+fn season_report_into(places: usize, lent: &mut Lent, settings: Settings) -> Answer {
+    const UNWRITTEN: u64 = u64::MAX;
+    let mut answers = [UNWRITTEN; STAKES + 1];
+    let (words, values) = settings_lists(settings, lent.scratch.len());
+    let packed = season_read!(
+        sys::stakebook_season_report,
+        lent,
+        (words.as_ptr(), words.len(), values.as_ptr(), values.len()),
+        (coefficients, errors, pruned, lower, upper, outlier),
+        (answers.as_mut_ptr(), places)
+    );
+    let answer = read(packed, |packed| {
+        let stakes = answers[..STAKES].iter().map(|&packed| report(packed)).collect();
+        Answer::Season { answered: packed as usize, stakes }
+    });
+    let written = if let Answer::Season { .. } = answer { STAKES } else { 0 };
+    assert!(answers[written..].iter().all(|&answer| answer == UNWRITTEN), "{answers:?}");
+    answer
+}
+
 /// A band into so many places. It writes three and none past them; a refused one writes none.
 fn band_into(
     places: usize,
@@ -312,6 +433,11 @@ pub fn losses_into(places: usize, count: usize, lent: &mut Lent, settings: Setti
         (losses),
         (numbers.as_mut_ptr(), places)
     );
+    losses_of(packed, numbers)
+}
+
+/// Losses, with no number past their two; refused ones have none.
+fn losses_of(packed: u64, numbers: [f64; 3]) -> Answer {
     let answer = read(packed, |packed| {
         assert!(packed < 256, "a degree in {packed:#x}");
         Answer::Losses { degree: sys::degree(packed), total: numbers[0], score: numbers[1] }
@@ -332,6 +458,11 @@ fn scores_into(places: usize, count: usize, lent: &mut Lent, settings: Settings)
         (solved, scores),
         (least.as_mut_ptr(), places)
     );
+    scores_of(packed, least)
+}
+
+/// Scores, with no number past the least; refused ones have none.
+fn scores_of(packed: u64, least: [f64; 2]) -> Answer {
     let answer = read(packed, |packed| Answer::Scores {
         degree: sys::degree(packed),
         bound: sys::bound(packed),
@@ -585,6 +716,107 @@ impl Calls for Port {
         let same = places(&lent) == before;
         assert!(short == Answer::Refused(1) && same, "no place for a total: {short:?}");
         group_split_into(1, group, count, &mut lent, settings)
+    }
+
+    fn season_open(&self, lent: Lent) -> Answer {
+        let (counts, sums) = (lent.counts, lent.sums);
+        // SAFETY: the slices are the caller's, initialised and apart.
+        done(unsafe {
+            sys::stakebook_season_open(
+                counts.as_mut_ptr(),
+                counts.len(),
+                sums.as_mut_ptr(),
+                sums.len(),
+            )
+        })
+    }
+
+    fn season(&self, stake: usize, mut lent: Lent, call: &Call) -> Answer {
+        match call {
+            Call::Open => {
+                let (counts, sums) = (lent.counts, lent.sums);
+                // SAFETY: the slices are the caller's, initialised and apart.
+                book(unsafe {
+                    sys::stakebook_season_open_stake(
+                        stake,
+                        counts.as_mut_ptr(),
+                        counts.len(),
+                        sums.as_mut_ptr(),
+                        sums.len(),
+                    )
+                })
+            }
+            Call::Add(Sample { x, y, weight }) => {
+                book(season_changed!(sys::stakebook_season_add, lent, (stake, *x, *y, *weight)))
+            }
+            Call::AddWindow(Sample { x, y, weight }) => book(season_changed!(
+                sys::stakebook_season_add_window,
+                lent,
+                (stake, *x, *y, *weight)
+            )),
+            Call::Correct { index, y } => {
+                book(season_changed!(sys::stakebook_season_correct, lent, (stake, *index, *y)))
+            }
+            Call::Withdraw { index } => {
+                book(season_changed!(sys::stakebook_season_withdraw, lent, (stake, *index)))
+            }
+            Call::AddFrame(frame) => {
+                let (bytes, length) = (frame.as_ptr(), frame.len());
+                let call = sys::stakebook_season_add_frame;
+                book(season_changed!(call, lent, (stake, bytes, length)))
+            }
+            Call::AddLines(text) => {
+                let (bytes, length) = (text.as_ptr(), text.len());
+                let call = sys::stakebook_season_add_lines;
+                book(season_changed!(call, lent, (stake, bytes, length)))
+            }
+            Call::Carry => book(season_changed!(sys::stakebook_season_carry, lent, (stake))),
+            Call::Fit { degree: asked } => {
+                let call = sys::stakebook_season_fit;
+                degree(season_read!(call, lent, (stake, *asked), (coefficients), ()))
+            }
+            Call::Validate { folds, bound, criterion } => {
+                let (bound, most) = bound_numbers(*bound);
+                let criterion = criterion_number(*criterion);
+                degree(season_read!(
+                    sys::stakebook_season_validate,
+                    lent,
+                    (stake, *folds, bound, most, criterion),
+                    (coefficients),
+                    ()
+                ))
+            }
+            Call::Report(settings) => {
+                let (words, values) = settings_lists(*settings, stake_count(stake, &lent));
+                report(season_read!(
+                    sys::stakebook_season_report_stake,
+                    lent,
+                    (stake, words.as_ptr(), words.len(), values.as_ptr(), values.len()),
+                    (coefficients, errors, pruned, lower, upper, outlier),
+                    ()
+                ))
+            }
+            // Numbers of their own, lent for the call alone: first with a place too few, by which it is
+            // refused, 18 before it, and nothing is written.
+            Call::Band { .. } | Call::Split { .. } | Call::Losses(_) | Call::Scores(_) => {
+                let before = places_of(&lent);
+                let short = season_into(0, stake, &mut lent, call);
+                let number = if stake < STAKES { 1 } else { 18 };
+                let same = places_of(&lent) == before;
+                assert!(short == Answer::Refused(number) && same, "a place too few: {short:?}");
+                season_into(1 + stake % 2, stake, &mut lent, call)
+            }
+            other => panic!("a season has no {other}"),
+        }
+    }
+
+    /// With a place for an answer too few it is refused by 1, and nothing is written.
+    fn season_report(&self, mut lent: Lent, settings: Settings) -> Answer {
+        let before = places_of(&lent);
+        let short = season_report_into(STAKES - 1, &mut lent, settings);
+        let same = places_of(&lent) == before;
+        assert!(short == Answer::Refused(1) && same, "31 places for answers: {short:?}");
+        season_report_into(STAKES + settings_turn(settings), &mut lent, settings)
     }
 
     fn reader(&self, frame: &[u8]) -> Answer {

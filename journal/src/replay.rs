@@ -92,6 +92,7 @@ impl Buffers {
             solved: &mut [],
             scores: &mut [],
             table: &mut [],
+            counts: &mut [],
         }
     }
 

@@ -11,10 +11,7 @@ use judge::surface::{Site, SurfaceSample};
 use judge::Sample;
 
 use crate::call::Call;
-use crate::memory::{Name, NAMES};
-
-/// The places of each memory, lent or not.
-pub const MEMORY: usize = 4200;
+use crate::memory::{Name, MEMORY, NAMES};
 
 /// The most bytes of a line.
 pub const LONGEST_LINE: usize = 131_100;
@@ -104,7 +101,10 @@ pub fn read(line: &[u8]) -> Read<Option<Request>> {
 
 fn request(fields: &mut Fields) -> Read<Request> {
     Ok(match fields.next()? {
-        b"lent" => Request::Lent { name: fields.name()?, length: fields.at_most(MEMORY)? },
+        b"lent" => {
+            let name = fields.name()?;
+            Request::Lent { name, length: fields.at_most(name.places())? }
+        }
         b"put" => put(fields)?,
         b"row" => Request::Row {
             index: fields.at_most(MEMORY - 1)?,
@@ -161,8 +161,48 @@ fn call(word: &[u8], fields: &mut Fields) -> Read<Call> {
         b"group_split" => {
             Call::GroupSplit { group: fields.number()?, settings: fields.settings()? }
         }
-        _ => return fields.malformed(Message::NotACall),
+        b"season_open" => Call::SeasonOpen,
+        b"season_report" => Call::SeasonReport(fields.settings()?),
+        word => match of_stake(word) {
+            Some(word) => {
+                Call::Season { stake: fields.number()?, call: Box::new(call(word, fields)?) }
+            }
+            None => return fields.malformed(Message::NotACall),
+        },
     })
+}
+
+/// A stake's calls: the word of a season and that of the book's own call.
+const OF_STAKE: [(&str, &str); 15] = [
+    ("season_open_stake", "open"),
+    ("season_add", "add"),
+    ("season_window", "window"),
+    ("season_correct", "correct"),
+    ("season_withdraw", "withdraw"),
+    ("season_frame", "frame"),
+    ("season_lines", "lines"),
+    ("season_carry", "carry"),
+    ("season_fit", "fit"),
+    ("season_report_stake", "report"),
+    ("season_split", "split"),
+    ("season_losses", "losses"),
+    ("season_scores", "scores"),
+    ("season_validate", "validate"),
+    ("season_band", "band"),
+];
+
+/// The word of the call that a stake's call is.
+fn of_stake(word: &[u8]) -> Option<&'static [u8]> {
+    let (_, own) = OF_STAKE.iter().find(|(season, _)| season.as_bytes() == word)?;
+    Some(own.as_bytes())
+}
+
+/// The line of a stake's call: its own word, the stake, and the fields of the book's call.
+fn stake_line(stake: usize, call: &Call) -> String {
+    let line = call.to_string();
+    let word = line.split(' ').next().unwrap_or_default();
+    let season = OF_STAKE.iter().find(|(_, own)| *own == word).map_or("no call", |(word, _)| word);
+    format!("{season} {stake}{}", &line[word.len()..])
 }
 
 /// A memory of whole numbers takes one, any other a float; bytes are not put.
@@ -171,7 +211,7 @@ fn put(fields: &mut Fields) -> Read<Request> {
     if name.holds_bytes() {
         return fields.malformed(Message::NotAName);
     }
-    let index = fields.at_most(MEMORY - 1)?;
+    let index = fields.at_most(name.places() - 1)?;
     if name.holds_numbers() {
         return Ok(Request::PutNumber { name, index, number: fields.number()? });
     }
@@ -181,8 +221,8 @@ fn put(fields: &mut Fields) -> Read<Request> {
 /// FROM is judged again once TO is read.
 fn show(fields: &mut Fields) -> Read<Request> {
     let name = fields.name()?;
-    let from = fields.at_most(MEMORY)?;
-    let to = fields.at_most(MEMORY)?;
+    let from = fields.at_most(name.places())?;
+    let to = fields.at_most(name.places())?;
     if from > to {
         return Err(Malformed { field: fields.field - 1, message: Message::TooLarge });
     }
@@ -525,6 +565,11 @@ impl fmt::Display for Call {
             Call::GroupSplit { group, settings } => {
                 write!(f, "group_split {group} {}", settings_fields(*settings))
             }
+            Call::SeasonOpen => write!(f, "season_open"),
+            Call::Season { stake, call } => write!(f, "{}", stake_line(*stake, call)),
+            Call::SeasonReport(settings) => {
+                write!(f, "season_report {}", settings_fields(*settings))
+            }
             Call::Reader(bytes) => write!(f, "reader{}", bytes_field(bytes)),
         }
     }
@@ -696,6 +741,41 @@ mod tests {
             ("put table 8 17", "fits"),
             ("put table 4200 17", "field 3: too large"),
             (&format!("put table 0 {ONE}"), "field 4: not a number"),
+            ("season_open", "fits"),
+            ("season_open 0", "field 2: one too many"),
+            ("season_open_stake", "field 2: missing"),
+            ("season_open_stake 32", "fits"),
+            ("season_open_stake 0 0", "field 3: one too many"),
+            ("season_add", "field 2: missing"),
+            (&format!("season_add {ONE} {ONE}"), "field 2: not a number"),
+            (&format!("season_add 31 {ONE}"), "field 4: missing"),
+            (&format!("season_add 31 {ONE} {ONE}"), "fits"),
+            (&format!("season_window 999999999 {ONE} {ONE} {ONE}"), "fits"),
+            ("season_carry 3", "fits"),
+            ("season_frame 3", "fits"),
+            ("season_lines 3 3120", "fits"),
+            ("season_fit 3", "field 3: missing"),
+            ("season_withdraw 3 5 6", "field 4: one too many"),
+            ("season_validate 3 2 custom 1", "field 6: missing"),
+            (
+                &format!("season_report_stake relaxed 0 aic p95 {ONE} none {ONE}"),
+                "field 2: not a number",
+            ),
+            (&format!("season_report relaxed 0 aic p95 {ONE} none {ONE} size"), "fits"),
+            (&format!("season_report 0 relaxed 0 aic p95 {ONE} none {ONE}"), "field 2: not a name"),
+            ("season_start 1", "field 1: not a call"),
+            ("season_surface_fit 1 1", "field 1: not a call"),
+            ("season_reader", "field 1: not a call"),
+            ("season_", "field 1: not a call"),
+            ("lent counts 31", "fits"),
+            ("show counts 0 33", "fits"),
+            ("put counts 31 4096", "fits"),
+            (&format!("put counts 0 {ONE}"), "field 4: not a number"),
+            ("put counts 4200 0", "field 3: too large"),
+            ("lent sums 8800", "fits"),
+            ("lent sums 8801", "field 3: too large"),
+            (&format!("put sums 8800 {ONE}"), "field 3: too large"),
+            ("show sums 8704 8801", "field 4: too large"),
             ("validate 3 custom 2 bic", "fits"),
             ("validate 3 custom 2 bic 0", "field 6: one too many"),
         ];
@@ -786,6 +866,28 @@ mod tests {
                 "group_surface_report 8 relaxed 0 aic p80 0000000000000000 absolute {ONE} size"
             ),
             format!("group_split 0 custom 3 bic custom {ONE} variance {ONE} size"),
+            "put counts 31 999999999".to_string(),
+            "lent sums 8735".to_string(),
+            "season_open".to_string(),
+            "season_open_stake 31".to_string(),
+            format!("season_add 0 {ONE} 8000000000000000"),
+            format!("season_add 32 {ONE} {ONE} 0000000000000001"),
+            format!("season_window 999999999 {ONE} {ONE} 0000000000000001"),
+            format!("season_correct 31 12 {ONE}"),
+            "season_withdraw 31 0".to_string(),
+            "season_frame 7".to_string(),
+            "season_frame 7 000101".to_string(),
+            "season_lines 7".to_string(),
+            "season_lines 7 3120320A".to_string(),
+            "season_carry 7".to_string(),
+            "season_fit 7 15".to_string(),
+            format!("season_report_stake 7 custom 7 bic p999 0000000000000000 measurement {ONE}"),
+            format!("season_report custom 7 bic p999 0000000000000000 measurement {ONE} size"),
+            format!("season_split 7 999999999 custom 3 bic custom {ONE} variance {ONE} size"),
+            format!("season_losses 7 custom 7 bic p999 0000000000000000 measurement {ONE}"),
+            format!("season_scores 7 custom 7 bic p999 0000000000000000 measurement {ONE} size"),
+            "season_validate 7 10 aggressive 0 aic".to_string(),
+            format!("season_band 7 {ONE} 2 custom {ONE} none 0000000000000000"),
             "validate 10 aggressive 0 aic".to_string(),
             format!("band {ONE} 2 custom {ONE} none 0000000000000000"),
         ];

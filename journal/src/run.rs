@@ -6,7 +6,7 @@ use judge::refusals::Lengths;
 
 use crate::call::{Answer, Call};
 use crate::memory::{Memory, Name, Places, LENT};
-use crate::request::{self, float_field, Request, MEMORY};
+use crate::request::{self, float_field, Request};
 use crate::side::Side;
 
 /// A book with all its memory, how much of it is lent, and who makes the calls.
@@ -30,7 +30,7 @@ pub fn run(side: &dyn Side, input: impl BufRead, mut output: impl Write) -> io::
 
 impl<'a> Journal<'a> {
     pub fn new(side: &'a dyn Side) -> Self {
-        Self { side, count: 0, lent: LENT, memory: Memory::zeros(MEMORY) }
+        Self { side, count: 0, lent: LENT, memory: Memory::of_text() }
     }
 
     /// The book's count.
@@ -71,11 +71,13 @@ impl<'a> Journal<'a> {
         None
     }
 
-    /// Makes a call on what is lent; the count is the book last returned.
+    /// Makes a call on what is lent; the count is the book last returned. A stake's is among the counts.
     pub fn call(&mut self, call: &Call) -> Answer {
         let answer = self.side.make(call, self.count, self.memory.lend(&self.lent));
-        if let Answer::Book(count) = answer {
-            self.count = count;
+        match (call, &answer) {
+            (Call::Season { .. }, _) => {}
+            (_, Answer::Book(count)) => self.count = *count,
+            _ => {}
         }
         answer
     }

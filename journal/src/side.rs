@@ -3,6 +3,7 @@
 use judge::book;
 use judge::fit::{Band, Criterion, Settings};
 use judge::groups;
+use judge::season;
 use judge::statistics::{Confidence, DegreeBound, Tolerance};
 use judge::surface::{self, Site};
 use judge::Sample;
@@ -65,6 +66,10 @@ pub trait Calls {
         settings: Settings,
     ) -> Answer;
     fn group_split(&self, group: usize, count: usize, lent: Lent, settings: Settings) -> Answer;
+    fn season_open(&self, lent: Lent) -> Answer;
+    /// One of a book's calls, on a stake's parts and its count.
+    fn season(&self, stake: usize, lent: Lent, call: &Call) -> Answer;
+    fn season_report(&self, lent: Lent, settings: Settings) -> Answer;
     fn reader(&self, frame: &[u8]) -> Answer;
 }
 
@@ -116,6 +121,9 @@ impl<T: Calls> Side for T {
             Call::GroupSplit { group, settings } => {
                 self.group_split(*group, count, lent, *settings)
             }
+            Call::SeasonOpen => self.season_open(lent),
+            Call::Season { stake, call } => self.season(*stake, lent, call),
+            Call::SeasonReport(settings) => self.season_report(lent, *settings),
             Call::Reader(frame) => self.reader(frame),
         }
     }
@@ -147,6 +155,20 @@ fn split_answer(result: Result<book::SplitAnswer, u8>) -> Answer {
         degrees: (a.degree_before, a.degree_after),
         tests: a.tests,
         total: a.total,
+    })
+}
+
+fn losses_answer(result: Result<book::LossesAnswer, u8>) -> Answer {
+    answer(result, |a| Answer::Losses { degree: a.degree, total: a.total, score: a.score })
+}
+
+fn scores_answer(result: Result<book::ScoresAnswer, u8>) -> Answer {
+    answer(result, |a| Answer::Scores {
+        degree: a.degree,
+        bound: a.bound,
+        solved: a.solved,
+        tests: a.tests,
+        least: a.least,
     })
 }
 
@@ -237,21 +259,13 @@ impl Calls for Judge {
 
     fn losses(&self, count: usize, lent: Lent, settings: Settings) -> Answer {
         let memory = memory!(lent);
-        let result = book::losses(count, &memory, settings, lent.scratch, lent.losses);
-        answer(result, |a| Answer::Losses { degree: a.degree, total: a.total, score: a.score })
+        losses_answer(book::losses(count, &memory, settings, lent.scratch, lent.losses))
     }
 
     fn scores(&self, count: usize, lent: Lent, settings: Settings) -> Answer {
         let memory = memory!(lent);
         let (solved, scores) = (lent.solved, lent.scores);
-        let result = book::scores(count, &memory, settings, lent.scratch, solved, scores);
-        answer(result, |a| Answer::Scores {
-            degree: a.degree,
-            bound: a.bound,
-            solved: a.solved,
-            tests: a.tests,
-            least: a.least,
-        })
+        scores_answer(book::scores(count, &memory, settings, lent.scratch, solved, scores))
     }
 
     fn validate(
@@ -336,6 +350,74 @@ impl Calls for Judge {
         let (memory, sides) = (memory!(lent), (lent.before, lent.after));
         let (scratch, table) = (lent.scratch, lent.table);
         split_answer(groups::split(group, count, &memory, settings, scratch, sides, table))
+    }
+
+    fn season_open(&self, lent: Lent) -> Answer {
+        answer(season::open(lent.counts, lent.sums), |()| Answer::Done)
+    }
+
+    fn season(&self, stake: usize, lent: Lent, call: &Call) -> Answer {
+        let (mut memory, mut out) = (memory!(lent), report_memory!(lent));
+        let (counts, scratch, whole) = (lent.counts, lent.scratch, &mut memory);
+        let book = |result| answer(result, Answer::Book);
+        let fitted = |result| answer(result, Answer::Degree);
+        match call {
+            Call::Open => book(season::open_stake(stake, counts, whole.sums)),
+            Call::Add(sample) => book(season::add(stake, counts, whole, *sample)),
+            Call::AddWindow(sample) => book(season::add_window(stake, counts, whole, *sample)),
+            Call::Correct { index, y } => book(season::correct(stake, counts, whole, *index, *y)),
+            Call::Withdraw { index } => book(season::withdraw(stake, counts, whole, *index)),
+            Call::AddFrame(frame) => book(season::add_frame(stake, counts, whole, frame)),
+            Call::AddLines(text) => book(season::add_lines(stake, counts, whole, text)),
+            Call::Carry => book(season::carry(stake, counts, whole)),
+            Call::Fit { degree } => {
+                fitted(season::fit(stake, counts, whole, *degree, scratch, out.coefficients))
+            }
+            Call::Validate { folds, bound, criterion } => {
+                let (by, coefficients) = ((*bound, *criterion), out.coefficients);
+                fitted(season::validate(stake, counts, whole, *folds, by, scratch, coefficients))
+            }
+            Call::Band { x, degree, confidence, tolerance } => {
+                let at = (*x, *degree);
+                band_answer(season::band(
+                    stake,
+                    counts,
+                    whole,
+                    at,
+                    *confidence,
+                    *tolerance,
+                    scratch,
+                ))
+            }
+            Call::Report(settings) => {
+                let settings = *settings;
+                let of_stake =
+                    season::report_stake(stake, counts, whole, settings, scratch, &mut out);
+                report_answer(of_stake)
+            }
+            Call::Split { limit, settings } => {
+                let (by, before, after) = ((*settings, *limit), lent.before, lent.after);
+                split_answer(season::split(stake, counts, whole, by, scratch, before, after))
+            }
+            Call::Losses(settings) => {
+                let losses = lent.losses;
+                losses_answer(season::losses(stake, counts, whole, *settings, scratch, losses))
+            }
+            Call::Scores(settings) => {
+                let (solved, scores) = (lent.solved, lent.scores);
+                let told = season::scores(stake, counts, whole, *settings, scratch, solved, scores);
+                scores_answer(told)
+            }
+            other => panic!("a season has no {other}"),
+        }
+    }
+
+    fn season_report(&self, lent: Lent, settings: Settings) -> Answer {
+        let (mut memory, mut out) = (memory!(lent), report_memory!(lent));
+        let (counts, scratch) = (lent.counts, lent.scratch);
+        let told = season::report(counts, &mut memory, settings, scratch, &mut out);
+        let stakes = told.stakes.into_iter().map(report_answer).collect();
+        Answer::Season { answered: told.answered, stakes }
     }
 
     fn reader(&self, frame: &[u8]) -> Answer {

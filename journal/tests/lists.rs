@@ -1,6 +1,6 @@
 //! The lists of tests/ at the top of the repository: their answers are the judge's and the proved
 //! library's, and the lists of edges, of lines, of weights, of splits, of windows, of losses, of scores, of
-//! surfaces and of groups meet the edges that their comments name.
+//! surfaces, of groups and of a season's stakes meet the edges that their comments name.
 
 use std::path::PathBuf;
 use std::process::Command;
@@ -18,9 +18,9 @@ use judge::Sample;
 const NEGATIVE_ZERO: u64 = 1 << 63;
 
 /// The lists that `lists` makes.
-const MADE: [&str; 10] = [
+const MADE: [&str; 11] = [
     "edges", "season", "lines", "weights", "split", "windows", "losses", "scores", "surface",
-    "groups",
+    "groups", "glacier",
 ];
 
 fn file(name: &str) -> Vec<u8> {
@@ -103,7 +103,7 @@ impl Edge {
 
     /// What was shown of a memory, time after time.
     fn shown(&self, name: &str) -> Vec<Vec<u64>> {
-        let decimal = ["pruned", "outliers", "solved", "table"].contains(&name);
+        let decimal = ["pruned", "outliers", "solved", "table", "counts"].contains(&name);
         let radix = if decimal { 10 } else { 16 };
         let number = |field: &str| u64::from_str_radix(field, radix).unwrap();
         let fields = |line: &str| line.split(' ').skip(1).map(number).collect();
@@ -2093,6 +2093,373 @@ fn fields_of_groups() {
         "field 2: not a name",
         "field 3: too large",
         "field 3: too large",
+    ];
+    assert_eq!(said, expected);
+}
+
+/// A part of the list of a season's stakes.
+fn glacier(comment: &str) -> Edge {
+    part("glacier.calls", comment)
+}
+
+/// The places of a stake's part, of these memories in the list.
+const STAKE_PLACES: [(&str, usize); 11] = [
+    ("xs", 5),
+    ("ys", 6),
+    ("ws", 5),
+    ("sums", 273),
+    ("scratch", 7),
+    ("coefficients", 16),
+    ("errors", 18),
+    ("pruned", 16),
+    ("lower", 5),
+    ("upper", 6),
+    ("outliers", 5),
+];
+
+impl Edge {
+    /// What was answered to the stakes' calls, in order, with the stake.
+    fn by_stake(&self) -> Vec<(usize, &str)> {
+        let stake = |line: &str| match read(line.as_bytes()) {
+            Ok(Some(Request::Call(Call::Season { stake, .. }))) => Some(stake),
+            _ => None,
+        };
+        self.0.iter().filter_map(|(line, printed)| Some((stake(line)?, &printed[..]))).collect()
+    }
+
+    /// The answers of each stake in the season reports.
+    fn season_reports(&self) -> Vec<(&str, Vec<&str>)> {
+        let parts = |printed| {
+            let mut fields = str::split(printed, " | ");
+            (fields.next().unwrap_or_default(), fields.collect())
+        };
+        self.of("season_report").into_iter().map(parts).collect()
+    }
+}
+
+#[test]
+fn season_opens() {
+    let edge = glacier("open: all");
+    let one = 7.0_f64.to_bits();
+    assert_eq!(edge.of("season_open"), ["done"]);
+    assert_eq!(edge.shown("counts"), [[vec![0; 32], vec![72]].concat()]);
+    let sums = &edge.shown("sums")[0];
+    let marked: Vec<usize> = (0..sums.len()).filter(|&at| sums[at] == one).collect();
+    // Of what was marked, the place behind each part's 272 is left, and what is nobody's.
+    let left = [272, 273 + 272, 30 * 273 + 272, 31 * 273 + 272];
+    assert_eq!(marked, left.into_iter().chain(32 * 273..32 * 273 + 8).collect::<Vec<_>>());
+    let edge = glacier("open: short");
+    let [refused, done] = ["refused 1", "done"];
+    assert_eq!(edge.of("season_open"), [refused, refused, refused, refused, done]);
+    let counts = edge.shown("counts");
+    assert_eq!((counts[0][0], counts[0][31], counts[1][0], counts[1][31]), (5, 6, 0, 0));
+    assert_eq!(edge.shown("sums"), [[one, 0, 0], [0, 0, 0]]);
+}
+
+#[test]
+fn memory_of_a_season_is_cut() {
+    let edge = glacier("cut:");
+    let counts = &edge.shown("counts")[0];
+    let two = [0, 1, 30, 31];
+    assert!((0..32).all(|stake| counts[stake] == if two.contains(&stake) { 2 } else { 0 }));
+    for (name, places, rest) in [("xs", 5, 1), ("ys", 6, 31), ("ws", 5, 0)] {
+        let shown = &edge.shown(name)[0];
+        assert_eq!(shown.len(), 32 * places + rest + 1);
+        for (at, bits) in shown.iter().enumerate() {
+            // The first two places of a part of these stakes, and no other.
+            let written = two.contains(&(at / places)) && at % places < 2;
+            assert_eq!(*bits != (1000.0 + at as f64).to_bits(), written, "{name} {at}");
+        }
+    }
+    // Stakes 0, 1, 2, 29, 30, 31: the sum of the weights stands first.
+    let sums: Vec<u64> = edge.shown("sums").iter().map(|sums| sums[0]).collect();
+    let [four, none] = [4.0_f64.to_bits(), 0];
+    assert_eq!(sums, [four, four, none, none, four, four]);
+    // Stake 0 first, then stake 31 too.
+    assert_eq!(edge.of("season_fit"), ["fit 1", "fit 1"]);
+    for (time, stakes) in [&[0][..], &[0, 31]].into_iter().enumerate() {
+        let scratch = &edge.shown("scratch")[time];
+        for (at, bits) in scratch.iter().enumerate() {
+            let cleared = stakes.contains(&(at / 7)) && at % 7 < 2;
+            let expected = if cleared { 0 } else { (500.0 + at as f64).to_bits() };
+            assert_eq!(*bits, expected, "scratch {at}");
+        }
+        let coefficients = &edge.shown("coefficients")[time];
+        for (at, bits) in coefficients.iter().enumerate() {
+            let written = stakes.contains(&(at / 16));
+            assert_eq!(*bits != (100.0 + at as f64).to_bits(), written, "coefficients {at}");
+        }
+    }
+}
+
+#[test]
+fn stakes_are_plain_books() {
+    let (stake, book) = (glacier("plain: every call of stake 0"), glacier("plain: the same"));
+    let answers: Vec<&str> = stake.by_stake().iter().map(|(_, answer)| *answer).collect();
+    let plain: Vec<&str> = book
+        .0
+        .iter()
+        .filter(|(line, _)| !line.starts_with("lent") && !line.starts_with("show"))
+        .map(|(_, printed)| printed.as_str())
+        .collect();
+    assert_eq!(answers, plain);
+    for (name, places) in STAKE_PLACES {
+        assert_eq!(stake.shown(name), book.shown(name), "{name}");
+        assert_eq!(stake.shown(name)[0].len(), places);
+    }
+    // Every number that these calls can be refused by but 1, 10, 11 and 12.
+    for number in [4, 15, 5, 13, 14, 2, 3, 6, 7, 8, 9, 16] {
+        assert!(answers.contains(&&*format!("refused {number}")), "{number}");
+    }
+    // In turn, each is as by itself.
+    let edge = glacier("plain: every call of stake 31");
+    let both = edge.by_stake();
+    for (at, expected) in answers.iter().enumerate() {
+        assert_eq!(both[2 * at..2 * at + 2], [(31, *expected), (17, *expected)]);
+    }
+    for (name, _) in STAKE_PLACES {
+        // Scratch and outputs held other things before.
+        let shown = edge.shown(name);
+        if ["xs", "ys", "ws", "sums"].contains(&name) {
+            let below = if name == "sums" { 272 } else { 4 };
+            assert_eq!(shown[0][..below], stake.shown(name)[0][..below], "{name}");
+            assert_eq!(shown[1][..below], stake.shown(name)[0][..below], "{name}");
+        }
+    }
+    assert_eq!(edge.shown("counts")[0][17], edge.shown("counts")[0][31]);
+}
+
+#[test]
+fn other_stakes_are_not_looked_at() {
+    let edge = glacier("others:");
+    let of = |stake: usize| {
+        let answers = edge.by_stake().into_iter().filter(|(of, _)| *of == stake);
+        answers.map(|(_, answer)| answer).skip(5).collect::<Vec<_>>()
+    };
+    assert_eq!(of(5), ["refused 4", "refused 4", "book 4", "book 0", "refused 7"]);
+    assert_eq!(of(4)[1..], ["fit 1", "book 4"]);
+    assert!(of(4)[0].starts_with("report ") && of(6)[0] == of(4)[0]);
+    assert!(of(6)[3].starts_with("report") && of(6)[3] == of(6)[4]);
+    assert_eq!(edge.shown("counts")[0][4..7], [4, 0, 4]);
+}
+
+#[test]
+fn numbers_of_a_stake() {
+    let edge = glacier("numbers:");
+    let answers = edge.by_stake();
+    let of = |stake: usize| {
+        let of = answers.iter().filter(|(of, _)| *of == stake);
+        of.map(|(_, answer)| *answer).collect::<Vec<_>>()
+    };
+    assert_eq!(of(11), ["refused 7"; 7]);
+    // Filled first, as the next one.
+    assert_eq!(of(12)[5..], ["refused 4"; 7]);
+    let equal = of(13)[5..].to_vec();
+    assert_eq!((equal[0], equal[2]), ("refused 10", "refused 10"));
+    assert!(equal[3].starts_with("report 0 1 ") && equal[6].starts_with("scores 0 1 1 "));
+    let [four, fifteen] = ["refused 4", "refused 15"].map(|refused| [refused; 3]);
+    let rest = ["refused 5", "refused 3", "refused 5", "refused 14", "refused 4"];
+    assert_eq!(of(31), [&four[..], &fifteen, &rest].concat());
+    assert_eq!(of(32), ["refused 18"; 11]);
+}
+
+#[test]
+fn eighteen_before_all() {
+    let edge = glacier("above:");
+    let answers = edge.by_stake();
+    let above: Vec<_> = answers.iter().filter(|(stake, _)| *stake > 31).collect();
+    assert_eq!(above.len(), 5 * 15);
+    assert!(above.iter().all(|(_, answer)| *answer == "refused 18"));
+    // Filled before, and reported on behind the calls that had nothing.
+    let of_31: Vec<&str> =
+        answers.iter().filter(|(stake, _)| *stake == 31).map(|(_, answer)| *answer).collect();
+    assert_eq!(of_31[5..20], ["refused 1"; 15]);
+    assert!(of_31[20].starts_with("report "));
+    assert_eq!(edge.shown("counts")[0][31], 4);
+}
+
+#[test]
+fn short_counts_of_a_season() {
+    let edge = glacier("counts:");
+    let answers = edge.by_stake();
+    assert_eq!(answers.len(), 3 * 15 + 1);
+    assert!(answers[..45].iter().all(|(_, answer)| *answer == "refused 1"));
+    assert_eq!(answers[45], (31, "book 5"));
+    let reports = edge.season_reports();
+    assert_eq!(reports[0], ("season 0", vec!["refused 1"; 32]));
+    assert_eq!((reports[1].0, reports[1].1[30]), ("season 1", "refused 7"));
+    assert_eq!(edge.shown("counts")[1][31..], [5, 9]);
+}
+
+#[test]
+fn short_parts_of_a_season() {
+    let edge = glacier("parts: a place");
+    let answers: Vec<&str> = edge.by_stake().iter().map(|(_, answer)| *answer).collect();
+    // Exact, a place less, and 31 more than of a shorter part; a fit has no use for most of them.
+    let reports = edge.of("season_report_stake");
+    for three in reports[..21].chunks(3) {
+        assert!(three[0].starts_with("report 1"), "{three:?}");
+        assert_eq!(three[1..], ["refused 1"; 2]);
+    }
+    let fits = edge.of("season_fit");
+    for (at, three) in fits[..21].chunks(3).enumerate() {
+        let second = if at < 2 { "refused 1" } else { "fit 1" };
+        assert_eq!(three, ["fit 1", second, second]);
+    }
+    // Sums, then each column.
+    assert!(reports[21].starts_with("report 1") && reports[22] == "refused 1");
+    for pair in reports[23..].chunks(2) {
+        assert!(pair[0].starts_with("report 1") && pair[1] == "refused 1", "{pair:?}");
+    }
+    assert_eq!(reports.len(), 23 + 6);
+    assert_eq!(edge.of("season_withdraw"), ["refused 6", "refused 1"].repeat(3));
+    assert!(answers.contains(&"refused 1"));
+    let edge = glacier("parts: too short");
+    let expected = [(1, [true, false, true]), (1, [true, false, true]), (2, [true, false, false])];
+    for ((answered, refused), (told, stakes)) in expected.into_iter().zip(edge.season_reports()) {
+        assert_eq!(told, format!("season {answered}"));
+        for (stake, by_1) in [3, 9, 31].into_iter().zip(refused) {
+            assert_eq!(stakes[stake] == "refused 1", by_1, "{stakes:?}");
+        }
+        assert!((0..32).all(|s| [3, 9, 31].contains(&s) || stakes[s] == "refused 7"));
+    }
+}
+
+#[test]
+fn own_memory_is_not_cut() {
+    let edge = glacier("own:");
+    let answers: Vec<&str> = edge.by_stake().iter().map(|(_, answer)| *answer).skip(5).collect();
+    assert_eq!(answers.len(), 15);
+    for three in answers.chunks(3) {
+        assert!(three[1] == "refused 1" && three[0] == three[2], "{three:?}");
+        assert!(!three[0].starts_with("refused"));
+    }
+}
+
+#[test]
+fn fewer_places_than_stakes() {
+    let edge = glacier("few:");
+    let answers: Vec<&str> = edge.by_stake().iter().map(|(_, answer)| *answer).collect();
+    // Of each length three columns, then the sums.
+    for of_length in answers.chunks(3 * 6 + 2) {
+        assert_eq!(of_length[..18], ["refused 5", "refused 5", "book 0"].repeat(6));
+        assert_eq!(of_length[18..], ["refused 1"; 2]);
+    }
+    let reports = edge.season_reports();
+    assert_eq!(reports[0], ("season 0", vec!["refused 7"; 32]));
+    assert_eq!(reports[1], ("season 0", vec!["refused 1"; 32]));
+    assert_eq!(edge.shown("counts")[0][..32], [0; 32]);
+}
+
+#[test]
+fn reports_of_a_season() {
+    let edge = glacier("report: each");
+    let reports = edge.season_reports();
+    let (told, stakes) = &reports[0];
+    assert_eq!(*told, "season 3");
+    let refused: Vec<(usize, &str)> = stakes
+        .iter()
+        .enumerate()
+        .filter(|(_, answer)| answer.starts_with("refused") && **answer != "refused 7")
+        .map(|(stake, answer)| (stake, *answer))
+        .collect();
+    assert_eq!(
+        refused,
+        [(2, "refused 11"), (7, "refused 1"), (12, "refused 4"), (13, "refused 12")]
+    );
+    let answered = |stake: usize| stakes[stake].starts_with("report");
+    assert!([1, 30, 31].into_iter().all(answered));
+    // Outputs are those of the three alone; scratch is cleared at 11 and 12 too.
+    for (name, places) in STAKE_PLACES {
+        let mut writers = vec![1, 30, 31];
+        if name == "scratch" {
+            writers.extend([2, 13]);
+        }
+        if !["scratch", "coefficients", "errors", "lower", "upper"].contains(&name) {
+            continue;
+        }
+        for (at, bits) in edge.shown(name)[0].iter().enumerate() {
+            let marked = *bits == (300.0 + at as f64).to_bits();
+            assert!(marked || writers.contains(&(at / places)), "{name} {at}");
+            assert!(!marked || !writers.contains(&(at / places)) || at % places > 0);
+        }
+    }
+    // 4 by the settings, 1 first.
+    for report in &reports[1..3] {
+        let by = |stake| if stake == 7 { "refused 1" } else { "refused 4" };
+        assert_eq!(*report, ("season 0", (0..32).map(by).collect()));
+    }
+    assert_eq!(reports[5], ("season 0", vec!["refused 7"; 32]));
+    let edge = glacier("report: 8");
+    let reports = edge.season_reports();
+    assert_eq!((reports[0].0, reports[1].0), ("season 3", "season 1"));
+    assert_eq!((reports[1].1[0], reports[1].1[31]), ("refused 8", "refused 8"));
+    assert!(reports[1].1[8].starts_with("report"));
+    // Each that reads a stake, behind the samples of the last.
+    assert_eq!(edge.by_stake().iter().rev().filter(|(_, a)| *a == "refused 8").count(), 7);
+}
+
+/// The user's case.
+#[test]
+fn a_correction_leaves_31_reports() {
+    let edge = glacier("correction: one");
+    let reports = edge.season_reports();
+    let (before, after) = (&reports[0], &reports[1]);
+    // Stakes 0, 6, 12, .. 30 are empty.
+    assert_eq!((before.0, after.0), ("season 26", "season 26"));
+    for stake in (0..32).filter(|stake| *stake != 16) {
+        assert_eq!(before.1[stake], after.1[stake]);
+    }
+    for (name, places) in &STAKE_PLACES[4..] {
+        let shown = edge.shown(name);
+        assert_eq!(shown.len(), 2);
+        let differ = |at: &usize| shown[0][*at] != shown[1][*at];
+        let stakes: Vec<usize> = (0..shown[0].len()).filter(differ).map(|at| at / places).collect();
+        assert!(stakes.iter().all(|stake| *stake == 16), "{name}: {stakes:?}");
+        let moved = ["coefficients", "errors", "lower", "upper"].contains(name);
+        assert!(!moved || !stakes.is_empty(), "{name}");
+    }
+    assert_eq!(glacier("correction: none").season_reports()[0].0, "season 32");
+}
+
+#[test]
+fn fields_of_a_season() {
+    let edge = glacier("fields:");
+    let said: Vec<&str> = edge
+        .0
+        .iter()
+        .filter(|(_, printed)| printed.starts_with("line "))
+        .map(|(_, printed)| printed.split_once(": ").map_or("", |(_, said)| said))
+        .collect();
+    let expected = [
+        "field 1: not a call",
+        "field 2: one too many",
+        "field 2: missing",
+        "field 2: not a number",
+        "field 2: not a number",
+        "field 4: missing",
+        "field 5: not a float",
+        "field 3: not hexadecimal",
+        "field 4: one too many",
+        "field 3: one too many",
+        "field 3: not a number",
+        "field 3: missing",
+        "field 4: one too many",
+        "field 3: not a number",
+        "field 3: not a float",
+        "field 2: not a number",
+        "field 2: not a name",
+        "field 3: not a number",
+        "field 9: missing",
+        "field 10: not a name",
+        "field 1: not a call",
+        "field 1: not a call",
+        "field 1: not a call",
+        "field 4: not a number",
+        "field 3: too large",
+        "field 3: too large",
+        "field 3: too large",
+        "field 4: too large",
     ];
     assert_eq!(said, expected);
 }

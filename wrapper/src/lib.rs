@@ -10,7 +10,7 @@
 //!
 //! [`TwoColumnBook`] is for a season that was begun before samples had weights; it is carried into a
 //! [`Book`]. [`Surface`] fits samples with two coordinates. An [`Allowance`] bounds what each of eight
-//! course groups may ask of one machine.
+//! course groups may ask of one machine. A [`Season`] holds the 32 stakes of a glacier.
 //!
 //! A call needs at most 40 KB of stack. What it takes in time, and how both were measured, is said
 //! in `include/stakebook.h`.
@@ -47,6 +47,7 @@
 
 mod groups;
 mod refusal;
+mod season;
 mod settings;
 mod surface;
 pub mod sys;
@@ -54,6 +55,7 @@ mod two_column;
 
 pub use groups::Allowance;
 pub use refusal::Refusal;
+pub use season::{Season, SeasonReport};
 pub use settings::{Confidence, Criterion, DegreeBound, PruningRule, Settings, Tolerance};
 pub use surface::{Surface, SurfaceFit};
 pub use two_column::{NotCarried, TwoColumnBook};
@@ -165,6 +167,19 @@ pub struct Scores {
 }
 
 impl Scores {
+    /// What scores answered and wrote.
+    fn of(answer: u64, marks: [u8; TERMS], values: [f64; TERMS], [least]: [f64; 1]) -> Scores {
+        Scores {
+            degree: sys::degree(answer),
+            bound: sys::bound(answer),
+            solved: sys::solved(answer),
+            least,
+            tests: sys::tests(answer),
+            marks,
+            values,
+        }
+    }
+
     /// The score of a degree; none where it is unsolved or past the bound.
     pub fn score(&self, degree: usize) -> Option<f64> {
         match self.marks.get(degree) {
@@ -596,15 +611,6 @@ impl Book {
             self.count, words.as_ptr(), words.len(), values.as_ptr(), values.len();
             self.xs, self.ys, self.ws, self.sums, self.scratch, marks, told, least
         ));
-        let answer = judged(answer)?;
-        Ok(Scores {
-            degree: sys::degree(answer),
-            bound: sys::bound(answer),
-            solved: sys::solved(answer),
-            least: least[0],
-            tests: sys::tests(answer),
-            marks,
-            values: told,
-        })
+        Ok(Scores::of(judged(answer)?, marks, told, least))
     }
 }

@@ -10,8 +10,10 @@
 //! `lists surface`: surfaces over two coordinates, document 02's E9.
 //! `lists scores`: scores by degree.
 //! `lists groups`: course groups with an allowance each, document 02's E10.
+//! `lists glacier`: a season book of 32 stakes, document 02's E14.
 
 mod edges;
+mod glacier;
 mod groups;
 mod lines;
 mod list;
@@ -37,9 +39,10 @@ fn main() -> ExitCode {
         Some("surface") => surface::surface(),
         Some("scores") => scores::scores(),
         Some("groups") => groups::groups(),
+        Some("glacier") => glacier::glacier(),
         _ => {
             eprintln!(
-                "lists edges, season, lines, weights, split, windows, losses, surface, scores, or groups"
+                "lists edges, season, lines, weights, split, windows, losses, surface, scores, groups, or glacier"
             );
             return ExitCode::FAILURE;
         }
