@@ -4,7 +4,7 @@
     PYTHONPATH=python python3 python/bench_season.py            # measures, some seconds
     PYTHONPATH=python python3 python/bench_season.py --check    # and ends with 1 where the promise is not kept
 
-Promised: a season of 4,096 calls opens in under 0.1 s. That is Season.open: the file read under its lock, each line checked, all decimals read by the
+Promised: a season of 4,096 calls opens in under 0.1 s. That is SeasonFile.open: the file read under its lock, each line checked, all decimals read by the
 library, and the list run again by its replay. The command has the start of Python besides, which is measured too.
 """
 
@@ -19,7 +19,7 @@ from pathlib import Path
 from typing import Callable, List, Tuple
 
 from stakebook import Book
-from stakebook.season import Season
+from stakebook.season import SeasonFile
 from stakebook.seasonfile import checked
 
 CALLS = 4096
@@ -41,7 +41,7 @@ def best(work: Callable[[], object], turns: int = 15) -> Tuple[float, float]:
 def season(path: str, changes: float) -> None:
     """A season of 4,096 single calls with sources and times; of them the given share are corrections and withdrawals of any readings."""
     rng = random.Random(1)
-    Season.create(path)
+    SeasonFile.create(path)
     lines, names, given = [Path(path).read_bytes()], [], 0
     for place in range(3, 3 + CALLS):
         if names and rng.random() < changes:
@@ -59,7 +59,7 @@ def season(path: str, changes: float) -> None:
 
 def imported(path: str) -> None:
     """A season of one import of 4,096 rows."""
-    Season.create(path)
+    SeasonFile.create(path)
     lines = [Path(path).read_bytes(), checked(f'3 import {CALLS} x "depth" y "density" source "pit.csv"'.encode())]
     lines += [checked(f"{3 + i} row r{i} {i / 1000} {i * 7919 % 1000} line {i + 1}".encode()) for i in range(1, CALLS + 1)]
     Path(path).write_bytes(b"".join(lines))
@@ -80,8 +80,8 @@ def main() -> int:
         ]
         for words, make in makers:
             make()
-            took, used = best(lambda: Season.open(path))
-            calls = Season.open(path).calls
+            took, used = best(lambda: SeasonFile.open(path))
+            calls = SeasonFile.open(path).calls
             replay = best(lambda: Book.replay(calls))[1]
             promised = "a third" not in words
             kept = kept and (took < PROMISED or not promised)

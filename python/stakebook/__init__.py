@@ -1,4 +1,4 @@
-"""The stake book: the readings of one season, curves fitted to them, the degree chosen for them, and bands around them.
+"""The stake book: the readings of one season, or of 32 stakes, curves fitted to them, the degree chosen for them, and bands around them.
 
 Every number comes from the proved library, and this module decides nothing that the library decides. It needs the standard
 library alone; numpy arrays are taken where numpy is there.
@@ -17,6 +17,7 @@ x               2
 from ._library import LibraryError, MOST, Refused, WORDS
 from .allowance import Allowance
 from .book import Book, Calls
+from .glacier import Season, Stake
 from .results import (
     Band,
     DegreeScore,
@@ -25,6 +26,7 @@ from .results import (
     Replayed,
     Report,
     Scores,
+    SeasonReport,
     Split,
     SurfaceBand,
     SurfaceFit,
@@ -48,8 +50,11 @@ __all__ = [
     "Replayed",
     "Report",
     "Scores",
+    "Season",
+    "SeasonReport",
     "Settings",
     "Split",
+    "Stake",
     "Surface",
     "SurfaceBand",
     "SurfaceFit",

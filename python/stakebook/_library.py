@@ -18,6 +18,9 @@ SUMS, TERMS, BAND, LOSSES, MOST = 272, 16, 3, 2, 4096
 #: The course groups, and the places of their table.
 GROUPS, TABLE = 8, 9
 
+#: The stakes of a season.
+STAKES = 32
+
 #: The greatest whole number that the library can be given.
 SIZE_MAX = ctypes.c_size_t(-1).value
 
@@ -105,6 +108,7 @@ _lent = [ctypes.c_void_p, ctypes.c_size_t]
 _book = _lent * 4  # xs, ys, ws, sums
 _lists = _lent * 2  # words, values
 _surface = _lent * 3  # xs, zs, ys
+_season = _lent + _book  # counts before them
 
 #: Each function with the types of its arguments; all answer one uint64_t.
 DECLARED: Dict[str, List[Any]] = {
@@ -131,13 +135,37 @@ DECLARED: Dict[str, List[Any]] = {
     "group_report": _whole * 2 + _lists + _book + _lent * 8,
     "group_surface_report": _whole * 2 + _lists + _surface + _lent * 8,
     "group_split": _whole * 2 + _lists + _book + _lent * 5,
+    "season_open": _lent * 2,
+    "season_open_stake": _whole + _lent * 2,
+    "season_add": _whole + _number * 3 + _season,
+    "season_add_window": _whole + _number * 3 + _season,
+    "season_correct": _whole * 2 + _number + _season,
+    "season_withdraw": _whole * 2 + _season,
+    "season_add_frame": _whole + _lent + _season,
+    "season_add_lines": _whole + _lent + _season,
+    "season_fit": _whole * 2 + _season + _lent * 2,
+    "season_validate": _whole * 2 + _word + _whole + _word + _season + _lent * 2,
+    "season_band": _whole + _number + _whole + _word + _number + _word + _number + _season + _lent * 2,
+    "season_report_stake": _whole + _lists + _season + _lent * 7,
+    "season_losses": _whole + _lists + _season + _lent * 3,
+    "season_split": _whole + _lists + _whole + _season + _lent * 4,
+    "season_scores": _whole + _lists + _season + _lent * 4,
+    "season_report": _lists + _season + _lent * 8,
 }
 
 #: What a library of an earlier version may lack.
 LATER = (
     ("scores", "surface_fit", "surface_report", "surface_band")
     + ("start", "renew", "group_report", "group_surface_report", "group_split")
+    + tuple(name for name in DECLARED if name.startswith("season_"))
 )
+
+#: A stake's functions by the names of a book's.
+_STAKE = {
+    **{name: "season_" + name for name in ("add", "add_window", "correct", "withdraw", "add_frame", "add_lines", "fit", "validate", "band")},
+    **{name: "season_" + name for name in ("losses", "split", "scores")},
+    "report_by": "season_report_stake",
+}
 
 
 class Library:
@@ -193,6 +221,15 @@ def later(loaded: Library, name: str) -> Call:
     if call is None:
         raise LibraryError(f"the library {loaded.path} has no function stakebook_{name}: it is of an earlier version")
     return call
+
+
+def of_stakes(loaded: Library) -> Library:
+    """The functions of a season's stakes under the names of a book's: they take a stake's number for the count, and the counts before the columns."""
+    made = Library.__new__(Library)
+    made.path = loaded.path
+    for name, theirs in _STAKE.items():
+        setattr(made, name, later(loaded, theirs))
+    return made
 
 
 def _places() -> Tuple[Path, ...]:

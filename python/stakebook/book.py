@@ -35,6 +35,11 @@ def _place(memory: "array[Any]") -> int:
     return memory.buffer_info()[0]
 
 
+def _listed(memory: Any) -> List[float]:
+    numbers: List[float] = memory.tolist()
+    return numbers
+
+
 def _column(values: Any) -> memoryview:
     """A column to read: the memory itself of an array of doubles, and a copy of anything else that can be gone through."""
     if isinstance(values, (str, bytes, bytearray)):
@@ -130,56 +135,73 @@ class Calls:
         self._append(2, whole(i, "an index"), 0.0, 0.0, 1.0)
 
 
-class Book:
-    """The readings of one season: x, y and a weight each, at most ``capacity`` of them, which is 4,096 or less.
+class Lent:
+    """The memory of books of one capacity, one behind the other, and the pointers by which the library is lent all of it."""
 
-    A call that the library refuses raises ``Refused`` and leaves the book as it was. Each book has memory and a lock of its own:
-    threads may share one, and two books never meet.
+    #: What is cut into a part for each book, with the places of a part, if they are not the capacity; and what is not cut.
+    PARTS = {
+        **dict.fromkeys(("_xs", "_ys", "_ws", "_scratch", "_lower", "_upper", "_outliers"), 0),
+        **dict.fromkeys(("_coefficients", "_errors", "_pruned"), TERMS),
+        "_sums": SUMS,
+    }
+    ALL = (
+        ("_library", "_lock", "_capacity", "_numbers", "_losses", "_before", "_after", "_solved")
+        + ("_lent", "_for_fit", "_for_band", "_for_report", "_for_losses", "_for_split", "_for_scores")
+    )
 
-    >>> book = Book()
-    >>> book.add(0.1, 212)
-    1
-    >>> book.add(0.3, 240.5, weight=2)
-    2
-    >>> book.add(0.5, float("nan"))
-    Traceback (most recent call last):
-        ...
-    stakebook.Refused: refused by 4: ...
-    >>> book.count, book.xs, book.ys, book.ws
-    (2, [0.1, 0.3], [212.0, 240.5], [1.0, 2.0])
-    """
-
-    def __init__(self, capacity: int = MOST) -> None:
+    def _lend(self, capacity: int, books: int = 1, counts: Tuple[int, ...] = ()) -> None:
         capacity = whole(capacity, "the capacity")
         if capacity > MOST:
             raise ValueError(f"a book holds at most {MOST} readings, not {capacity}")
         self._library = library()
         self._lock = threading.Lock()
         self._capacity = capacity
-        self._count = 0
-        self._xs, self._ys, self._ws, self._sums = _doubles(capacity), _doubles(capacity), _doubles(capacity), _doubles(SUMS)
+        n, terms, sums = books * capacity, books * TERMS, books * SUMS
+        # Arrays, or of a stake views of its parts of a season's.
+        self._xs: Any = _doubles(n)
+        self._ys: Any = _doubles(n)
+        self._ws: Any = _doubles(n)
+        self._sums: Any = _doubles(sums)
         # What reading calls write; each copies it to its result while it has the lock.
-        self._scratch, self._lower, self._upper = _doubles(capacity), _doubles(capacity), _doubles(capacity)
-        self._coefficients, self._errors, self._numbers = _doubles(TERMS), _doubles(TERMS), _doubles(BAND)
-        self._pruned, self._outliers = _bytes(TERMS), _bytes(capacity)
+        self._scratch: Any = _doubles(n)
+        self._lower: Any = _doubles(n)
+        self._upper: Any = _doubles(n)
+        self._coefficients: Any = _doubles(terms)
+        self._errors: Any = _doubles(terms)
+        self._numbers: Any = _doubles(BAND)
+        self._pruned: Any = _bytes(terms)
+        self._outliers: Any = _bytes(n)
         # Pointers are made once. The memory is never resized: its views forbid it.
-        self._kept = [memoryview(memory) for memory in (self._sums, self._xs, self._ys, self._ws)]
-        self._lent = (_place(self._xs), capacity, _place(self._ys), capacity, _place(self._ws), capacity, _place(self._sums), SUMS)
-        scratch = (_place(self._scratch), capacity)
-        coefficients = (_place(self._coefficients), TERMS)
-        errors = (_place(self._errors), TERMS)
+        self._lent = counts + (_place(self._xs), n, _place(self._ys), n, _place(self._ws), n, _place(self._sums), sums)
+        scratch = (_place(self._scratch), n)
+        coefficients = (_place(self._coefficients), terms)
+        errors = (_place(self._errors), terms)
         numbers = _place(self._numbers)
-        pruned = (_place(self._pruned), TERMS)
-        lower = (_place(self._lower), capacity)
+        pruned = (_place(self._pruned), terms)
+        lower = (_place(self._lower), n)
         self._for_fit = self._lent + scratch + coefficients
         self._for_band = self._lent + scratch + (numbers, BAND)
-        self._for_report = (
-            self._for_fit + errors + pruned + lower + (_place(self._upper), capacity, _place(self._outliers), capacity)
-        )
-        self._for_losses = self._lent + scratch + lower + (numbers, LOSSES)
-        self._for_split = self._for_fit + errors + (numbers, 1)
-        self._for_scores = self._lent + scratch + pruned + coefficients + (numbers, 1)
-        self._library.open(_place(self._sums), SUMS)
+        self._for_report = self._for_fit + errors + pruned + lower + (_place(self._upper), n, _place(self._outliers), n)
+        # What losses, a split and scores write is one book's, also in a season: they are lent it for the call alone, and it is not cut.
+        self._losses, self._before, self._after, self._solved = self._lower, self._coefficients, self._errors, self._pruned
+        self._for_losses = self._lent + scratch + (lower[0], capacity, numbers, LOSSES)
+        self._for_split = self._lent + scratch + (coefficients[0], TERMS, errors[0], TERMS, numbers, 1)
+        self._for_scores = self._lent + scratch + (pruned[0], TERMS, coefficients[0], TERMS, numbers, 1)
+
+
+class BookCalls(Lent):
+    """What a book and a stake of a season have alike: readings, changes and questions."""
+
+    #: How many readings it holds.
+    _count: int
+
+    @property
+    def _which(self) -> int:
+        """What a call names first: of a book its count."""
+        return self._count
+
+    def _view(self) -> None:
+        self._kept = [memoryview(memory) for memory in (self._sums, self._xs, self._ys, self._ws)]
 
     # ---- what it holds
 
@@ -200,25 +222,25 @@ class Book:
     def xs(self) -> List[float]:
         """The readings' x's, a copy."""
         with self._lock:
-            return self._xs[: self._count].tolist()
+            return _listed(self._xs[: self._count])
 
     @property
     def ys(self) -> List[float]:
         """The readings' y's, a copy."""
         with self._lock:
-            return self._ys[: self._count].tolist()
+            return _listed(self._ys[: self._count])
 
     @property
     def ws(self) -> List[float]:
         """The readings' weights, a copy."""
         with self._lock:
-            return self._ws[: self._count].tolist()
+            return _listed(self._ws[: self._count])
 
     @property
     def sums(self) -> List[float]:
         """The 272 sums over the readings, 16 rows of 16 and then 16 more, a copy."""
         with self._lock:
-            return self._sums.tolist()
+            return _listed(self._sums)
 
     def columns(self) -> Tuple[Any, Any, Any]:
         """x's, y's and weights without a copy: numpy arrays where numpy is there, else memoryviews. They can't be written, and are to be
@@ -236,26 +258,6 @@ class Book:
             parts = [memory[: self._count] for memory in self._kept[1:]] + [self._kept[0]]
             return b"".join(array("d", [math.nan if value != value else value for value in part]).tobytes() for part in parts)
 
-    def copy(self: _Book) -> _Book:
-        """A book of its own with the same readings, say to try a change on."""
-        other = type(self)(self._capacity)
-        with self._lock:
-            for theirs, ours in zip(other._kept, self._kept):
-                theirs[:] = ours
-            other._count = self._count
-        return other
-
-    __copy__ = copy
-
-    def __deepcopy__(self: _Book, memo: Any) -> _Book:
-        return self.copy()
-
-    def __reduce__(self) -> NoReturn:
-        raise TypeError("a book can't be pickled: its memory is lent to the library by address")
-
-    def __repr__(self) -> str:
-        return f"<Book: {self._count} of {self._capacity} readings>"
-
     # ---- changes
 
     def _change(self, moves: bool, call: Call, *arguments: Any) -> int:
@@ -265,7 +267,7 @@ class Book:
             count = self._count
             kept = self._keep(count if moves else 0)
             try:
-                answer = call(count, *arguments, *self._lent)
+                answer = call(self._which, *arguments, *self._lent)
                 refusal = answer >> 56
                 if not refusal:
                     self._count = answer
@@ -276,15 +278,15 @@ class Book:
             raise Refused(refusal)
         return answer
 
-    def _keep(self, count: int) -> List["array[float]"]:
+    def _keep(self, count: int) -> List[bytes]:
         """The sums, and so many readings."""
-        if count:
-            return [self._sums[:], self._xs[:count], self._ys[:count], self._ws[:count]]
-        return [self._sums[:]]
+        sums = self._kept[0].tobytes()
+        return [sums] + [part[:count].tobytes() for part in self._kept[1:]] if count else [sums]
 
-    def _restore(self, count: int, kept: List["array[float]"]) -> None:
+    def _restore(self, count: int, kept: List[bytes]) -> None:
         for memory, was in zip(self._kept, kept):
-            memory[: len(was)] = memoryview(was)
+            if was:
+                memory.cast("B")[: len(was)] = was
         self._count = count
 
     def add(self, x: float, y: float, weight: float = 1.0) -> int:
@@ -322,7 +324,7 @@ class Book:
             try:
                 for begin in range(0, max(n, 1), step):
                     frame, length = _frame(columns, begin, min(begin + step, n))
-                    answer = self._library.add_frame(self._count, _place(frame) + _FRAME_AT, length, *self._lent)
+                    answer = self._library.add_frame(self._which, _place(frame) + _FRAME_AT, length, *self._lent)
                     if answer >> 56:
                         refusals.append(answer >> 56)
                     else:
@@ -374,38 +376,6 @@ class Book:
         """Reading i, counted from 0, goes, and the later ones move down one; answers the new count."""
         return self._change(True, self._library.withdraw, whole(i, "an index"))
 
-    @classmethod
-    def replay(cls: Type[_Book], calls: Union[Calls, Iterable[Tuple[Any, ...]]], capacity: int = MOST) -> Tuple[_Book, List[Replayed]]:
-        """A book made by a list of changes, and what each of them answered. Refused ones are part of the list and change nothing.
-
-        The list runs inside the library, which is proved to leave the book that the same calls, one by one, would leave.
-
-        >>> book, answers = Book.replay([("add", 0, 1), ("add", 1, 4), ("withdraw", 2), ("correct", 1, 3)])
-        >>> book.ys
-        [1.0, 3.0]
-        >>> answers[2]
-        Replayed(refusal=6, n=0)
-        """
-        if not isinstance(calls, Calls):
-            calls = Calls(calls)
-        n = len(calls)
-        book = cls(capacity)
-        kinds, words = array("I", bytes(20 * n or 4)), array("Q", bytes(72 * n or 8))
-        numbers, results = _doubles(5 * n), array("Q", bytes(40 * n or 8))
-        if n:
-            kinds[::5], words[::9] = calls.kinds, calls.indices
-            numbers[::5], numbers[1::5], numbers[2::5] = calls.xs, calls.ys, calls.ws
-        # No report is in the list, and so no place is lent for one.
-        nothing = [part for memory in (book._scratch, book._coefficients, book._errors) for part in (_place(memory), 0)]
-        nothing += [_place(book._pruned), 0, _place(book._lower), 0, _place(book._upper), 0, _place(book._outliers), 0]
-        answer = book._library.replay(
-            _place(kinds), 5 * n, _place(words), 9 * n, _place(numbers), 5 * n, 0, *book._lent, _place(results), 5 * n, *nothing
-        )
-        if answer >> 56:
-            raise Refused(answer >> 56)
-        book._count = answer
-        return book, list(map(Replayed, results[: 5 * n : 5], results[1 : 5 * n : 5]))
-
     # ---- questions
 
     def fit(self, degree: int) -> Fit:
@@ -419,7 +389,7 @@ class Book:
         """
         degree = whole(degree, "a degree")
         with self._lock:
-            answer = self._library.fit(self._count, degree, *self._for_fit)
+            answer = self._library.fit(self._which, degree, *self._for_fit)
             if answer >> 56:
                 raise Refused(answer >> 56)
             return Fit(self._count, answer, self._coefficients[: answer + 1].tolist())
@@ -454,9 +424,9 @@ class Book:
         call, asked, lent, numbers = self._library.band, settings.codes.band, self._for_band, self._numbers
         bands = []
         with self._lock:
-            count = self._count
+            which = self._which
             for x in xs:
-                answer = call(count, x, degree, *asked, *lent)
+                answer = call(which, x, degree, *asked, *lent)
                 if answer:
                     raise Refused(answer >> 56)
                 bands.append(Band(x, degree, *numbers))
@@ -473,34 +443,21 @@ class Book:
         """
         folds = whole(folds, "the number of folds")
         with self._lock:
-            answer = self._library.validate(self._count, folds, *settings.codes.validation, *self._for_fit)
+            answer = self._library.validate(self._which, folds, *settings.codes.validation, *self._for_fit)
             if answer >> 56:
                 raise Refused(answer >> 56)
             return Validation(settings, self._count, folds, answer, self._coefficients[: answer + 1].tolist())
 
-    def report(self, settings: Settings = _DEFAULT, *, group: Optional[int] = None, allowance: Optional[Allowance] = None) -> Report:
-        """Chooses a degree, fits it, and says how far the curve can be trusted. With a course group and its allowance it costs its pivot tests.
-
-        >>> book = Book()
-        >>> book.extend([0.1, 0.3, 0.5, 0.7, 0.9, 1.1], [212, 240.5, 251, 287, 290, 322.5])
-        6
-        >>> print(book.report(Settings(bound=3, criterion="aic")).summary())
-        6 readings: degree 1, 4 degrees solved (degrees up to 3, AIC, P95, no tolerance, terms pruned by size)
-        term  coefficient    error        t
-        1         203.995  6.29503  32.4058
-        x         105.286   9.1178  11.5473
-        4 degrees of freedom
-        2 of 6 outside the band, which is the curve's and not the readings': 3, 4
-        """
+    def report(self, settings: Settings = _DEFAULT) -> Report:
+        """Chooses a degree, fits it, and says how far the curve can be trusted."""
         with self._lock:
-            call = self._library.report_by
-            answer = ask(call, "group_report", group, allowance, self._count, *settings.codes.lists, *self._for_report)
-            if answer >> 56:
-                raise Refused(answer >> 56)
+            answer = self._library.report_by(self._which, *settings.codes.lists, *self._for_report)
             return self._reported(Report, settings, answer, (answer & 0xFF) + 1)
 
     def _reported(self, made: Type[_Report], settings: Settings, answer: int, k: int) -> _Report:
-        """What a report of k coefficients has written."""
+        """What a report of k coefficients has written, or its refusal."""
+        if answer >> 56:
+            raise Refused(answer >> 56)
         n = self._count
         coefficients, errors = self._coefficients[:k].tolist(), self._errors[:k].tolist()
         return made(
@@ -529,11 +486,11 @@ class Book:
         """
         with self._lock:
             n = self._count
-            answer = self._library.losses(n, *settings.codes.lists, *self._for_losses)
+            answer = self._library.losses(self._which, *settings.codes.lists, *self._for_losses)
             if answer >> 56:
                 raise Refused(answer >> 56)
             total, score = self._numbers[:LOSSES]
-            return Losses(settings, n, answer, self._lower[:n].tolist(), total, score)
+            return Losses(settings, n, answer, self._losses[:n].tolist(), total, score)
 
     def scores(self, settings: Settings = _DEFAULT) -> Scores:
         """Of each degree within the bound whether it is solved and its score, and which is chosen: why a report chooses as it does.
@@ -552,16 +509,139 @@ class Book:
         call = later(self._library, "scores")
         with self._lock:
             n = self._count
-            answer = call(n, *settings.codes.lists, *self._for_scores)
+            answer = call(self._which, *settings.codes.lists, *self._for_scores)
             if answer >> 56:
                 raise Refused(answer >> 56)
             bound = answer >> 16 & 0xFFFF
             degrees = [
                 DegreeScore(degree, bool(solved), score if solved else None)
-                for degree, (solved, score) in enumerate(zip(self._pruned[: bound + 1], self._coefficients))
+                for degree, (solved, score) in enumerate(zip(self._solved[: bound + 1], self._before))
             ]
             least = self._numbers[0]
         return Scores(settings, n, answer & 0xFF, bound, least, answer >> 8 & 0xFF, degrees, answer >> 32 & 0xFFFFFF)
+
+    def split(self, settings: Settings = _DEFAULT, limit: Optional[int] = None) -> Split:
+        """Breaks the list in two, melt season and cold season, where the two sides' scores total least. ``limit`` is the most pivot tests to make."""
+        with self._lock:
+            return self._broken(settings, self._library.split(self._which, *settings.codes.lists, _most(limit), *self._for_split))
+
+    def _broken(self, settings: Settings, answer: int) -> Split:
+        """What a split has written, or its refusal."""
+        if answer >> 56:
+            raise Refused(answer >> 56)
+        before, after = answer & 0xFF, answer >> 8 & 0xFF
+        return Split(
+            settings=settings,
+            n=self._count,
+            at=answer >> 16 & 0xFFFF,
+            degree_before=before,
+            degree_after=after,
+            before=self._before[: before + 1].tolist(),
+            after=self._after[: after + 1].tolist(),
+            total=self._numbers[0],
+            tests=answer >> 32 & 0xFFFFFF,
+        )
+
+
+def _most(limit: Optional[int]) -> int:
+    return SIZE_MAX if limit is None else whole(limit, "the limit")
+
+
+class Book(BookCalls):
+    """The readings of one season: x, y and a weight each, at most ``capacity`` of them, which is 4,096 or less.
+
+    A call that the library refuses raises ``Refused`` and leaves the book as it was. Each book has memory and a lock of its own:
+    threads may share one, and two books never meet.
+
+    >>> book = Book()
+    >>> book.add(0.1, 212)
+    1
+    >>> book.add(0.3, 240.5, weight=2)
+    2
+    >>> book.add(0.5, float("nan"))
+    Traceback (most recent call last):
+        ...
+    stakebook.Refused: refused by 4: ...
+    >>> book.count, book.xs, book.ys, book.ws
+    (2, [0.1, 0.3], [212.0, 240.5], [1.0, 2.0])
+    """
+
+    def __init__(self, capacity: int = MOST) -> None:
+        self._lend(capacity)
+        self._view()
+        self._count = 0
+        self._library.open(_place(self._sums), SUMS)
+
+    def copy(self: _Book) -> _Book:
+        """A book of its own with the same readings, say to try a change on."""
+        other = type(self)(self._capacity)
+        with self._lock:
+            for theirs, ours in zip(other._kept, self._kept):
+                theirs[:] = ours
+            other._count = self._count
+        return other
+
+    __copy__ = copy
+
+    def __deepcopy__(self: _Book, memo: Any) -> _Book:
+        return self.copy()
+
+    def __reduce__(self) -> NoReturn:
+        raise TypeError("a book can't be pickled: its memory is lent to the library by address")
+
+    def __repr__(self) -> str:
+        return f"<Book: {self._count} of {self._capacity} readings>"
+
+    @classmethod
+    def replay(cls: Type[_Book], calls: Union[Calls, Iterable[Tuple[Any, ...]]], capacity: int = MOST) -> Tuple[_Book, List[Replayed]]:
+        """A book made by a list of changes, and what each of them answered. Refused ones are part of the list and change nothing.
+
+        The list runs inside the library, which is proved to leave the book that the same calls, one by one, would leave.
+
+        >>> book, answers = Book.replay([("add", 0, 1), ("add", 1, 4), ("withdraw", 2), ("correct", 1, 3)])
+        >>> book.ys
+        [1.0, 3.0]
+        >>> answers[2]
+        Replayed(refusal=6, n=0)
+        """
+        if not isinstance(calls, Calls):
+            calls = Calls(calls)
+        n = len(calls)
+        book = cls(capacity)
+        kinds, words = array("I", bytes(20 * n or 4)), array("Q", bytes(72 * n or 8))
+        numbers, results = _doubles(5 * n), array("Q", bytes(40 * n or 8))
+        if n:
+            kinds[::5], words[::9] = calls.kinds, calls.indices
+            numbers[::5], numbers[1::5], numbers[2::5] = calls.xs, calls.ys, calls.ws
+        # No report is in the list, and so no place is lent for one.
+        nothing = [part for memory in (book._scratch, book._coefficients, book._errors) for part in (_place(memory), 0)]
+        nothing += [_place(book._pruned), 0, _place(book._lower), 0, _place(book._upper), 0, _place(book._outliers), 0]
+        answer = book._library.replay(
+            _place(kinds), 5 * n, _place(words), 9 * n, _place(numbers), 5 * n, 0, *book._lent, _place(results), 5 * n, *nothing
+        )
+        if answer >> 56:
+            raise Refused(answer >> 56)
+        book._count = answer
+        return book, list(map(Replayed, results[: 5 * n : 5], results[1 : 5 * n : 5]))
+
+    def report(self, settings: Settings = _DEFAULT, *, group: Optional[int] = None, allowance: Optional[Allowance] = None) -> Report:
+        """Chooses a degree, fits it, and says how far the curve can be trusted. With a course group and its allowance it costs its pivot tests.
+
+        >>> book = Book()
+        >>> book.extend([0.1, 0.3, 0.5, 0.7, 0.9, 1.1], [212, 240.5, 251, 287, 290, 322.5])
+        6
+        >>> print(book.report(Settings(bound=3, criterion="aic")).summary())
+        6 readings: degree 1, 4 degrees solved (degrees up to 3, AIC, P95, no tolerance, terms pruned by size)
+        term  coefficient    error        t
+        1         203.995  6.29503  32.4058
+        x         105.286   9.1178  11.5473
+        4 degrees of freedom
+        2 of 6 outside the band, which is the curve's and not the readings': 3, 4
+        """
+        with self._lock:
+            call = self._library.report_by
+            answer = ask(call, "group_report", group, allowance, self._count, *settings.codes.lists, *self._for_report)
+            return self._reported(Report, settings, answer, (answer & 0xFF) + 1)
 
     def split(
         self, settings: Settings = _DEFAULT, limit: Optional[int] = None, *, group: Optional[int] = None, allowance: Optional[Allowance] = None
@@ -582,24 +662,10 @@ class Book:
             ...
         stakebook.Refused: refused by 16: ...
         """
-        most = SIZE_MAX if limit is None else whole(limit, "the limit")
+        most = _most(limit)
         if limit is not None and group is not None:
             raise TypeError("a group's split has no limit but what the group has left")
         with self._lock:
-            n = self._count
-            lists, lent = settings.codes.lists, self._for_split
+            n, lists, lent = self._count, settings.codes.lists, self._for_split
             answer = ask(lambda *_: self._library.split(n, *lists, most, *lent), "group_split", group, allowance, n, *lists, *lent)
-            if answer >> 56:
-                raise Refused(answer >> 56)
-            before, after = answer & 0xFF, answer >> 8 & 0xFF
-            return Split(
-                settings=settings,
-                n=n,
-                at=answer >> 16 & 0xFFFF,
-                degree_before=before,
-                degree_after=after,
-                before=self._coefficients[: before + 1].tolist(),
-                after=self._errors[: after + 1].tolist(),
-                total=self._numbers[0],
-                tests=answer >> 32 & 0xFFFFFF,
-            )
+            return self._broken(settings, answer)

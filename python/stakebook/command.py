@@ -16,10 +16,10 @@ import time
 from typing import Any, Callable, Dict, List, Optional, Sequence
 
 from . import season as seasons
-from ._library import LibraryError, Refused
+from ._library import STAKES, LibraryError, Refused
 from .importing import RefusedField, decimal_point, read_table
-from .results import Report, Scores, Split, Validation
-from .season import Call, Reading, RefusedName, RefusedRow, Season
+from .results import Report, Scores, Split, Validation, runs, stakes
+from .season import Answers, Call, Reading, RefusedName, RefusedRow, SeasonFile
 from .seasonfile import NotSaved, Numbers, RefusedText, SeasonError, SettingsText, counted
 from .settings import Settings, plain
 
@@ -121,14 +121,33 @@ class _Progress:
                 sys.stderr.flush()
 
 
-def _open(path: str) -> Season:
+def _open(path: str) -> SeasonFile:
     with _Progress(f"reading {path}") as progress:
-        season = Season.open(path, progress.waiting)
+        season = SeasonFile.open(path, progress.waiting)
     _tell_torn(season)
     return season
 
 
-def _tell_torn(season: Season) -> None:
+def _open_all_or_one(arguments: argparse.Namespace) -> Answers:
+    """The season, or the stake of a glacier that is asked for."""
+    season = _open(arguments.season)
+    return season if arguments.stake is None else season.stake(arguments.stake)
+
+
+def _open_one(arguments: argparse.Namespace, words: str) -> Answers:
+    """The same where of a glacier one stake must be asked for; the words say why."""
+    return _stake_of(_open(arguments.season), arguments, words)
+
+
+def _stake_of(season: SeasonFile, arguments: argparse.Namespace, words: str) -> Answers:
+    if arguments.stake is not None:
+        return season.stake(arguments.stake)
+    if season.glacier:
+        raise Usage(f"{season.path} is a glacier, and {words}: give --stake N, 0 to {STAKES - 1}")
+    return season
+
+
+def _tell_torn(season: SeasonFile) -> None:
     if season.torn is not None:
         _tell(f"{season.path}: {season.torn}. Everything before stands")
 
@@ -184,7 +203,7 @@ def _settings_of(arguments: argparse.Namespace, base: SettingsText) -> SettingsT
     return base._replace(**given)
 
 
-def _asked(arguments: argparse.Namespace, season: Season) -> Settings:
+def _asked(arguments: argparse.Namespace, season: Answers) -> Settings:
     """The settings of one answer: the season's, with what the options say."""
     return _settings_of(arguments, season.settings_text).meant(Numbers())
 
@@ -200,6 +219,10 @@ def _add_settings(parser: argparse.ArgumentParser, words: str) -> None:
         "--tolerance", type=_tolerance, metavar="T", help="what the band allows besides: none, or absolute=, variance= or measurement= with a number"
     )
     group.add_argument("--pruning", choices=("size", "positive"), help="which terms are marked: by size, or polyfit's rule")
+
+
+def _add_stake(parser: argparse.ArgumentParser, words: str) -> None:
+    parser.add_argument("--stake", metavar="N", type=_whole, help=f"of a glacier, and only there: {words}")
 
 
 def _parser() -> argparse.ArgumentParser:
@@ -226,6 +249,7 @@ def _parser() -> argparse.ArgumentParser:
 
     made = command("new", _new, "begin a season", changes=True)
     made.add_argument("--surface", dest="of_surface", action="store_true", help="of a surface: its readings have a z, the elevation say, beside x")
+    made.add_argument("--glacier", action="store_true", help=f"of a glacier: its readings are of up to {STAKES} stakes, each with a curve of its own")
     _add_settings(made, "of the season's reports; without: relaxed, bic, P95, none, size")
     made = command("settings", _set, "show the season's settings, or change those that are given", changes=True, as_json=True)
     _add_settings(made, "those to change")
@@ -236,6 +260,8 @@ def _parser() -> argparse.ArgumentParser:
     made.add_argument("--y", metavar="COLUMN", help="the heading of y; without, y or density")
     made.add_argument("--weight", metavar="COLUMN", help="the heading of the weights; without, every weight is 1")
     made.add_argument("--z", metavar="COLUMN", help="the heading of z; for a season of a surface, and only there")
+    _add_stake(made, "the stake of all its readings")
+    made.add_argument("--stake-column", metavar="COLUMN", help="the heading of the stakes' numbers, in place of --stake")
     made.add_argument("--name", metavar="COLUMN", help="the heading of your own names of readings; without, name")
     made.add_argument("--remarks", metavar="COLUMN", help="the heading of remarks, kept as the readings' notes; without, note or remarks")
     made.add_argument("--missing", metavar="TEXT", action="append", default=[], help="what else stands for a missing number, as -9999")
@@ -244,6 +270,7 @@ def _parser() -> argparse.ArgumentParser:
     made.add_argument("x", metavar="X", type=_number)
     made.add_argument("y", metavar="Y", type=_number)
     made.add_argument("--z", metavar="Z", type=_number, help="of a reading of a surface, and only there")
+    _add_stake(made, "the reading's stake")
     made.add_argument("--weight", metavar="W", type=_number, default="1", help="what the reading counts; without, 1")
 
     made = command("correct", _correct, "give a reading a new y", changes=True)
@@ -257,8 +284,10 @@ def _parser() -> argparse.ArgumentParser:
 
     made = command("list", _list, "list the readings", as_json=True)
     made.add_argument("--history", action="store_true", help="list the calls instead")
+    _add_stake(made, "of this stake alone")
 
     made = command("report", _report, "the curve, why it has its degree, and how far it can be trusted", as_json=True)
+    _add_stake(made, "the whole report of a stake; without, a line for each")
     made.add_argument("--at", metavar="X", type=_number, action="append", default=[], help="the curve and its band at an x too; may be given again")
     made.add_argument("--z", metavar="Z", type=_number, action="append", default=[], help="of a surface, the z that goes with an --at")
     made.add_argument("--folds", metavar="N", type=_whole, help="the degree that cross-validation in so many folds chooses too")
@@ -267,12 +296,15 @@ def _parser() -> argparse.ArgumentParser:
     _add_settings(made, "for this answer alone, in place of the season's")
 
     made = command("scores", _scores, "each degree's score, and which is chosen", as_json=True)
+    _add_stake(made, "whose scores")
     _add_settings(made, "for this answer alone, in place of the season's")
 
     made = command("plot", _plot, "draw readings, curve and band, residuals and scores")
     made.add_argument("file", metavar="FILE", help="an .svg, .png or .pdf file to write")
+    _add_stake(made, "whose picture")
     made = command("page", _page, "write a page for colleagues, in one file")
     made.add_argument("file", metavar="FILE", help="an .html file to write")
+    _add_stake(made, "the whole page of a stake; without, a small picture of each")
 
     made = command("export", _export, "write the season for other programs")
     made.add_argument(
@@ -282,12 +314,14 @@ def _parser() -> argparse.ArgumentParser:
         help="csv: the readings that stand; frame: these as one frame of version 2; calls: the list of calls for journal",
     )
     made.add_argument("--output", metavar="FILE", help="without, standard output")
+    _add_stake(made, "of this stake alone")
 
     made = command("check", _check, "read the file again, make its book in other ways and compare every bit", as_json=True)
     made.add_argument(
         "--leave-out", metavar="LINE", type=_whole, action="append", default=[], help="give a damaged line up, by a line more in the file"
     )
-    command("mirror-check", _mirror_check, "run the calls again with the sign of every y changed, and compare both reports", as_json=True)
+    made = command("mirror-check", _mirror_check, "run the calls again with the sign of every y changed, and compare both reports", as_json=True)
+    _add_stake(made, "of this stake alone; without, of all that have readings")
     return parser
 
 
@@ -296,8 +330,9 @@ def _parser() -> argparse.ArgumentParser:
 
 def _new(arguments: argparse.Namespace) -> int:
     settings = _settings_of(arguments, SettingsText())
-    season = Season.create(arguments.season, settings, arguments.source, arguments.note, arguments.of_surface)
-    _say(f"{season.path}: a new season{' of a surface' * season.surface}, {season.settings.summary()}")
+    season = SeasonFile.create(arguments.season, settings, arguments.source, arguments.note, arguments.of_surface, arguments.glacier)
+    kind = f" of a glacier of {STAKES} stakes" if season.glacier else " of a surface" if season.surface else ""
+    _say(f"{season.path}: a new season{kind}, {season.settings.summary()}")
     return 0
 
 
@@ -314,6 +349,8 @@ def _set(arguments: argparse.Namespace) -> int:
 
 
 def _import(arguments: argparse.Namespace) -> int:
+    if arguments.stake is not None and arguments.stake_column is not None:
+        raise Usage("give --stake or --stake-column, and not both")
     table = read_table(
         arguments.file,
         arguments.x,
@@ -323,58 +360,55 @@ def _import(arguments: argparse.Namespace) -> int:
         arguments.remarks,
         [text.strip() for text in arguments.missing],
         z=arguments.z,
+        stake=arguments.stake_column,
     )
-    left = f"{counted(len(table.missing), 'line')} left out, where a number is missing: {_runs(table.missing)}" if table.missing else ""
+    left = f"{counted(len(table.missing), 'line')} left out, where a number is missing: {runs(table.missing)}" if table.missing else ""
     if not table.rows:
         raise SeasonError(f"{table.source}: there are no readings in it" + (f"; {left}" if left else ""))
     season = _open(arguments.season)
     with _Progress(f"importing {table.source}") as progress:
         try:
-            readings = season.add_rows(table.rows, table.columns, arguments.source or table.source, arguments.note, progress.of(len(table.rows)))
+            source = arguments.source or table.source
+            readings = season.add_rows(table.rows, table.columns, source, arguments.note, progress.of(len(table.rows)), arguments.stake)
         except RefusedRow as refused:
             raise RefusedField(refused.number, "", f"{table.source}:{table.rows[refused.row].line}") from None
     names = readings[0].name if len(readings) == 1 else f"{readings[0].name} to {readings[-1].name}"
     weight = f"weight {table.columns[2]!r}" if table.columns[2] else f"z {table.columns[3]!r}" if table.columns[3] else "weight 1"
     comma = ", decimal comma" if table.decimal_comma else ""
     encoding = "" if table.encoding == "UTF-8" else f", {table.encoding}"
-    _say(f"{season.path}: {counted(len(readings), 'reading')} saved from {table.source}, {names}")
+    of = sorted({reading.stake for reading in readings if reading.stake is not None})
+    _say(f"{season.path}: {counted(len(readings), 'reading')} saved from {table.source}, {names}" + (f", of {stakes(of)}" if of else ""))
     _say(f"  x {table.columns[0]!r}, y {table.columns[1]!r}, {weight} ({table.delimiter}{comma}{encoding})")
     if left:
         _say(f"  {left}")
     return 0
 
 
-def _runs(numbers: List[int]) -> str:
-    """1, 2, 3, 7 as 1 to 3, 7."""
-    runs: List[List[int]] = []
-    for number in numbers:
-        if runs and number == runs[-1][1] + 1:
-            runs[-1][1] = number
-        else:
-            runs.append([number, number])
-    return ", ".join(str(first) if first == last else f"{first} to {last}" for first, last in runs)
+def _of(reading: Reading) -> str:
+    return "" if reading.stake is None else f" of stake {reading.stake}"
 
 
 def _add(arguments: argparse.Namespace) -> int:
     season = _open(arguments.season)
-    reading = season.add(arguments.x, arguments.y, arguments.weight, arguments.source, arguments.note, arguments.z)
+    reading = season.add(arguments.x, arguments.y, arguments.weight, arguments.source, arguments.note, arguments.z, arguments.stake)
     weight = "" if reading.weight_text == "1" else f", weight {reading.weight_text}"
     z = f", z {reading.z_text}" if reading.z_text else ""
-    _say(f"{season.path}: {reading.name} saved: x {reading.x_text}{z}, y {reading.y_text}{weight}; {counted(season.book.count, 'reading')}")
+    count = counted(season.book_of(reading.stake).count, "reading")
+    _say(f"{season.path}: {reading.name} saved: x {reading.x_text}{z}, y {reading.y_text}{weight}; {count}{_of(reading)}")
     return 0
 
 
 def _correct(arguments: argparse.Namespace) -> int:
     season = _open(arguments.season)
     reading = season.correct(arguments.name, arguments.y, arguments.source, arguments.note)
-    _say(f"{season.path}: {reading.name} saved: y {reading.y_text}, was {reading.was[-1]}")
+    _say(f"{season.path}: {reading.name}{_of(reading)} saved: y {reading.y_text}, was {reading.was[-1]}")
     return 0
 
 
 def _withdraw(arguments: argparse.Namespace) -> int:
     season = _open(arguments.season)
     reading = season.withdraw(arguments.name, arguments.source, arguments.note)
-    _say(f"{season.path}: {reading.name} withdrawn and saved; {counted(season.book.count, 'reading')}")
+    _say(f"{season.path}: {reading.name} withdrawn and saved; {counted(season.book_of(reading.stake).count, 'reading')}{_of(reading)}")
     return 0
 
 
@@ -389,7 +423,7 @@ def _undo(arguments: argparse.Namespace) -> int:
 
 
 def _list(arguments: argparse.Namespace) -> int:
-    season = _open(arguments.season)
+    season = _open_all_or_one(arguments)
     if arguments.json:
         _say_json(
             {
@@ -409,19 +443,21 @@ def _list(arguments: argparse.Namespace) -> int:
         _say(_table(rows, (1, 2, 3, 4)))
     else:
         called = any(reading.called for reading in season.readings)
-        rows = [["name"] + ["own name"] * called + (["x", "z", "y"] if season.surface else ["x", "y", "weight"]) + ["state", "source", "note"]]
+        names = ["name"] + ["stake"] * season.glacier + ["own name"] * called
+        rows = [names + (["x", "z", "y"] if season.surface else ["x", "y", "weight"]) + ["state", "source", "note"]]
         for reading in season.readings:
-            own = [reading.called or ""] if called else []
+            own = ([str(reading.stake)] if season.glacier else []) + ([reading.called or ""] if called else [])
             state = f"{reading.state}, y was {', '.join(reading.was)}" if reading.was else reading.state
             numbers = [reading.x_text, reading.z_text or "", reading.y_text] if season.surface else [reading.x_text, reading.y_text, reading.weight_text]
             rows.append([reading.name] + own + numbers + [state, reading.source or "", reading.note or ""])
-        left = {0, *range(4 + called, 7 + called)} | ({1} if called else set())
+        last = len(names) - 1
+        left = {0, *range(last + 4, last + 7)} | ({last} if called else set())
         _say(_table(rows, tuple(left)))
         _say(_standing(season))
     return 0
 
 
-def _standing(season: Season) -> str:
+def _standing(season: Answers) -> str:
     withdrawn = len(season.readings) - season.book.count
     return counted(season.book.count, "reading") + (f", {withdrawn:,} withdrawn" if withdrawn else "")
 
@@ -432,7 +468,7 @@ def _remarks(source: Optional[str], note: Optional[str]) -> str:
 
 def _reading_dict(reading: Reading) -> Dict[str, Any]:
     names = ["name", "called", "x_text", "y_text", "weight_text", "x", "y", "weight", "state", "index", "was", "source", "note", "line"]
-    names += ["z_text", "z"] if reading.z_text else []
+    names += ["z_text", "z"] if reading.z_text else ["stake"] if reading.stake is not None else []
     return {name: plain(getattr(reading, name)) for name in names}
 
 
@@ -441,7 +477,7 @@ def _call_dict(call: Call) -> Dict[str, Any]:
 
 
 def _scores(arguments: argparse.Namespace) -> int:
-    season = _open(arguments.season)
+    season = _open_one(arguments, "each stake has scores of its own")
     scores = season.scores(_asked(arguments, season))
     if arguments.json:
         _say_json({"season": season.path, **scores.as_dict(), "within": scores.within})
@@ -486,7 +522,7 @@ def _confidence_words(settings: Settings) -> str:
     return settings.confidence if isinstance(settings.confidence, str) else f"z score {_six(settings.confidence)}"
 
 
-def _curve(season: Season, report: Report) -> str:
+def _curve(season: Answers, report: Report) -> str:
     """Coefficients with their errors, what was pruned, and degrees of freedom."""
     rows = [["term", "coefficient", "error", "t", ""]]
     for term, c, error, t, pruned in zip(report.terms, report.coefficients, report.errors, report.t, report.pruned):
@@ -503,7 +539,7 @@ def _curve(season: Season, report: Report) -> str:
     return "\n".join(lines)
 
 
-def _band_words(season: Season, report: Report) -> str:
+def _band_words(season: Answers, report: Report) -> str:
     settings = report.settings
     tolerance = "" if settings.tolerance is None else f", with the tolerance {settings.tolerance[0]} {_six(settings.tolerance[1])}"
     words = f"The band ({_confidence_words(settings)}{tolerance}) is where the {report.shape} itself lies, not where single readings do. "
@@ -516,8 +552,28 @@ def _band_words(season: Season, report: Report) -> str:
     return _wrapped(words)
 
 
+def _reports(arguments: argparse.Namespace, season: SeasonFile) -> int:
+    """Each stake of a glacier in a line."""
+    settings = _asked(arguments, season)
+    with _Progress("working out the reports"):
+        reports = season.reports(settings)
+    if arguments.json:
+        found = [{"stake": stake, **(each if "refused" in each else {"report": each})} for stake, each in enumerate(reports.as_dict()["reports"])]
+        _say_json({"season": season.path, "settings": settings.as_dict(), "stakes": found, "answered": reports.answered})
+        return 0
+    _say(f"{season.path}: {_standing(season)}; {settings.summary()}")
+    for line in reports.lines:
+        _say(_wrapped(line, "  "))
+    _say(f"{reports.answered} of {len(reports.reports)} stakes are not refused. With --stake N the report says why, and what to take care of.")
+    return 0
+
+
 def _report(arguments: argparse.Namespace) -> int:
-    season = _open(arguments.season)
+    season: Answers = _open(arguments.season)
+    if isinstance(season, SeasonFile) and (season.glacier or arguments.stake is not None):
+        if arguments.stake is None and not (arguments.at or arguments.z or arguments.folds is not None or arguments.split):
+            return _reports(arguments, season)
+        season = _stake_of(season, arguments, "--at, --folds and --split are of one stake")
     if season.surface and (arguments.folds is not None or arguments.split):
         raise Usage("a surface is neither validated nor broken in two")
     if len(arguments.z) != (len(arguments.at) if season.surface else 0):
@@ -584,7 +640,7 @@ def _report(arguments: argparse.Namespace) -> int:
 # ---- files for others
 
 
-def _spare(path: str, season: Season) -> None:
+def _spare(path: str, season: Answers) -> None:
     """A season is never written over."""
     try:
         with open(path, "rb") as file:
@@ -595,8 +651,7 @@ def _spare(path: str, season: Season) -> None:
         raise Usage(f"{path} is a season, and is not written over")
 
 
-def _drawn(arguments: argparse.Namespace, write: Callable[[Season, str], None]) -> int:
-    season = _open(arguments.season)
+def _drawn(arguments: argparse.Namespace, season: Answers, write: Callable[[Answers, str], None]) -> int:
     _spare(arguments.file, season)
     try:
         with _Progress(f"drawing {arguments.file}"):
@@ -615,27 +670,30 @@ def _drawn(arguments: argparse.Namespace, write: Callable[[Season, str], None]) 
 
 
 def _plot(arguments: argparse.Namespace) -> int:
-    def write(season: Season, path: str) -> None:
+    def write(season: Answers, path: str) -> None:
         from . import pictures
 
         pictures.plot(season, path)
 
-    return _drawn(arguments, write)
+    return _drawn(arguments, _open_one(arguments, "a picture is of one stake (`stake page` has a small one of each)"), write)
 
 
 def _page(arguments: argparse.Namespace) -> int:
-    def write(season: Season, path: str) -> None:
+    def write(season: Answers, path: str) -> None:
         from . import page
 
         page.write(season, path)
 
-    return _drawn(arguments, write)
+    return _drawn(arguments, _open_all_or_one(arguments), write)
 
 
 def _export(arguments: argparse.Namespace) -> int:
     from .exporting import FORMATS
 
-    season = _open(arguments.season)
+    if arguments.format == "csv":
+        season = _open_all_or_one(arguments)
+    else:
+        season = _open_one(arguments, f"{'a frame' if arguments.format == 'frame' else 'a list of calls'} is of one stake")
     data = FORMATS[arguments.format](season)
     if arguments.output is None:
         if arguments.format == "frame" and sys.stdout.isatty():
@@ -704,18 +762,27 @@ def _check(arguments: argparse.Namespace) -> int:
 def _mirror_check(arguments: argparse.Namespace) -> int:
     from . import mirror
 
-    season = _open(arguments.season)
+    season = _open_all_or_one(arguments)
+    of: List[Answers] = [season]
+    if isinstance(season, SeasonFile) and season.glacier:
+        of = [season.stake(each.stake) for each in season.book if each.count]
     with _Progress("comparing with the mirror image"):
-        found = mirror.check(season)
+        found = [(one.number, mirror.check(one)) for one in of]
+    good = all(each.difference is None for _, each in found)
     if arguments.json:
-        _say_json(found.as_dict())
-        return 0 if found.difference is None else 1
-    readings = counted(found.readings, "reading")
-    _say(f"{found.path}: {counted(found.calls, 'call')}, {readings}, and the same with the sign of every y changed; {found.settings.summary()}")
-    for words in found.agree:
-        _say(f"  {words}")
-    _say("All agree." if found.difference is None else f"They DIFFER, first in this: {found.difference}")
-    return 0 if found.difference is None else 1
+        told = [each.as_dict() if number is None else {"stake": number, **each.as_dict()} for number, each in found]
+        _say_json({"good": good, "path": season.path, "stakes": told} if season.glacier else told[0])
+        return 0 if good else 1
+    for number, each in found:
+        stake = "" if number is None else f": stake {number}"
+        readings = counted(each.readings, "reading")
+        _say(f"{each.path}{stake}: {counted(each.calls, 'call')}, {readings}, and the same with the sign of every y changed; {each.settings.summary()}")
+        for words in each.agree:
+            _say(f"  {words}")
+        _say("All agree." if each.difference is None else f"They DIFFER, first in this: {each.difference}")
+    if not found:
+        _say(f"{season.path}: no readings, and so nothing to compare")
+    return 0 if good else 1
 
 
 # ---- the whole
@@ -731,7 +798,8 @@ def _refusal_words(refused: Refused, arguments: argparse.Namespace) -> str:
     if isinstance(refused, RefusedName):
         return f"{refused}: {refused.why}"
     if refused.number == 7:
-        return f"{arguments.season}: {refused}"
+        stake = "" if getattr(arguments, "stake", None) is None else f"stake {arguments.stake}: "
+        return f"{arguments.season}: {stake}{refused}"
     return str(refused)
 
 

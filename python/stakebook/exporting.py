@@ -8,7 +8,7 @@ import os
 import struct
 from typing import List
 
-from .season import Season
+from .season import Answers
 from .seasonfile import SeasonError, counted
 from .settings import Settings
 
@@ -16,18 +16,21 @@ from .settings import Settings
 FRAME_MOST = (0xFFFF - 1) // 24
 
 
-def to_csv(season: Season) -> bytes:
-    """The readings that stand, with their numbers as they were written. `stake import` takes it back, weights with --weight weight, z with --z z."""
+def to_csv(season: Answers) -> bytes:
+    """The readings that stand, with their numbers as they were written. `stake import` takes it back, weights with --weight weight, z with --z z,
+    a glacier's stakes with --stake-column stake."""
     text = io.StringIO(newline="")
     table = csv.writer(text, lineterminator="\n")
-    table.writerow(["reading", "x", "y", "z" if season.surface else "weight", "name", "source", "note"])
+    table.writerow(["reading"] + ["stake"] * season.glacier + ["x", "y", "z" if season.surface else "weight", "name", "source", "note"])
     for reading in season.standing:
         third = reading.z_text if season.surface else reading.weight_text
-        table.writerow([reading.name, reading.x_text, reading.y_text, third, reading.called or "", reading.source or "", reading.note or ""])
+        stake = [reading.stake] if season.glacier else []
+        row = [reading.name, *stake, reading.x_text, reading.y_text, third, reading.called or "", reading.source or "", reading.note or ""]
+        table.writerow(row)
     return text.getvalue().encode("utf-8")
 
 
-def to_frame(season: Season) -> bytes:
+def to_frame(season: Answers) -> bytes:
     """The readings that stand as one frame of version 2."""
     _of_curves(season, "a frame")
     readings = season.standing
@@ -37,7 +40,7 @@ def to_frame(season: Season) -> bytes:
     return struct.pack(">HB", 1 + len(samples), 2) + samples
 
 
-def _of_curves(season: Season, what: str) -> None:
+def _of_curves(season: Answers, what: str) -> None:
     if season.surface:
         raise SeasonError(f"{season.path}: {what} has no place for a z: take csv")
 
@@ -54,7 +57,7 @@ def report_call(settings: Settings) -> str:
     return f"report {bound} {settings.criterion} {confidence} {tolerance} {settings.pruning}"
 
 
-def to_calls(season: Season) -> bytes:
+def to_calls(season: Answers) -> bytes:
     """The calls in force, a report with the season's settings, and what it wrote, for `journal`."""
     _of_curves(season, "a list of a book's calls")
     # A comment is a line, and a file's name may have a line break in it.

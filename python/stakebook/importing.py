@@ -153,6 +153,7 @@ def read_table(
     missing: Iterable[str] = (),
     data: Optional[bytes] = None,
     z: Optional[str] = None,
+    stake: Optional[str] = None,
 ) -> Table:
     """The readings of a table, or a `TableError` or `RefusedField` with file and line of what is wrong."""
     source = "standard input" if path == "-" else os.path.basename(path)
@@ -168,11 +169,12 @@ def read_table(
             # A pit's sheet may have the snow's weight in grams: a weight is taken only where it is asked for.
             "weight": _column(headings, weight, (), "--weight", where, False) if weight is not None else None,
             "z": _column(headings, z, (), "--z", where, False) if z is not None else None,
+            "stake": _column(headings, stake, (), "--stake-column", where, False) if stake is not None else None,
         }
         own, remark = _column(headings, name, OWN_NAMES, "--name", where, False), _column(headings, remarks, REMARK_NAMES, "--remarks", where, False)
         numbers = {key: column for key, column in at.items() if column is not None}
         if len(set(numbers.values())) < len(numbers):
-            raise TableError(f"{where}: one column can't be two of x, y, z and the weight")
+            raise TableError(f"{where}: one column can't be two of x, y, z, the weight and the stake")
         taken: List[_Taken] = []
         left: List[int] = []
         absent = {*MISSING, *(sign.casefold() for sign in missing)}
@@ -197,7 +199,11 @@ def read_table(
     rows = []
     for line, values, called, note in taken:
         texts = {key: decimal_point(values[key]) for key in numbers}
-        rows.append(NewRow(texts["x"], texts["y"], texts.get("weight"), line, called or None, note or None, texts.get("z")))
+        of = texts.get("stake")
+        if of is not None and not re.fullmatch(r"[0-9]{1,9}", of):
+            raise TableError(f"{source}:{line}: column {columns['stake']!r}: {of!r} is no whole number, and so no stake's")
+        number = int(of) if of is not None else None
+        rows.append(NewRow(texts["x"], texts["y"], texts.get("weight"), line, called or None, note or None, texts.get("z"), number))
     try:
         Numbers().read([text for row in rows for text in (*row[:3], row.z) if text is not None])
     except RefusedText as refused:

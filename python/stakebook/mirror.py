@@ -12,7 +12,7 @@ from typing import Any, Callable, Dict, List, Optional, Sequence, Tuple, TypeVar
 from ._library import Refused
 from .book import Book, Calls
 from .results import Report, Scores
-from .season import Season
+from .season import Answers
 from .seasonfile import counted
 from .settings import Settings, plain
 from .surface import Surface
@@ -125,10 +125,10 @@ def _image(calls: Calls) -> Calls:
     return image
 
 
-def check(season: Season) -> Mirrored:
+def check(season: Answers) -> Mirrored:
     """Runs the calls of a season twice, as they are and mirrored, and compares the reports of both, with terms pruned by size."""
     settings = replace(season.settings, pruning="size")
-    lists = [season.calls] + ([season._calls(season._zs)] if season.surface else [])
+    lists = season.lists
     (ours, answers), (theirs, others) = (
         Surface.replay(*of) if season.surface else Book.replay(*of) for of in (lists, [_image(calls) for calls in lists])
     )

@@ -10,8 +10,9 @@ import os
 import re
 from typing import Any, Iterable, List, Optional, Sequence, Tuple
 
-from . import pictures
-from .pictures import SurfaceView, View, band_of, count_of, in_short, look, refusal_words, written
+from . import Refused, pictures
+from .pictures import SurfaceView, View, band_of, capital, count_of, in_short, look, refusal_words, title_of, written
+from .results import stakes
 
 LONG = 25  # rows from which on a table may run over several printed pages
 
@@ -43,15 +44,21 @@ def write(season: Any, path: Any, title: Optional[str] = None) -> None:
 
 
 def render(season: Any, title: Optional[str] = None) -> str:
-    """The page as text."""
+    """The page as text. Of a glacier it has a small picture of each stake."""
+    if season.glacier:
+        return _glacier(season, title)
     view = look(season, title)
     curve, scores = pictures.inline(view)
     surface = isinstance(view, SurfaceView)  # of which there are no scores
     two = _curve(view, curve) if surface else element("div", _curve(view, curve), _scores(view, scores), class_="two")
+    return _whole(season, view.title, in_short(view), _summary(season, view), two, _readings(season, view), _history(season))
+
+
+def _whole(season: Any, title: str, short: str, *sections: Html, css: str = "") -> str:
     made = "Made by stake page from %s. Every number is the proved library's answer or the observer's own." % os.path.basename(season.path)
     parts = [
-        element("header", element("h1", view.title), element("p", in_short(view) + ".", class_="short")),
-        element("main", _summary(season, view), two, _readings(season, view), _history(season)),
+        element("header", element("h1", title), element("p", short + ".", class_="short")),
+        element("main", *sections),
         element("footer", element("p", made)),
     ]
     head = [
@@ -59,10 +66,53 @@ def render(season: Any, title: Optional[str] = None) -> str:
         Html('<meta name="viewport" content="width=device-width, initial-scale=1">'),
         # nothing may be loaded and nothing may run, whatever a note says
         Html("<meta http-equiv=\"Content-Security-Policy\" content=\"default-src 'none'; style-src 'unsafe-inline'\">"),
-        element("title", "%s: %s" % (view.title, in_short(view))),
-        Html("<style>%s</style>" % CSS),
+        element("title", "%s: %s" % (title, short)),
+        Html("<style>%s</style>" % (CSS + css)),
     ]
     return "<!DOCTYPE html>\n<html lang=\"en\">\n<head>\n%s\n</head>\n<body>\n%s\n</body>\n</html>\n" % (join(head, "\n"), join(parts, "\n"))
+
+
+def _glacier(season: Any, title: Optional[str]) -> str:
+    """Each stake that has readings: a small picture, and its report or refusal in words."""
+    reports = season.reports()
+    shown, rows = [], []
+    empty = [stake for stake, each in enumerate(reports.reports) if isinstance(each, Refused) and each.number == 7]
+    for stake, report in enumerate(reports.reports):
+        if stake in empty:
+            continue
+        view = look(season.stake(stake))
+        name = "stake-%d" % stake
+        words: Any = in_short(view)
+        cells: List[Cell] = [(stake, ""), (len(view.names), "number")]
+        if isinstance(report, Refused):
+            words = join([words, ". ", element("strong", capital(refusal_words(report)))])
+            cells += [("none", ""), ("", "number"), ("", "")]
+        else:
+            pruned = [term for term, mark in zip(report.terms, report.pruned) if mark]
+            cells += [("degree %d" % report.degree, ""), (len(report.outside), "number"), (", ".join(pruned) or "none", "")]
+        told = "Picture of %s by %s at stake %d: %s." % (view.y_name, view.x_name, stake, in_short(view))
+        picture = _named(pictures.small(view, name + "-"), "picture-" + name, told)
+        caption = element("figcaption", words, ".", class_="refused" if isinstance(report, Refused) else None)
+        shown.append(element("figure", element("h3", "Stake %d" % stake), picture, caption, id=name))
+        rows.append(cells)
+    said = ["%s in force." % _are(season.book.count, "reading")]
+    if empty:
+        said.append("%s: no readings." % capital(stakes(empty)))
+    parts = [element("p", " ".join(said))]
+    if shown:
+        legend = "Dots are readings, orange diamonds those outside the band; the line is the curve, and about it is its band (%s), which says where the"
+        parts.append(element("p", (legend + " curve itself lies, not where single readings do.") % band_of(season.settings), class_="quiet"))
+    parts.append(element("p", "Settings, of all stakes: %s. A stake's own page is made by stake page --stake." % season.settings.summary(), class_="quiet"))
+    if season.left_out:
+        notes = element("ul", *[element("li", words) for words in season.left_out], aria_label="Warnings")
+        parts.append(element("div", element("h3", "Warnings"), notes, class_="warnings"))
+    sections = [_section("summary", "Summary", *parts)]
+    if shown:
+        table = _table("reports", ["stake", "readings", "curve", "outside", "pruned"], rows)
+        sections += [_section("stakes", "Stakes", element("div", *shown, class_="stakes")), _section("reports", "Reports", table)]
+    short = "%s, %d of %d stakes with a report" % (count_of(season.book.count, "reading"), reports.answered, len(reports.reports))
+    title = pictures.plain(title if title is not None else title_of(season), 60)
+    return _whole(season, title, short, *sections, _history(season), css=STAKES)
 
 
 def _section(name: str, heading: str, *content: Any) -> Html:
@@ -79,7 +129,7 @@ def _summary(season: Any, view: View) -> Html:
     paragraphs: List[Html] = []
     if view.report is None:
         if view.names and view.refused is not None:
-            why = element("strong", pictures.capital(refusal_words(view.refused)) + ".")
+            why = element("strong", capital(refusal_words(view.refused)) + ".")
             paragraphs.append(element("p", "There is no report. ", why, class_="refused"))
     else:
         said.extend(_report_sentences(view))
@@ -225,7 +275,7 @@ def _heading(column: str) -> Html:
 def _curve(view: View, svg: str) -> Html:
     by = "%s and %s" % (view.x_name, view.z_name) if isinstance(view, SurfaceView) else view.x_name
     told = "Picture of %s by %s. " % (view.y_name, by)
-    caption = "%s by %s." % (pictures.capital(view.y_name), by)
+    caption = "%s by %s." % (capital(view.y_name), by)
     shape = "surface" if isinstance(view, SurfaceView) else "curve"
     if view.report is None:
         return _section("curve", "Readings, no %s" % shape, _figure(svg, "picture-curve", told + "No %s." % shape, caption))
@@ -247,13 +297,13 @@ def _curve(view: View, svg: str) -> Html:
         )
     table = _table("curve", ["term", "coefficient", "error", "t", "term is"], rows)
     words = "t is the size of a coefficient over its error. Numbers are rounded here; stake export has them whole."
-    return _section("curve", pictures.capital(shape), _figure(svg, "picture-curve", told, caption), table, element("p", words, class_="quiet"))
+    return _section("curve", capital(shape), _figure(svg, "picture-curve", told, caption), table, element("p", words, class_="quiet"))
 
 
 def _scores(view: View, svg: str) -> Html:
     told = "Picture of the score of each degree. "
     if view.unscored is not None:
-        return _section("scores", "Scores", element("p", "There are no scores. %s." % pictures.capital(refusal_words(view.unscored))))
+        return _section("scores", "Scores", element("p", "There are no scores. %s." % capital(refusal_words(view.unscored))))
     told += "Scores of degrees 0 to %d; degree %d is chosen." % (view.scores.bound, view.scores.degree)
     caption = "The lower, the better; the lowest degree up to the dashed line is chosen."
     rows, kinds = [], []
@@ -377,6 +427,11 @@ LINES
   th, td { padding: 0.2rem 0.4rem; }
   .chosen, .outside, .warnings { print-color-adjust: exact; -webkit-print-color-adjust: exact; }
 }
+"""
+
+# small pictures beside each other, as many as there is room for
+STAKES = """
+.stakes { display: grid; grid-template-columns: repeat(auto-fill, minmax(min(17rem, 100%), 1fr)); gap: 0.5rem 1.5rem; align-items: start; }
 """
 
 # a table's rows as lines, each number with its column's name

@@ -192,8 +192,9 @@ def _seen(season: Any, title: Optional[str], report: Any) -> Tuple[Dict[str, Any
 
 
 def title_of(season: Any) -> str:
-    """The season file's name without its folder and suffix."""
-    return str(os.path.splitext(os.path.basename(season.path))[0])
+    """The season file's name without its folder and suffix, and of a glacier's stake its number."""
+    number = getattr(season, "number", None)
+    return str(os.path.splitext(os.path.basename(season.path))[0]) + ("" if number is None else ", stake %d" % number)
 
 
 def written(text: str, value: float) -> str:
@@ -378,6 +379,18 @@ def inline(view: View) -> Tuple[str, str]:
         _draw_scores(scores.subplots(), view)
         _settle(scores, [])
         return _svg(readings, view, prefix="curve-"), _svg(scores, view, prefix="scores-")
+
+
+def small(view: View, prefix: str) -> str:
+    """One SVG element for a page of many: readings, curve and band. Why there is no curve, the page says."""
+    with _style():
+        drawn = _empty(3.4, 2.5)
+        axes = drawn.subplots()
+        _draw_curve(axes, view)
+        axes.set_title("")
+        axes.set_xlabel(view.x_label)
+        _settle(drawn, [(axes, view)])
+        return _svg(drawn, view, prefix=prefix)
 
 
 def _empty(width: float, height: float) -> Figure:

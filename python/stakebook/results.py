@@ -6,8 +6,9 @@ A summary rounds to six digits; ``as_dict`` keeps every digit.
 from __future__ import annotations
 
 from dataclasses import dataclass, fields
-from typing import Any, ClassVar, Dict, List, NamedTuple, Optional
+from typing import Any, ClassVar, Dict, List, NamedTuple, Optional, Union
 
+from ._library import Refused
 from .settings import Settings, plain
 
 
@@ -200,6 +201,61 @@ class Report(Result):
                 f"{len(outside)} of {self.n} outside the band, which is the {self.shape}'s and not the readings'{where}",
             ]
         )
+
+
+@dataclass(frozen=True)
+class SeasonReport(Result):
+    """The reports of all stakes of a season, with the same settings."""
+
+    settings: Settings
+    #: One a stake, in order: its report, or why there is none.
+    reports: List[Union[Report, Refused]]
+    #: How many stakes are not refused.
+    answered: int
+
+    def as_dict(self) -> Dict[str, Any]:
+        reports = [
+            {"refused": {"number": each.number, "words": each.words}} if isinstance(each, Refused) else each.as_dict() for each in self.reports
+        ]
+        return {"settings": self.settings.as_dict(), "reports": reports, "answered": self.answered}
+
+    @property
+    def lines(self) -> List[str]:
+        """A line for each stake, and one for all that have no readings."""
+        lines, empty = [], []
+        for stake, each in enumerate(self.reports):
+            if not isinstance(each, Refused):
+                lines.append(f"stake {stake}: {in_a_line(each)}")
+            elif each.number == 7:
+                empty.append(stake)
+            else:
+                lines.append(f"stake {stake}: {each}")
+        return lines + ([f"{stakes(empty)}: no readings"] if empty else [])
+
+    def summary(self) -> str:
+        return "\n".join([f"{self.answered} of {len(self.reports)} stakes are not refused ({self.settings.summary()})"] + self.lines)
+
+
+def in_a_line(report: Report) -> str:
+    """A report in one line: readings, degree, how many lie outside the band, and which terms are pruned."""
+    pruned = [term for term, mark in zip(report.terms, report.pruned) if mark]
+    words = f"{_counted(report.n, 'reading')}, degree {report.degree}, {len(report.outside)} outside the band"
+    return words + (f", pruned: {', '.join(pruned)}" if pruned else ", no term pruned")
+
+
+def runs(numbers: List[int]) -> str:
+    """1, 2, 3, 7 as 1 to 3, 7."""
+    found: List[List[int]] = []
+    for number in numbers:
+        if found and number == found[-1][1] + 1:
+            found[-1][1] = number
+        else:
+            found.append([number, number])
+    return ", ".join(str(first) if first == last else f"{first} to {last}" for first, last in found)
+
+
+def stakes(numbers: List[int]) -> str:
+    return f"stake{'s' * (len(numbers) > 1)} {runs(numbers)}"
 
 
 @dataclass(frozen=True)

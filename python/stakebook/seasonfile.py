@@ -21,6 +21,8 @@ from .settings import Settings
 Number = Union[str, float, int]
 
 FIRST = b"stake season 1"
+#: Of a glacier, a file of up to 32 stakes.
+FIRST_OF_GLACIER = b"stake season 2"
 #: What closes a tail that has no newline. It keeps a line that lacked nothing but its newline from becoming a good one.
 CLOSES = b"!\n"
 
@@ -132,20 +134,26 @@ _SETTINGS = (
     r"(surface )?bound (conservative|relaxed|aggressive|0|[1-9][0-9]{0,8}) criterion (aic|bic) "
     r'confidence (P80|P90|P95|P98|P99|P999|[^ "P][^ "]*) tolerance (none|(?:absolute|variance|measurement) [^ "]+) pruning (size|positive)'
 )
-#: What stands behind a line's number and word, by the word.
-_FORMS = {
-    word: re.compile(form)
-    for word, form in (
+
+
+def _forms(stake: str) -> Dict[str, "re.Pattern[str]"]:
+    """What stands behind a line's number and word, by the word. `stake` is the form of a stake's number."""
+    reading = rf"{_NAME} {_NUMBER} {_NUMBER}(?: z {_NUMBER})?(?: weight {_NUMBER})?{stake}"
+    forms = (
         ("settings", _SETTINGS + _TAIL),
-        ("add", rf"{_NAME} {_NUMBER} {_NUMBER}(?: z {_NUMBER})?(?: weight {_NUMBER})?{_TAIL}"),
+        ("add", reading + _TAIL),
         ("correct", rf"{_NAME} {_NUMBER}{_TAIL}"),
         ("withdraw", _NAME + _TAIL),
-        ("import", rf"{_WHOLE}(?: x {_TEXT})?(?: y {_TEXT})?(?: z {_TEXT})?(?: weight {_TEXT})?{_TAIL}"),
-        ("row", rf"{_NAME} {_NUMBER} {_NUMBER}(?: z {_NUMBER})?(?: weight {_NUMBER})?(?: line {_WHOLE})?(?: called {_TEXT})?(?: note {_TEXT})?"),
+        ("import", rf"{_WHOLE}(?: x {_TEXT})?(?: y {_TEXT})?(?: z {_TEXT})?(?: weight {_TEXT})?{stake}{_TAIL}"),
+        ("row", rf"{reading}(?: line {_WHOLE})?(?: called {_TEXT})?(?: note {_TEXT})?"),
         ("undo", _WHOLE + _TAIL),
         ("left-out", rf"{_WHOLE} {_WHOLE}{_TAIL}"),
     )
-}
+    return {word: re.compile(form) for word, form in forms}
+
+
+#: Of a season of one stake, where no line has a stake's number, and of a glacier.
+_FORMS = {False: _forms("((?!))?"), True: _forms("(?: stake (0|[1-9][0-9]{0,8}))?")}
 
 #: A good line's word and fields; None stands for a line that is not good.
 Entry = Optional[Tuple[str, Tuple[Any, ...]]]
@@ -155,7 +163,7 @@ def checked(body: bytes) -> bytes:
     return b"%b %08x\n" % (body, zlib.crc32(body))
 
 
-def number_and_entry(raw: bytes) -> Optional[Tuple[str, Tuple[str, Tuple[Any, ...]]]]:
+def number_and_entry(raw: bytes, glacier: bool = False) -> Optional[Tuple[str, Tuple[str, Tuple[Any, ...]]]]:
     """The number that a line says, and its word and fields, if its check is right and it is of a form. Its newline is not in `raw`."""
     body = raw[:-9]
     if raw[-9:] != b" %08x" % zlib.crc32(body):
@@ -164,7 +172,7 @@ def number_and_entry(raw: bytes) -> Optional[Tuple[str, Tuple[str, Tuple[Any, ..
         number, word, rest = body.decode("utf-8").split(" ", 2)
     except ValueError:
         return None
-    form = _FORMS.get(word)
+    form = _FORMS[glacier].get(word)
     match = form.fullmatch(rest) if form is not None else None
     return (number, (word, match.groups())) if match is not None else None
 
@@ -186,7 +194,7 @@ def _why(place: int, raw: bytes, ended: bool) -> str:
         return "it is not UTF-8"
     if fields[0] != str(place):
         return f"it says that it is line {fields[0]}"
-    if len(fields) < 3 or fields[1] not in _FORMS:
+    if len(fields) < 3 or fields[1] not in _FORMS[False]:
         return "it is no call that this version knows"
     return f"what follows its {fields[1]!r} is not as the format has it"
 
@@ -291,7 +299,7 @@ class Scan:
         #: Calls on another line than they say: no cut-off write leaves these.
         self.moved: Set[int] = set()
         for place, raw in enumerate(self.raw[1:], 2):
-            found = number_and_entry(raw)
+            found = number_and_entry(raw, self.glacier)
             if found is not None and found[0] == str(place):
                 self.entries.append(found[1])
             else:
@@ -323,12 +331,15 @@ class Scan:
 
     def _first_lines(self, data: bytes) -> None:
         cut_off = f"{self.path}: the season was cut off while it was made, before anything was in it: remove the file and make it again"
-        if not self.raw or self.raw[0] + b"\n" != checked(FIRST):
-            if checked(FIRST).startswith(data):
+        firsts = (checked(FIRST), checked(FIRST_OF_GLACIER))
+        if not self.raw or self.raw[0] + b"\n" not in firsts:
+            if any(first.startswith(data) for first in firsts):
                 raise SeasonError(cut_off)
-            if self.raw[0].rstrip(b"\r") + b"\n" == checked(FIRST):
+            if self.raw[0].rstrip(b"\r") + b"\n" in firsts:
                 raise SeasonError(f"{self.path}: its line ends were changed to those of Windows; take them back to those of Unix (dos2unix) first")
             _no_season(self.path, data[:100])
+        #: Whether it is a glacier's, of several stakes.
+        self.glacier = self.raw[0] + b"\n" == firsts[1]
         if len(self.raw) < 2 or (len(self.raw) == 2 and not self.ended):
             raise SeasonError(cut_off)
 
@@ -451,10 +462,10 @@ def _no_season(path: str, begin: bytes) -> NoReturn:
     line = begin.split(b"\n")[0][:100]
     body = line[:-9]
     if body.startswith(FIRST[:-1]) and checked(body) == line + b"\n":
-        raise SeasonError(f"{path}: the season is of version {body[len(FIRST) - 1 :].decode('utf-8', 'replace')}, and this program reads version 1")
-    if line.startswith(FIRST):
+        raise SeasonError(f"{path}: the season is of version {body[len(FIRST) - 1 :].decode('utf-8', 'replace')}, and this program reads versions 1 and 2")
+    if line.startswith((FIRST, FIRST_OF_GLACIER)):
         raise SeasonError(f"{path}: line 1 is damaged: it does not match its check")
-    raise SeasonError(f"{path}: it is no season: its first line does not begin with 'stake season 1'")
+    raise SeasonError(f"{path}: it is no season: its first line does not begin with 'stake season 1' or 'stake season 2'")
 
 
 def write_whole(descriptor: int, data: bytes) -> None:

@@ -170,8 +170,6 @@ class Surface:
         call, book = later(self._library, "surface_report"), self._books[0]
         with self._lock:
             answer = ask(call, "group_surface_report", group, allowance, book._count, *settings.codes.lists, *self._for_report)
-            if answer >> 56:
-                raise Refused(answer >> 56)
             return book._reported(SurfaceReport, settings, answer, surface_terms(answer & 0xFF))
 
     @overload

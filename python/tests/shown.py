@@ -19,6 +19,7 @@ class Shown:
         report: Optional[Callable[[], Any]] = None,
     ) -> None:
         self.path = "shown.stake"
+        self.glacier = False
         self.settings = settings
         self.x_name: Optional[str] = None
         self.y_name: Optional[str] = None

@@ -39,7 +39,7 @@ sys.path.insert(0, str(ROOT / "python"))
 
 import stakebook
 from stakebook import Book, Calls, DegreeScore, LibraryError, Refused, Report, Scores, Settings, _library, book as book_module, results, settings
-from stakebook import Allowance, Surface, allowance as allowance_module, surface as surface_module
+from stakebook import Allowance, Surface, allowance as allowance_module, glacier as glacier_module, surface as surface_module
 
 try:
     import numpy
@@ -50,6 +50,7 @@ NAN, INF = math.nan, math.inf
 HAS_SCORES = _library.library().scores is not None
 HAS_SURFACE = _library.library().surface_report is not None
 HAS_GROUPS = _library.library().group_report is not None
+HAS_SEASONS = _library.library().season_report is not None
 PIT = [0.1, 0.3, 0.5, 0.7, 0.9, 1.1], [212, 240.5, 251, 287, 290, 322.5]
 
 
@@ -132,6 +133,13 @@ class Player:
         self.book = None
         self.written = {}
 
+    def made(self, capacity):
+        """A book to play on, and so a copy of it."""
+        return Book(capacity)
+
+    def copied(self):
+        return self.book.copy()
+
     def silent(self, word, *fields):
         """Lines that print nothing."""
         if word == "lent":
@@ -151,11 +159,11 @@ class Player:
             return False
         capacity = min(self.lent["xs"], self.lent["ys"], self.lent["ws"], 4096)
         if word == "open":
-            self.book = Book(capacity)
+            self.book = self.made(capacity)
         if self.book is None or self.book.count > capacity:
             return False
         if self.book.capacity != capacity:
-            other = Book(capacity)
+            other = self.made(capacity)
             for to, of in zip(other._kept[1:], self.book._kept[1:]):
                 to[: self.book.count] = of[: self.book.count]
             other._kept[0][:] = self.book._kept[0]
@@ -219,7 +227,7 @@ class Player:
     def frame(self, text=""):
         """By `add_frame`; and where it is a frame, by `extend` too, which must leave the same."""
         frame = bytes.fromhex(text)
-        other = self.book.copy()
+        other = self.copied()
         try:
             answer = f"book {self.book.add_frame(frame)}"
         except Refused as refused:
@@ -276,9 +284,11 @@ class Player:
 class Judged(unittest.TestCase):
     """The module answers as the judge did when it was asked the same, bit for bit, and a refused change leaves every place of the memory."""
 
+    player = Player
+
     def play(self, calls, least):
         answers = iter(calls.with_suffix(".answers").read_text().splitlines())
-        player, compared, said = Player(), 0, None
+        player, compared, said = self.player(), 0, None
         for at, line in enumerate(calls.read_bytes().decode("latin-1").split("\n"), 1):
             if line == "" or line.startswith("#"):
                 continue
@@ -296,6 +306,7 @@ class Judged(unittest.TestCase):
                 said = None
         self.assertIsNone(next(answers, None))
         self.assertGreaterEqual(compared, least)
+        return player
 
 
 # each list with the answers that were compared when this was written, less a few
@@ -342,6 +353,8 @@ class Header(unittest.TestCase):
             tuple(defined[name] for name in ("SUMS", "TERMS", "BAND", "LOSSES", "MOST")),
         )
         self.assertEqual((_library.GROUPS, _library.TABLE), (defined["GROUPS"], defined["TABLE"]))
+        if "stakebook_season_open(" in self.text:
+            self.assertEqual(_library.STAKES, defined["STAKES"])
         for table in (settings._BOUNDS, settings._CRITERIA, settings._CONFIDENCES, settings._TOLERANCES):
             for name, value in table.items():
                 self.assertEqual(defined[name.upper()], value)
@@ -1432,7 +1445,8 @@ class Found(unittest.TestCase):
 def load_tests(loader, tests, pattern):
     """The examples of the docstrings and of docs/PYTHON.md are tests too."""
     flags = doctest.ELLIPSIS
-    for module in (stakebook, _library, settings, results, book_module, surface_module) + (allowance_module,) * HAS_GROUPS:
+    modules = (stakebook, _library, settings, results, book_module, surface_module)
+    for module in modules + (allowance_module,) * HAS_GROUPS + (glacier_module,) * HAS_SEASONS:
         for case in doctest.DocTestSuite(module, optionflags=flags):
             if (HAS_SCORES or not case.id().endswith("Book.scores")) and (HAS_SURFACE or "Surface" not in case.id()):
                 tests.addTest(case)
@@ -1440,7 +1454,8 @@ def load_tests(loader, tests, pattern):
     # a fence ends an example as a blank line does
     text = re.sub(r"^```.*$", "", path.read_text("utf-8"), flags=re.M)
     for part, section in enumerate(re.split(r"^(?=## )", text, flags=re.M)):
-        lacking = [word for word, there in ((r"\.scores\(", HAS_SCORES), (r"Surface\(", HAS_SURFACE), (r"Allowance\(", HAS_GROUPS)) if not there]
+        words = (r"\.scores\(", HAS_SCORES), (r"Surface\(", HAS_SURFACE), (r"Allowance\(", HAS_GROUPS), (r"Season\(", HAS_SEASONS)
+        lacking = [word for word, there in words if not there]
         if ">>>" in section and not any(re.search(rf"^>>> .*{word}", section, flags=re.M) for word in lacking):
             name = section.splitlines()[0].lstrip("# ")
             example = doctest.DocTestParser().get_doctest(section, {}, f"PYTHON.md: {name}", str(path), 0)

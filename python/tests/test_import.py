@@ -16,7 +16,7 @@ sys.path.insert(0, str(ROOT / "python"))
 
 from stakebook.exporting import to_calls, to_csv, to_frame
 from stakebook.importing import MISSING, RefusedField, TableError, decimal_point, read_table
-from stakebook.season import NewRow, Season
+from stakebook.season import NewRow, SeasonFile
 from stakebook.seasonfile import SeasonError
 
 ROWS = [("0.10", "212"), ("0.30", "240.5"), ("-0.5", "-251"), ("1", "287")]
@@ -193,11 +193,11 @@ class AllOrNothing(unittest.TestCase):
             read_table("/")
 
     def test_there_and_back(self):
-        season = Season.create(self.path)
+        season = SeasonFile.create(self.path)
         season.add_rows([NewRow("0.10", "212", "2", 2, 'A "1"', "wet;\nsnow"), NewRow("0.30", "240.5"), NewRow("-0x1.8p+1", "007")], source="a.csv")
         season.add(1 / 3, 2 / 3)
         season.withdraw("r2")
-        other = Season.create(self.path + "2")
+        other = SeasonFile.create(self.path + "2")
         read = read_table("export.csv", weight="weight", data=to_csv(season))
         other.add_rows(read.rows, read.columns, read.source)
         self.assertEqual(other.book.bits(), season.book.bits())
@@ -206,7 +206,7 @@ class AllOrNothing(unittest.TestCase):
     def test_a_frame_is_what_the_library_reads(self):
         from stakebook import Book
 
-        season = Season.create(self.path)
+        season = SeasonFile.create(self.path)
         self.assertEqual(to_frame(season), b"\x00\x01\x02")
         season.add_rows([NewRow(str(i), "0.1", "0.5") for i in range(2731)])
         with self.assertRaisesRegex(SeasonError, "at most 2,730 readings"):
@@ -217,7 +217,7 @@ class AllOrNothing(unittest.TestCase):
         self.assertEqual(book.bits(), season.book.bits())
 
     def test_the_calls_in_force(self):
-        season = Season.create(self.path)
+        season = SeasonFile.create(self.path)
         season.add("1", "-0.1", "2")
         season.add("3", "4")
         season.correct("r2", "5")

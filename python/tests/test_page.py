@@ -22,7 +22,7 @@ import numpy
 from browser import Browser
 from shown import Shown, ShownSurface, raising, reading
 from stakebook import DegreeScore, Refused, Scores, Settings, page, _library
-from stakebook.season import NewRow, Season
+from stakebook.season import NewRow, SeasonFile
 
 WIDTHS = (360, 1280)
 BAD_NOTE = "<script>document.title='run'</script> & \"quoted\" <b>bold</b>"
@@ -387,9 +387,9 @@ class OtherSeasons(Shows):
 
     def test_a_season_file_without_a_report(self):
         """Of a real season, empty or with a bound that is refused, there is a page too."""
-        season = Season.create(os.path.join(self.folder.name, "empty.stake"), Settings(bound=1))
+        season = SeasonFile.create(os.path.join(self.folder.name, "empty.stake"), Settings(bound=1))
         self.assertIn("0 readings are in force", page.render(season))
-        season = Season.create(os.path.join(self.folder.name, "refused.stake"), Settings(bound=1, criterion="aic"))
+        season = SeasonFile.create(os.path.join(self.folder.name, "refused.stake"), Settings(bound=1, criterion="aic"))
         season.add_rows([NewRow("0", "0x1.fffffffffffffp+1023")] * 4)
         self.assertIn("There is no report. <strong>Refusal 11:", page.render(season))
 

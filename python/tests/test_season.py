@@ -22,7 +22,7 @@ ROOT = Path(__file__).resolve().parents[2]
 sys.path.insert(0, str(ROOT / "python"))
 
 from stakebook import Book, Refused, Settings, _library, season as season_module, seasonfile
-from stakebook.season import NewRow, RefusedName, RefusedRow, Season, check, leave_out
+from stakebook.season import NewRow, RefusedName, RefusedRow, SeasonFile, check, leave_out
 from stakebook.seasonfile import Numbers, NotSaved, RefusedText, SeasonError, SettingsText, written
 
 AT = "2026-03-14T09:00:00Z"
@@ -176,7 +176,7 @@ class Folder(unittest.TestCase):
 
     def season(self):
         """A small one with every kind of call."""
-        season = Season.create(self.path, SettingsText(bound="2"))
+        season = SeasonFile.create(self.path, SettingsText(bound="2"))
         rows = [NewRow("0.10", "212", None, 2, "A1"), NewRow("0.30", "240.5", "2", 3, "A2", "dug by two"), NewRow("0.50", "251", None, 5)]
         season.add_rows(rows, ("depth (m)", "density (kg m-3)", None), "pit.csv", "from the hut")
         season.add("0.70", "287", source="field book, page 12")
@@ -213,7 +213,7 @@ class Format(Folder):
 
     def test_what_a_reader_sees(self):
         season = self.season()
-        again = Season.open(self.path)
+        again = SeasonFile.open(self.path)
         self.assertEqual(seen(again), seen(season))
         self.assertEqual(second_reader(self.data())[0], standing_of(again))
         self.assertEqual(again.settings, Settings("relaxed", "aic", 1.5, ("absolute", 0.25), "positive"))
@@ -239,12 +239,12 @@ class Format(Folder):
         guide = (ROOT / "docs" / "SEASON.md").read_text(encoding="utf-8")
         example = guide.split("```\n")[1].encode()
         self.put(example)
-        season = Season.open(self.path)
+        season = SeasonFile.open(self.path)
         self.assertEqual(second_reader(example)[0], standing_of(season))
         self.assertEqual(standing_of(season), [("r1", "0.10", "212", "1"), ("r2", "0.30", "240.5", "1"), ("r3", "0.50", "251", "2"), ("r4", "0.70", "278", "1")])
 
     def test_names_are_never_given_twice(self):
-        season = Season.create(self.path)
+        season = SeasonFile.create(self.path)
         for _ in range(2):
             season.add("1", "2")
             season.undo()
@@ -252,7 +252,7 @@ class Format(Folder):
         season.withdraw("r4")
         season.add("3", "4")
         self.assertEqual([(r.name, r.state) for r in season.readings], [("r3", "stands"), ("r4", "withdrawn"), ("r5", "stands")])
-        self.assertEqual(Season.open(self.path).add("4", "5").name, "r6")
+        self.assertEqual(SeasonFile.open(self.path).add("4", "5").name, "r6")
 
     def test_the_earliest_call_is_undone_last_and_then_there_is_none(self):
         season = self.season()
@@ -262,24 +262,24 @@ class Format(Folder):
             season.undo()
         self.assertEqual(season.readings, [])
         self.assertEqual(season.settings.bound, 2)
-        self.assertEqual(seen(Season.open(self.path)), seen(season))
+        self.assertEqual(seen(SeasonFile.open(self.path)), seen(season))
 
     def test_a_note_may_hold_any_text(self):
-        season = Season.create(self.path)
+        season = SeasonFile.create(self.path)
         notes = ["\\", '"', "\n\r\t\0\x1f\x7f", "at 2026", "\u2028\u0085", "日本 🏔", " ", "x" * 10000, "source", "r1 00000000"]
         for note in notes:
             season.add("1", "2", note=note, source=note[::-1])
-        again = Season.open(self.path)
+        again = SeasonFile.open(self.path)
         self.assertEqual([r.note for r in again.readings], notes)
         self.assertEqual([r.source for r in again.readings], [note[::-1] for note in notes])
         with self.assertRaisesRegex(SeasonError, "UTF-8 does not have"):
             season.add("1", "2", note="\udc80")
-        self.assertEqual(seen(Season.open(self.path)), seen(season))
+        self.assertEqual(seen(SeasonFile.open(self.path)), seen(season))
 
     def test_files_of_other_programs(self):
         # half a pair in JSON, which UTF-8 can't hold; a path's slash escaped; a call without a time
         self.put(text_of('add r7 1 2 source "a\\/b" note "\\ud800 \\u00fc \\ud83c\\udfd4"', "add r9 0x1p+0 -0x0p+0"))
-        season = Season.open(self.path)
+        season = SeasonFile.open(self.path)
         self.assertEqual([(r.name, r.source, r.note) for r in season.readings], [("r7", "a/b", "\ufffd ü 🏔"), ("r9", None, None)])
         self.assertEqual(str(season.book.ys), "[2.0, -0.0]")
         self.assertIsNone(season.history[1].time)
@@ -290,7 +290,7 @@ class WhatIsNoSeason(Folder):
     def refused(self, data, words):
         self.put(data)
         with self.assertRaisesRegex(SeasonError, words):
-            Season.open(self.path)
+            SeasonFile.open(self.path)
 
     def test_by_its_first_lines(self):
         self.refused(b"", "cut off while it was made")
@@ -299,7 +299,7 @@ class WhatIsNoSeason(Folder):
         self.refused(line(FIRST) + b"2 settings bound", "cut off while it was made")
         self.refused(b"x,y\n1,2\n", "it is no season")
         self.refused(b"\0" * 100, "it is no season")
-        self.refused(line("stake season 2"), "is of version 2")
+        self.refused(line("stake season 3"), "is of version 3")
         self.refused(line("stake season 12"), "is of version 12")
         self.refused(text_of("add r1 1 2").replace(b"\n", b"\r\n"), "line ends were changed to those of Windows")
         self.refused(line(FIRST) + line("2 add r1 1 2") + line("3 add r2 1 2"), "line 2 does not have the season's settings")
@@ -361,16 +361,16 @@ class WhatIsNoSeason(Folder):
     def test_more_readings_than_a_book_holds(self):
         self.put(text_of(*[f"add r{i} {i} 1" for i in range(1, 4098)]))
         with self.assertRaisesRegex(SeasonError, "line 4099: refused by 5"):
-            Season.open(self.path)
+            SeasonFile.open(self.path)
 
     def test_what_is_no_file(self):
         for path, words in ((self.folder, "not a file"), (self.path, "No such file"), ("/dev/zero", "not a file")):
             with self.assertRaisesRegex(SeasonError, words):
-                Season.open(path)
+                SeasonFile.open(path)
         fifo = os.path.join(self.folder, "fifo")
         os.mkfifo(fifo)
         with self.assertRaisesRegex(SeasonError, "not a file"):
-            Season.open(fifo)
+            SeasonFile.open(fifo)
 
 
 # ---- numbers
@@ -462,12 +462,12 @@ class ListsOfCalls(Folder):
     def test_any_list_of_calls_and_the_book_again(self):
         rng = random.Random(3)
         for _ in range(12):
-            season, model = Season.create(self.path, Settings(bound=3)), Model()
+            season, model = SeasonFile.create(self.path, Settings(bound=3)), Model()
             for step in range(50):
                 self.step(rng, season, model)
                 self.assertEqual([list(row) for row in standing_of(season)], model.rows)
                 if step % 5 == 0:
-                    again = Season.open(self.path)
+                    again = SeasonFile.open(self.path)
                     self.assertEqual(seen(again), seen(season))
                     self.assertEqual(second_reader(self.data())[0], standing_of(season))
             found = check(self.path)
@@ -529,7 +529,7 @@ class ListsOfCalls(Folder):
         self.assertEqual(season.book.bits(), book.bits())
 
     def test_two_that_write_in_turns(self):
-        one, two = Season.create(self.path), Season.open(self.path)
+        one, two = SeasonFile.create(self.path), SeasonFile.open(self.path)
         for i in range(6):
             (one, two)[i % 2].add(str(i), "1")
         self.assertEqual([r.name for r in two.readings], [f"r{i}" for i in range(1, 7)])
@@ -537,27 +537,27 @@ class ListsOfCalls(Folder):
         with self.assertRaises(RefusedName):
             two.withdraw("r6")
         two.withdraw("r1")
-        self.assertEqual(seen(Season.open(self.path)), seen(two))
+        self.assertEqual(seen(SeasonFile.open(self.path)), seen(two))
 
     def test_two_threads(self):
-        Season.create(self.path)
+        SeasonFile.create(self.path)
 
         def write(sign):
             for i in range(40):
-                Season.open(self.path).add(f"{sign}{i}", "1")
+                SeasonFile.open(self.path).add(f"{sign}{i}", "1")
 
         threads = [threading.Thread(target=write, args=(sign,)) for sign in ("", "-")]
         for thread in threads:
             thread.start()
         for thread in threads:
             thread.join()
-        season = Season.open(self.path)
+        season = SeasonFile.open(self.path)
         self.assertEqual([r.name for r in season.readings], [f"r{i}" for i in range(1, 81)])
         self.assertEqual({r.x_text for r in season.readings}, {f"{sign}{i}" for sign in ("", "-") for i in range(40)})
 
     def test_a_reader_waits_for_a_writer(self):
         # the half of a line that a writer has written so far is never taken for a torn one
-        season = Season.create(self.path)
+        season = SeasonFile.create(self.path)
         halves, write = threading.Event(), os.write
 
         def slowly(descriptor, data):
@@ -570,16 +570,16 @@ class ListsOfCalls(Folder):
             thread = threading.Thread(target=season.add, args=("1", "2"))
             thread.start()
             halves.wait()
-            seasons = [Season.open(self.path) for _ in range(3)]
+            seasons = [SeasonFile.open(self.path) for _ in range(3)]
             thread.join()
         self.assertEqual([(s.torn, s.book.count) for s in seasons], [(None, 1)] * 3)
 
     def test_a_file_that_another_takes_the_place_of_while_one_waits(self):
         waits = threading.Event()
-        season = Season.create(self.path)
+        season = SeasonFile.create(self.path)
         season.add("1", "1")
-        season = Season.open(self.path, waits.set)
-        other = Season.create(self.path + "2")
+        season = SeasonFile.open(self.path, waits.set)
+        other = SeasonFile.create(self.path + "2")
         other.add_rows([NewRow("5", "6"), NewRow("7", "8")])
         with open(self.path, "rb") as file:
             fcntl.flock(file, fcntl.LOCK_EX)
@@ -590,11 +590,11 @@ class ListsOfCalls(Folder):
             fcntl.flock(file, fcntl.LOCK_UN)
             thread.join()
             self.assertEqual(len(file.read().splitlines()), 3)
-        self.assertEqual([(r.name, r.x_text) for r in Season.open(self.path).readings], [("r1", "5"), ("r2", "7"), ("r3", "2")])
-        self.assertEqual(seen(Season.open(self.path)), seen(season))
+        self.assertEqual([(r.name, r.x_text) for r in SeasonFile.open(self.path).readings], [("r1", "5"), ("r2", "7"), ("r3", "2")])
+        self.assertEqual(seen(SeasonFile.open(self.path)), seen(season))
 
     def test_what_a_full_book_refuses(self):
-        season = Season.create(self.path)
+        season = SeasonFile.create(self.path)
         season.add_rows([NewRow(str(i), "1") for i in range(4095)])
         with self.assertRaises(RefusedRow) as raised:
             season.add_rows([NewRow("1", "1"), NewRow("1", "1")])
@@ -605,10 +605,10 @@ class ListsOfCalls(Folder):
         self.assertEqual(raised.exception.number, 5)
         season.withdraw("r17")
         season.add("1", "1")
-        self.assertEqual(seen(Season.open(self.path)), seen(season))
+        self.assertEqual(seen(SeasonFile.open(self.path)), seen(season))
 
     def test_numbers_of_programs_that_the_library_refuses(self):
-        season = Season.create(self.path)
+        season = SeasonFile.create(self.path)
         season.add(1.0, 2.0)
         for call in (lambda: season.add(float("inf"), 1.0), lambda: season.add(1.0, 1.0, float("nan")), lambda: season.correct("r1", float("nan"))):
             with self.assertRaises(Refused) as raised:
@@ -621,7 +621,7 @@ class ListsOfCalls(Folder):
             season.set(Settings(bound=16))
         self.assertEqual(raised.exception.number, 8)
         self.assertEqual(len(self.data().splitlines()), 3)
-        self.assertEqual(seen(Season.open(self.path)), seen(season))
+        self.assertEqual(seen(SeasonFile.open(self.path)), seen(season))
 
 
 # ---- saving
@@ -637,7 +637,7 @@ class Saving(Folder):
             order.append("folder" if os.path.isdir(f"/proc/self/fd/{descriptor}") else status.st_size)
 
         with mock.patch.object(seasonfile.os, "fsync", synced):
-            season = Season.create(self.path)
+            season = SeasonFile.create(self.path)
             self.assertEqual(order, [len(self.data()), "folder"])
             for call, *given in ((season.add, "1", "2"), (season.correct, "r1", "3"), (season.withdraw, "r1"), (season.undo,), (season.set, Settings())):
                 order.clear()
@@ -650,7 +650,7 @@ class Saving(Folder):
         self.season()
         before = self.data()
         with self.assertRaisesRegex(SeasonError, "there already"):
-            Season.create(self.path)
+            SeasonFile.create(self.path)
         self.assertEqual(self.data(), before)
 
     def test_a_write_that_fails(self):
@@ -668,11 +668,11 @@ class Saving(Folder):
                 season.add("0.9", "290")
             self.assertEqual(len(self.data()), len(before) + short)
             self.assertEqual(seen(season), was)
-            again = Season.open(self.path)
+            again = SeasonFile.open(self.path)
             self.assertEqual(seen(again)[:4], was[:4])
             self.assertEqual(again.torn is not None, short > 0)
             self.assertEqual(season.add("0.9", "290").name, "r6")
-            self.assertEqual(standing_of(Season.open(self.path)), standing_of(season))
+            self.assertEqual(standing_of(SeasonFile.open(self.path)), standing_of(season))
             self.assertTrue(self.data().startswith(before))
             os.unlink(self.path)
 
@@ -684,12 +684,12 @@ class Saving(Folder):
         # it is in the file, as far as anybody can see
         season.add("1", "1")
         self.assertEqual([r.name for r in season.readings][-2:], ["r6", "r7"])
-        self.assertEqual(seen(Season.open(self.path)), seen(season))
+        self.assertEqual(seen(SeasonFile.open(self.path)), seen(season))
 
     def test_a_new_season_that_can_not_be_written(self):
         with mock.patch.object(seasonfile.os, "write", side_effect=OSError(28, "No space left on device")):
             with self.assertRaisesRegex(NotSaved, "no season was made"):
-                Season.create(self.path)
+                SeasonFile.create(self.path)
         self.assertEqual(os.listdir(self.folder), [])
 
 
@@ -707,12 +707,12 @@ class Torn(Folder):
 
     def cut(self, before, after, step=1):
         self.put(before)
-        old = Season.open(self.path)
+        old = SeasonFile.open(self.path)
         self.put(after)
-        new = Season.open(self.path)
+        new = SeasonFile.open(self.path)
         for end in range(len(before), len(after) + 1, step):
             self.put(after[:end])
-            season = Season.open(self.path)
+            season = SeasonFile.open(self.path)
             whole = end == len(after)
             expected = new if whole else old
             self.assertEqual(standing_of(season), standing_of(expected), end)
@@ -727,7 +727,7 @@ class Torn(Folder):
                 self.assertIn(f"line {first} left" if first == last else f"lines {first} to {last} left", season.torn)
             # and the next writer goes on
             name = season.add("2", "300").name
-            again = Season.open(self.path)
+            again = SeasonFile.open(self.path)
             self.assertEqual(standing_of(again), standing_of(expected) + [(name, "2", "300", "1")], end)
             self.assertEqual(again.book.bits(), season.book.bits(), end)
             self.assertIsNone(again.torn, end)
@@ -762,49 +762,49 @@ class Torn(Folder):
         # cut in the head, at the end of the head, before the last newline of all
         for end in (len(before) + 9, head, len(after) - 1):
             self.put(after[:end])
-            season = Season.open(self.path)
+            season = SeasonFile.open(self.path)
             season.add("0.9", "290")
             whole = self.data()
             self.put(after[:end])
-            old = Season.open(self.path)
+            old = SeasonFile.open(self.path)
             for cut in range(end, len(whole)):
                 self.put(whole[:cut])
-                season = Season.open(self.path)
+                season = SeasonFile.open(self.path)
                 self.assertEqual(standing_of(season), standing_of(old), (end, cut))
                 self.assertEqual(second_reader(whole[:cut])[0], standing_of(old), (end, cut))
                 season.withdraw("r3")
-                again = Season.open(self.path)
+                again = SeasonFile.open(self.path)
                 self.assertEqual(standing_of(again), [row for row in standing_of(old) if row[0] != "r3"], (end, cut))
                 self.assertEqual(seen(again), seen(season))
                 self.assertEqual(second_reader(self.data())[0], standing_of(again), (end, cut))
                 self.assertTrue(self.data().startswith(whole[:cut]))
 
     def test_a_new_season_that_is_cut_off_is_none(self):
-        Season.create(self.path)
+        SeasonFile.create(self.path)
         whole = self.data()
         for end in range(len(whole)):
             self.put(whole[:end])
             with self.assertRaisesRegex(SeasonError, "cut off while it was made"):
-                Season.open(self.path)
+                SeasonFile.open(self.path)
 
 
 class Damage(Folder):
     def test_a_byte_that_changed_is_found_wherever_it_is(self):
         self.season()
         whole = self.data()
-        good = seen(Season.open(self.path))
+        good = seen(SeasonFile.open(self.path))
         last = whole.rindex(b"\n", 0, -1) + 1
         for at in range(len(whole)):
             for flip in (1, 0x20):
                 self.put(whole[:at] + bytes([whole[at] ^ flip]) + whole[at + 1 :])
                 if at >= last - 1:
                     # the last line may be one that is torn: it is left out and named, and the rest stands; two that became one are one
-                    season = Season.open(self.path)
+                    season = SeasonFile.open(self.path)
                     self.assertIn("line 13 left out" if at >= last else "line 12 left out", season.torn)
                     self.assertEqual(len(season.history), len(good[1]) - (1 if at >= last else 2))
                 else:
                     with self.assertRaises(SeasonError):
-                        Season.open(self.path)
+                        SeasonFile.open(self.path)
 
     def test_a_line_that_is_taken_out_put_in_or_moved_is_found(self):
         self.season()
@@ -813,22 +813,22 @@ class Damage(Folder):
             for changed in (lines[:i] + lines[i + 1 :], lines[: i + 1] + lines[i:], lines[:i] + [lines[i + 1], lines[i]] + lines[i + 2 :]):
                 self.put(b"".join(changed))
                 with self.assertRaises(SeasonError):
-                    Season.open(self.path)
+                    SeasonFile.open(self.path)
                 with self.assertRaises(NoSeason):
                     second_reader(self.data())
         # of the last line nobody can tell that it was there
         self.put(b"".join(lines[:-1]))
-        self.assertEqual(Season.open(self.path).book.count, 5)
+        self.assertEqual(SeasonFile.open(self.path).book.count, 5)
 
     def test_a_moved_line_that_was_given_up_does_not_make_a_torn_tail_a_damaged_one(self):
         whole = text_of("add r1 1 2", "add r2 3 4")
         self.put(whole + line("4 add r2 3 4"))
         self.assertEqual(check(self.path).damaged, [(5, "it says that it is line 4")])
         leave_out(self.path, [5])
-        Season.open(self.path).add("5", "6")
+        SeasonFile.open(self.path).add("5", "6")
         whole = self.data()
         self.put(whole[:-1])
-        self.assertIn("line 7 left out: it is cut off", Season.open(self.path).torn)
+        self.assertIn("line 7 left out: it is cut off", SeasonFile.open(self.path).torn)
         self.assertEqual(second_reader(self.data())[2], 7)
 
     def test_what_a_check_says_and_how_lines_are_given_up(self):
@@ -841,7 +841,7 @@ class Damage(Folder):
         self.assertFalse(found.good)
         self.assertEqual(found.damaged, [(5, "it does not match its check"), (11, "it does not match its check")])
         with self.assertRaisesRegex(SeasonError, "line 5 is damaged: it does not match its check .2 lines in all."):
-            Season.open(self.path)
+            SeasonFile.open(self.path)
         for wrong in ([5], [5, 6], [5, 11, 12]):
             with self.assertRaisesRegex(SeasonError, "the damaged lines are 5, 11"):
                 leave_out(self.path, wrong)
@@ -857,7 +857,7 @@ class Damage(Folder):
         lines[5] = lines[5][:-3] + b"zz\n"
         self.put(b"".join(lines))
         leave_out(self.path, [6])
-        season = Season.open(self.path)
+        season = SeasonFile.open(self.path)
         self.assertEqual([r.name for r in season.readings], ["r1", "r2", "r4", "r5"])
         self.assertEqual(second_reader(self.data())[0], standing_of(season))
         self.assertTrue(self.data().startswith(b"".join(lines)))
@@ -871,13 +871,13 @@ class Damage(Folder):
         self.put(text_of("import 2", "row r1 1 2", "row r2 3 4", "add r3 5 6").replace(b"import 2", b"import 3"))
         self.assertEqual([line for line, _ in check(self.path).damaged], [3, 4, 5])
         leave_out(self.path, [3, 4, 5])
-        self.assertEqual(standing_of(Season.open(self.path)), [("r3", "5", "6", "1")])
+        self.assertEqual(standing_of(SeasonFile.open(self.path)), [("r3", "5", "6", "1")])
 
     def test_an_import_that_lacks_rows_in_the_middle(self):
         self.put(text_of("import 2", "row r1 1 2", "add r3 5 6"))
         self.assertEqual(check(self.path).damaged, [(3, "its import has 1 of its 2 rows"), (4, "it is a row with no import before it")])
         with self.assertRaisesRegex(SeasonError, "line 3 is damaged: its import has 1 of its 2 rows"):
-            Season.open(self.path)
+            SeasonFile.open(self.path)
 
     def test_a_check_compares_books(self):
         self.season()
@@ -901,7 +901,7 @@ class Surfaces(Folder):
     """Seasons whose readings have a z."""
 
     def surface(self):
-        season = Season.create(self.path, SettingsText(bound="2"), surface=True)
+        season = SeasonFile.create(self.path, SettingsText(bound="2"), surface=True)
         rows = [NewRow("0.2", "251", None, 2, "A1", None, "-2"), NewRow("0.6", "293", None, 3, None, None, "-2"), NewRow("0.2", "251", z="0")]
         season.add_rows(rows, ("depth (m)", "density", None, "elevation"), "pits.csv")
         season.add("0.6", "268", z="0.5", note="windy")
@@ -935,12 +935,12 @@ class Surfaces(Folder):
     def test_the_example_of_the_guide_is_a_season(self):
         example = (ROOT / "docs" / "SEASON.md").read_text(encoding="utf-8").split("```\n")[3].encode()
         self.put(example)
-        book = Season.open(self.path).book
+        book = SeasonFile.open(self.path).book
         self.assertEqual((book.xs, book.zs, book.ys), ([0.2, 1.5], [-2.0, 2.0], [251.0, 370.0]))
 
     def test_opened_again(self):
         made = self.surface()
-        for season in (made, Season.open(self.path)):
+        for season in (made, SeasonFile.open(self.path)):
             self.assertTrue(season.surface)
             self.assertEqual((season.book.xs, season.book.zs, season.book.ys), ([0.2, 0.2, 0.6, 0.5], [-2.0, 0.0, 0.5, 0.1 + 0.2], [251.0, 251.0, 286.0, 241.0]))
             self.assertEqual([reading.name for reading in season.standing], ["r1", "r3", "r4", "r5"])
@@ -960,7 +960,7 @@ class Surfaces(Folder):
         before = whole[: whole[:-1].rindex(b"\n") + 1]
         for end in range(len(before), len(whole)):
             self.put(whole[:end])
-            self.assertEqual(Season.open(self.path).settings, Settings(bound=2))
+            self.assertEqual(SeasonFile.open(self.path).settings, Settings(bound=2))
 
     def test_one_kind_or_the_other(self):
         season = self.surface()
@@ -974,7 +974,7 @@ class Surfaces(Folder):
             with self.assertRaisesRegex(SeasonError, words):
                 call()
             self.assertEqual((self.data(), season.book.count), (data, 4))
-        curve = Season.create(self.path + "2")
+        curve = SeasonFile.create(self.path + "2")
         with self.assertRaisesRegex(SeasonError, "no z"):
             curve.add("1", "2", z="3")
         with self.assertRaisesRegex(SeasonError, "no z"):
@@ -995,7 +995,7 @@ class Surfaces(Folder):
                 call()
             self.assertEqual((caught.exception.number, self.data(), season.book.count), (number, data, 4))
         with self.assertRaises(Refused) as caught:
-            Season.create(self.path + "2", Settings(bound=5), surface=True)
+            SeasonFile.create(self.path + "2", Settings(bound=5), surface=True)
         self.assertEqual((caught.exception.number, os.path.exists(self.path + "2")), (8, False))
 
     def test_files_that_mix(self):
@@ -1013,10 +1013,10 @@ class Surfaces(Folder):
         ):
             self.put(line(FIRST) + b"".join(line(f"{i} {body}") for i, body in enumerate(bodies, 2)))
             with self.assertRaisesRegex(SeasonError, words):
-                Season.open(self.path)
+                SeasonFile.open(self.path)
 
     def test_warnings(self):
-        season = Season.create(self.path, SettingsText(bound="relaxed"), surface=True)
+        season = SeasonFile.create(self.path, SettingsText(bound="relaxed"), surface=True)
         season.add_rows([NewRow(str(i), str(i * i), z=str(i % 3)) for i in range(6)])
         said = season.warnings()
         self.assertIn("allows degree 0 alone at 6 readings", said[0])
@@ -1035,7 +1035,7 @@ class Warnings(Folder):
         return season.warnings(report, scores)
 
     def test_each(self):
-        season = Season.create(self.path)
+        season = SeasonFile.create(self.path)
         season.add_rows([NewRow(str(i), str(i)) for i in range(8)])
         # on a line, so that nothing lies outside
         self.assertEqual(self.warned(season, Settings(bound=1), 1), [])
@@ -1047,14 +1047,14 @@ class Warnings(Folder):
         self.assertIn("Of the degrees 0 to 4, 2 could not be solved (3, 4): x lies far from 0 beside its spread. Subtract the middle", words)
 
     def test_few_different_x(self):
-        season = Season.create(self.path)
+        season = SeasonFile.create(self.path)
         season.add_rows([NewRow(str(i % 2), str(i % 2)) for i in range(8)])
         words = self.warned(season, Settings(bound=1, tolerance=("absolute", 1)), 3, (2, 3))
         few = "there are 2 different values of x, and a degree needs one more than its number."
         self.assertEqual(words, [f"Of the degrees 0 to 3, 2 could not be solved (2, 3): {few}"])
 
     def test_outliers_and_no_freedom(self):
-        season = Season.create(self.path)
+        season = SeasonFile.create(self.path)
         # 1 and 3 lie 1 below and above the mean 2; its error is the root of 4 / 3 (the squares, by n - k) over 4, so 0.577, and 1.959 times that is 1.13
         season.add_rows([NewRow(str(i), str(1 + 2 * (i % 2))) for i in range(4)])
         self.assertEqual(self.warned(season, Settings(bound=0), 0), [])
@@ -1063,13 +1063,13 @@ class Warnings(Folder):
         season.add("4", "2")
         (words,) = self.warned(season, Settings(bound=0, confidence=0.5, tolerance=("absolute", 0.7)), 0)
         self.assertTrue(words.startswith("4 of 5 readings lie"), words)
-        season = Season.create(self.path + "2")
+        season = SeasonFile.create(self.path + "2")
         season.add("1", "1")
         (words,) = self.warned(season, Settings(bound=0), 0)
         self.assertIn("as many coefficients as readings", words)
 
     def test_a_short_break(self):
-        season = Season.create(self.path)
+        season = SeasonFile.create(self.path)
         season.add_rows([NewRow(str(i), y) for i, y in enumerate("0 1.1 1.9 3.05 2.95 2.1 0.9 0.02".split())])
         settings = Settings(bound=1, criterion="aic")
         split = season.book.split(settings)

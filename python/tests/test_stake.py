@@ -37,7 +37,7 @@ sys.path.insert(0, str(ROOT / "python"))
 
 import stakebook
 from stakebook import Book, Refused, Settings, _library, command, mirror
-from stakebook.season import Season
+from stakebook.season import SeasonFile
 
 STAKE = str(ROOT / "bin" / "stake")
 LIBRARY = _library.library().path
@@ -141,7 +141,7 @@ class Command(unittest.TestCase):
 
     def made(self, *rows, **settings):
         """A season with these readings, made without the command."""
-        season = Season.create(self.season, command.SettingsText(**settings))
+        season = SeasonFile.create(self.season, command.SettingsText(**settings))
         if rows:
             from stakebook.season import NewRow
 
@@ -189,7 +189,7 @@ class WholeSeason(Command):
         self.assertIn("r5 withdrawn and saved; 10 readings", self.stake("withdraw", "s.stake", "r5"))
 
         # the book is the judge's too, to the last bit of the sums
-        book = Season.open(self.season).book
+        book = SeasonFile.open(self.season).book
         shown = {answer.split()[0]: list(map(double, answer.split()[1:])) for _, answer in pairs[-3:]}
         self.assertEqual((book.xs, book.ys, book.sums), (shown["xs"][:10], shown["ys"][:10], shown["sums"]))
 
@@ -208,9 +208,10 @@ class WholeSeason(Command):
         self.assertIn("none damaged", found)
         self.assertEqual(found.count("10 x's, y's and weights and 272 sums are the same, bit for bit"), 2)
 
-    def test_the_session_of_the_guide(self):
-        for words, expected, printed in guide_session(self.folder):
-            self.assertEqual(printed, expected, words)
+    def test_the_sessions_of_the_guide(self):
+        for which in range(SESSIONS):
+            for words, expected, printed in guide_session(self.folder, which):
+                self.assertEqual(printed, expected, words)
 
     def compare(self, report, printed):
         """A report's JSON with what the judge printed: report, coefficients, errors, pruned, lower, upper, outliers."""
@@ -420,11 +421,11 @@ class SurfaceSeason(Command):
     def test_csv_comes_back(self):
         self.stake("import", self.season, self.table, "--z", "elevation")
         out = self.file("again.csv", self.stake("export", self.season))
-        first = Season.open(self.season).book.bits()
+        first = SeasonFile.open(self.season).book.bits()
         self.season += "2"
         self.stake("new", self.season, "--surface")
         self.stake("import", self.season, out, "--z", "z")
-        self.assertEqual(Season.open(self.season).book.bits(), first)
+        self.assertEqual(SeasonFile.open(self.season).book.bits(), first)
 
     def test_what_a_surface_has_not(self):
         self.stake("import", self.season, self.table, "--z", "elevation")
@@ -461,16 +462,20 @@ class SurfaceSeason(Command):
         self.assertIn("a curve has no z", self.fails("report", self.season, "--z", "3", status=2))
 
 
-def guide_blocks():
+SESSIONS = 2  # of a season, and of a glacier
+
+
+def guide_blocks(which):
+    """The guide before a session, the session, and what follows."""
     text = GUIDE.read_text(encoding="utf-8")
-    begin = text.index("```console\n") + len("```console\n")
+    begin = [found.end() for found in re.finditer("```console\n", text)][which]
     end = text.index("```", begin)
     return text[:begin], text[begin:end], text[end:]
 
 
-def guide_session(folder):
-    """Each command of the guide's session, what the guide says that it prints, and what it prints."""
-    for part in re.split(r"^\$ ", guide_blocks()[1], flags=re.M)[1:]:
+def guide_session(folder, which=0):
+    """Each command of a session of the guide, what the guide says that it prints, and what it prints."""
+    for part in re.split(r"^\$ ", guide_blocks(which)[1], flags=re.M)[1:]:
         words, _, expected = part.partition("\n")
         split = shlex.split(words)
         if split[0] == "cat":
@@ -484,10 +489,11 @@ def guide_session(folder):
 
 
 def write_guide():
-    before, _, after = guide_blocks()
-    with tempfile.TemporaryDirectory() as folder:
-        session = "".join(f"$ {words}\n{printed}" for words, _, printed in guide_session(folder))
-    GUIDE.write_text(before + session + after, encoding="utf-8")
+    for which in range(SESSIONS):
+        before, _, after = guide_blocks(which)
+        with tempfile.TemporaryDirectory() as folder:
+            session = "".join(f"$ {words}\n{printed}" for words, _, printed in guide_session(folder, which))
+        GUIDE.write_text(before + session + after, encoding="utf-8")
 
 
 class Refusals(Command):
@@ -873,7 +879,7 @@ class Wrong(Command):
 
     def test_a_terminal_without_the_letters(self):
         self.made()
-        Season.open(self.season).add("1", "2", note="Föhn 🏔")
+        SeasonFile.open(self.season).add("1", "2", note="Föhn 🏔")
         done = started(["list", "s.stake"], self.folder, PYTHONIOENCODING="latin-1")
         self.assertEqual(done.returncode, 0)
         self.assertIn("Föhn \\U0001f3d4".encode("latin-1"), done.stdout)
@@ -881,7 +887,7 @@ class Wrong(Command):
     def test_an_interrupt(self):
         self.made(("1", "2"))
         said = io.StringIO()
-        with mock.patch.object(command.Season, "undo", side_effect=KeyboardInterrupt), contextlib.redirect_stderr(said):
+        with mock.patch.object(command.SeasonFile, "undo", side_effect=KeyboardInterrupt), contextlib.redirect_stderr(said):
             self.assertEqual(command.main(["undo", self.season]), 130)
         self.assertIn("interrupted; `stake list` says whether the call was saved", said.getvalue())
 
@@ -916,7 +922,7 @@ class Files(Command):
                 book.withdraw(int(fields[0]))
             elif word == "report":
                 self.assertEqual(" ".join(fields), "custom 2 bic p95 0000000000000000 none 0000000000000000 size")
-        self.assertEqual(book.bits(), Season.open(self.season).book.bits())
+        self.assertEqual(book.bits(), SeasonFile.open(self.season).book.bits())
         # and by the program itself where it is built
         for journal in (ROOT / "target-rust/release/journal", ROOT / "target/release/journal"):
             for flag in ([], ["--judge"]) if journal.exists() else ():
@@ -1042,7 +1048,7 @@ class Saving(Command):
         writers = [subprocess.Popen([sys.executable, "-c", text, y], **pipes, env=environment(), cwd=self.folder) for y in "12"]
         said = [writer.communicate(timeout=60) for writer in writers]
         self.assertEqual([(writer.returncode, err) for writer, (_, err) in zip(writers, said)], [(0, b"")] * 2)
-        season = Season.open(self.season)
+        season = SeasonFile.open(self.season)
         self.assertEqual([r.name for r in season.readings], [f"r{i}" for i in range(1, 101)])
         for y, (out, _) in zip("12", said):
             mine = [r for r in season.readings if r.y_text == y]
@@ -1081,7 +1087,7 @@ class Saving(Command):
         mounted = subprocess.run(["mount", "-t", "tmpfs", "-o", "size=64k", "tmpfs", disk], stdout=subprocess.PIPE, stderr=subprocess.PIPE).returncode == 0
         prepare, full = None, "No space left on device"
         try:
-            season = Season.create(os.path.join(disk, "s.stake"))
+            season = SeasonFile.create(os.path.join(disk, "s.stake"))
             season.add("1", "2")
             if mounted:
                 with contextlib.suppress(OSError), open(os.path.join(disk, "rest"), "wb", buffering=0) as rest:
@@ -1101,7 +1107,7 @@ class Saving(Command):
                 os.unlink(os.path.join(disk, "rest"))
             done = self.run_stake("import", "disk/s.stake", "more.csv")
             self.assertIn(b"100 readings saved from more.csv, r2 to r101", done.stdout)
-            self.assertEqual(Season.open(season.path).book.count, 101)
+            self.assertEqual(SeasonFile.open(season.path).book.count, 101)
             self.assertTrue(Path(season.path).read_bytes().startswith(data))
         finally:
             if mounted:
