@@ -17,13 +17,14 @@ use Rattle.settings.specs.declared.Settings.{Settings}
 use Rattle.losses.specs.Losses.{LossOut}
 use Rattle.scores.specs.Scores.{ScoresOut}
 use Rattle.split.specs.Splits.{SplitOut, LentSplit}
+use Rattle.book.specs.Calls.{State}
 use Rattle.stakes.specs.Parts.{stakes}
 use Rattle.stakes.specs.Season.{SeasonState}
 use Rattle.season.specs.Changes.{SeasonOut}
-use Rattle.season_query.specs.Reads.{StakeFitIs, StakeBandIs, StakeLossIs, StakeScoresIs, StakeSplitIs}
+use Rattle.season_query.specs.Reads.{StakeFitIs, stakeBandOut, StakeBandIs, stakeLossOut, StakeLossIs, stakeScoresOut, StakeScoresIs, stakeSplitOut, StakeSplitIs}
 use Rattle.season_report.specs.declared.StakeReport.{StakeReport}
 use Rattle.season_report.specs.Reports.{StakeReportIs, stakeReportOut, Reported, seasonReport}
-use Rattle.capi.specs.Packed.{packedRefusal, packedBook, packedFit, packedBand, bandNumbers, packedLosses, lossNumbers, packedScores, leastNumber, packedSplit, splitTotal, packedReport, ReportFits}
+use Rattle.capi.specs.Packed.{packedRefusal, packedBook, packedFit, packedBand, bandNumbers, bandInto, packedLosses, lossNumbers, lossInto, packedScores, leastNumber, scoresInto, packedSplit, splitTotal, splitInto, packedReport, ReportFits}
 
 -- ---- calls that change a season
 
@@ -48,11 +49,18 @@ pub record StakeBandPacked (s : ℕ) (o : BandOut) (r : ℕ) (t v : Slice Float)
   pub lent : StakeBandIs s o (o .answer) (contents t)
   pub numbers : after v ≡ over (bandNumbers (o .answer)) (before v)
 
+-- of the band that `call` makes of the book of stake s and its scratch
+abbrev pub StakeBandPackedIs : (State → List Float → BandOut) → ℕ → SeasonState → ℕ → Slice Float → Slice Float → Type 0
+StakeBandPackedIs call s S r t v = StakeBandPacked s (stakeInto s (bandInto (length (before v))) (stakeBandOut call s S (before t))) r t v
+
 -- t, l and v: scratch, the losses, and the lent places for their total and score
 pub record StakeLossPacked (s : ℕ) (o : LossOut) (r : ℕ) (t l v : Slice Float) : Type 0 where
   pub answer : r ≡ packedLosses (o .answer)
   pub lent : StakeLossIs s o (o .answer) (contents t) (contents l)
   pub numbers : after v ≡ over (lossNumbers (o .answer)) (before v)
+
+abbrev pub StakeLossPackedIs : (State → List Float → LossOut) → ℕ → SeasonState → ℕ → Slice Float → Slice Float → Slice Float → Type 0
+StakeLossPackedIs call s S r t l v = StakeLossPacked s (stakeInto s (lossInto (length (before v))) (stakeLossOut call s S (before t))) r t l v
 
 -- t, b, l and v: scratch, the solved bytes, the scores, and the lent place for the least
 pub record StakeScoresPacked (s : ℕ) (o : ScoresOut) (r : ℕ) (t : Slice Float) (b : Slice ℕ) (l v : Slice Float) : Type 0 where
@@ -60,11 +68,17 @@ pub record StakeScoresPacked (s : ℕ) (o : ScoresOut) (r : ℕ) (t : Slice Floa
   pub lent : StakeScoresIs s o (o .answer) (contents t) (contents b) (contents l)
   pub least : after v ≡ over (leastNumber (o .answer)) (before v)
 
+abbrev pub StakeScoresPackedIs : (State → List Float → ScoresOut) → ℕ → SeasonState → ℕ → Slice Float → Slice ℕ → Slice Float → Slice Float → Type 0
+StakeScoresPackedIs call s S r t b l v = StakeScoresPacked s (stakeInto s (scoresInto (length (before v))) (stakeScoresOut call s S (before t))) r t b l v
+
 -- v: the lent place for the total
 pub record StakeSplitPacked (s : ℕ) (o : SplitOut) (r : ℕ) (w : LentSplit) (v : Slice Float) : Type 0 where
   pub answer : r ≡ packedSplit (o .answer)
   pub lent : StakeSplitIs s o (o .answer) w
   pub total : after v ≡ over (splitTotal (o .answer)) (before v)
+
+abbrev pub StakeSplitPackedIs : (State → List Float → SplitOut) → ℕ → SeasonState → ℕ → LentSplit → Slice Float → Type 0
+StakeSplitPackedIs call s S r w v = StakeSplitPacked s (stakeInto s (splitInto (length (before v))) (stakeSplitOut call s S (w .scratch .found))) r w v
 
 -- ---- reports
 

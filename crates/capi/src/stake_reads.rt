@@ -8,15 +8,13 @@ use crate::packed_scores;
 use crate::packed_split;
 use basis::Degree;
 use stakes::STAKES;
-ghost use lib.ListN.{length};
 ghost use Rattle.samples.specs.Columns.{columnsOf};
 ghost use Rattle.lent.specs.Slices.{before};
 ghost use Rattle.settings.specs.Numbers.{boundOf, criterionOf, confidenceOf, toleranceOf, settingsIn};
 ghost use Rattle.split.specs.Splits.{lentSplit};
 ghost use Rattle.stakes.specs.Season.{seasonOf};
-ghost use Rattle.season_query.specs.Reads.{fitFrom, validateFrom, stakeFitOut, bandFrom, stakeBandOut, lossFrom, stakeLossOut, scoresFrom, stakeScoresOut, splitFrom, stakeSplitOut};
-ghost use Rattle.capi.specs.Packed.{bandInto, lossInto, scoresInto, splitInto};
-ghost use Rattle.capi.specs.SeasonPacked.{stakeInto, StakeFitPacked, StakeBandPacked, StakeLossPacked, StakeScoresPacked, StakeSplitPacked};
+ghost use Rattle.season_query.specs.Reads.{fitFrom, validateFrom, stakeFitOut, bandFrom, lossFrom, scoresFrom, splitFrom};
+ghost use Rattle.capi.specs.SeasonPacked.{StakeFitPacked, StakeBandPackedIs, StakeLossPackedIs, StakeScoresPackedIs, StakeSplitPackedIs};
 
 // The fit of the asked degree.
 #[no_mangle]
@@ -99,7 +97,7 @@ pub extern "C" fn stakebook_season_band(
     scratch: &mut [f64],
     numbers: &mut [f64],
 ) -> u64
-    ensures { λ r. ⌜ StakeBandPacked stake (stakeInto stake (bandInto (length (before numbers))) (stakeBandOut (bandFrom x degree (confidenceOf confidence score) (toleranceOf tolerance value)) stake (seasonOf (before counts) (columnsOf (before xs) (before ys) (before ws)) (before sums)) (before scratch))) r scratch numbers ⌝ }
+    ensures { λ r. ⌜ StakeBandPackedIs (bandFrom x degree (confidenceOf confidence score) (toleranceOf tolerance value)) stake (seasonOf (before counts) (columnsOf (before xs) (before ys) (before ws)) (before sums)) r scratch numbers ⌝ }
 {
     if STAKES <= stake {
         return packed::refused(18);
@@ -140,7 +138,7 @@ pub extern "C" fn stakebook_season_losses(
     losses: &mut [f64],
     numbers: &mut [f64],
 ) -> u64
-    ensures { λ r. ⌜ StakeLossPacked stake (stakeInto stake (lossInto (length (before numbers))) (stakeLossOut (lossFrom (settingsIn (before words) (before values)) (before losses)) stake (seasonOf (before counts) (columnsOf (before xs) (before ys) (before ws)) (before sums)) (before scratch))) r scratch losses numbers ⌝ }
+    ensures { λ r. ⌜ StakeLossPackedIs (lossFrom (settingsIn (before words) (before values)) (before losses)) stake (seasonOf (before counts) (columnsOf (before xs) (before ys) (before ws)) (before sums)) r scratch losses numbers ⌝ }
 {
     if STAKES <= stake {
         return packed::refused(18);
@@ -169,7 +167,7 @@ pub extern "C" fn stakebook_season_scores(
     scores: &mut [f64],
     least: &mut [f64],
 ) -> u64
-    ensures { λ r. ⌜ StakeScoresPacked stake (stakeInto stake (scoresInto (length (before least))) (stakeScoresOut (scoresFrom (settingsIn (before words) (before values)) (before solved) (before scores)) stake (seasonOf (before counts) (columnsOf (before xs) (before ys) (before ws)) (before sums)) (before scratch))) r scratch solved scores least ⌝ }
+    ensures { λ r. ⌜ StakeScoresPackedIs (scoresFrom (settingsIn (before words) (before values)) (before solved) (before scores)) stake (seasonOf (before counts) (columnsOf (before xs) (before ys) (before ws)) (before sums)) r scratch solved scores least ⌝ }
 {
     if STAKES <= stake {
         return packed::refused(18);
@@ -210,7 +208,7 @@ pub extern "C" fn stakebook_season_split(
     later: &mut [f64],
     total: &mut [f64],
 ) -> u64
-    ensures { λ r. ⌜ StakeSplitPacked stake (stakeInto stake (splitInto (length (before total))) (stakeSplitOut (splitFrom (settingsIn (before words) (before values)) limit (before earlier) (before later)) stake (seasonOf (before counts) (columnsOf (before xs) (before ys) (before ws)) (before sums)) (before scratch))) r (lentSplit scratch earlier later) total ⌝ }
+    ensures { λ r. ⌜ StakeSplitPackedIs (splitFrom (settingsIn (before words) (before values)) limit (before earlier) (before later)) stake (seasonOf (before counts) (columnsOf (before xs) (before ys) (before ws)) (before sums)) r (lentSplit scratch earlier later) total ⌝ }
 {
     if STAKES <= stake {
         return packed::refused(18);

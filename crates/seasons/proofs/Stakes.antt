@@ -4,13 +4,12 @@ use Prim.Native.Nat.{ℕ, zero, suc, _≤_, _<_}
 use native.Mathlib.Omega.{arith}
 use lib.ListN.{length, length-set}
 use borrow.Author.Tests.{le-leb}
-use mathlib.Core.List.{[], _∷_}
-use Rattle.refusal.specs.Refusals.{settle, firstOf, numbersOf, isAmong, those, InOrder}
+use Rattle.refusal.specs.Refusals.{settle, firstOf}
 use Rattle.book.specs.Calls.{Out, State, stateAfter}
 use Rattle.ledger.specs.Ledger.{said, told}
 use Rattle.stakes.specs.Parts.{stakes}
 use Rattle.stakes.specs.PartLaws.{length-part}
-use Rattle.stakes.specs.Season.{SeasonState, stakeState, withStake, Sized, stakeTests, stakeRefusal, readStake}
+use Rattle.stakes.specs.Season.{SeasonState, stakeState, withStake, Sized, stakeRefusal, readStake}
 use Rattle.stakes.specs.SeasonLaws.{stake-below, stake-taken, own-stake, other-stake}
 use Rattle.season.specs.Changes.{SeasonOut, leftAlone, onStake}
 use Rattle.seasons.specs.Calls.{StakeCall, alters, looks, names, ofStake, byPart, outBy, readFrom, refusedTold, seasonNext, seasonReply}
@@ -66,15 +65,6 @@ pub leaves-others : LeavesOthers
 unfolding seasonNext
 leaves-others S s t (alters c) h ne = on-other s S (outBy c) (long-by c (stakeState s S)) t h ne
 leaves-others S s t (looks q) h ne = refl
-
--- 18 and 1 stand in the checking order, and 18 before the numbers of every call of a book
-pub stake-in-order : (s n : ℕ) → InOrder (numbersOf (stakeTests s n))
-unfolding those isAmong
-stake-in-order s n = refl
-
-pub season-in-order : InOrder (18 ∷ 1 ∷ 2 ∷ 3 ∷ 13 ∷ 14 ∷ 4 ∷ 15 ∷ 5 ∷ 6 ∷ 7 ∷ 8 ∷ 9 ∷ 10 ∷ 16 ∷ 11 ∷ 12 ∷ [])
-unfolding those isAmong
-season-in-order = refl
 
 above-31 : (s n : ℕ) → stakes ≤ s → stakeRefusal s n ≡ 18
 unfolding stakeRefusal firstOf
