@@ -156,7 +156,7 @@ FAULTS = [
      "book::band(count, &whole.part(stake), at, confidence, tolerance, part(scratch, 0))"),
     ("season: a report that ends at a refusal by 11", "season.rs", "let stakes: Vec<_> = (0..STAKES).map(of_stake).collect();",
      "let mut stakes: Vec<_> = (0..STAKES).map(of_stake).collect();\n    if let Some(at) = stakes.iter().position(|a| *a == Err(11)) { stakes[at..].fill(Err(11)); }"),
-    ("season: stakes that are refused counted", "season.rs", "answer.is_ok()).count()", "*answer != Err(7)).count()"),
+    ("season: stakes that are refused counted", "season.rs", "answer.is_ok()).count()", "**answer != Err(7)).count()"),
     ("season: errors of the stake before", "season.rs", "errors: part(self.errors, stake),", "errors: part(self.errors, stake.saturating_sub(1)),"),
 ]
 
