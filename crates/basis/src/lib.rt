@@ -1,5 +1,7 @@
 // The degree of a polynomial and its number of coefficients, two types that are never taken for each other.
 // A count is worked out from a degree as polyfit's `Basis::k` does; nothing asks for the way back.
+#![tactic(auto)]
+
 ghost use Rattle.std.specs.Prelude.{◌≡◌, ◌≤◌};
 ghost use Rattle.basis.specs.Sizes.{highest_degree};
 ghost use Rattle.basis.specs.Counts.{count_of};
@@ -18,21 +20,21 @@ pub const SUMS: usize = 272;
 pub const SAMPLES: usize = 4096;
 
 // What the term values are: the powers of x, or the products of a power of x and a power of z.
-#[derive(Drop)]
+#[derive(Clone, Copy)]
 pub enum Basis {
     Curve,
     Surface,
 }
 
-#[derive(Drop)]
+#[derive(Clone, Copy)]
 pub struct Degree(pub usize);
 
 // The number of coefficients, k.
-#[derive(Drop)]
+#[derive(Clone, Copy)]
 pub struct CoefficientCount(pub usize);
 
 // A degree, or none.
-#[derive(Drop)]
+#[derive(Clone, Copy)]
 pub enum OptionDegree {
     Some(Degree),
     None,

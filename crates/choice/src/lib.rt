@@ -1,4 +1,5 @@
 // The choice among the degrees below b, of which each is solved or not and has a score. The arrays have 16 places, so b is at most 16.
+#![tactic(auto)]
 ghost use Rattle.std.specs.Prelude.{◌≡◌, ◌≤◌, get_or};
 ghost use Rattle.std.specs.Float.{nan};
 ghost use Rattle.basis.specs.Sizes.{max_terms};
@@ -7,7 +8,7 @@ ghost use Rattle.choice.specs.Choice.{scored_at, yields, near, least_of, chosen_
 use basis::{Degree, OptionDegree, TERMS};
 
 // A degree's score, where it is solved.
-#[derive(Drop)]
+#[derive(Clone, Copy)]
 pub struct Scored {
     pub solved: bool,
     pub score: f64,

@@ -1,5 +1,6 @@
 // Covariance, errors, confidence bands, outliers and pruning: polyfit's `CurveFitCovariance`, `confidence_band`, `outliers` and
 // `prune_insignificant`.
+#![tactic(auto)]
 ghost use Rattle.std.specs.Prelude.{◌≡◌, ◌++◌, ◌≤◌, ◌<◌, length, get_or, take, drop};
 ghost use Rattle.std.specs.Float.{nan};
 ghost use Rattle.basis.specs.Sizes.{max_terms};
@@ -76,7 +77,7 @@ pub fn prediction_variance(
 }
 
 // A band is value, lower and upper.
-#[derive(Drop)]
+#[derive(Clone, Copy)]
 pub struct Band {
     pub value: f64,
     pub lower: f64,
@@ -84,7 +85,7 @@ pub struct Band {
 }
 
 // What a tolerance allows: what stands under the root, and the width.
-#[derive(Drop)]
+#[derive(Clone, Copy)]
 struct Allowance(f64, f64);
 
 // Tolerance variance adds the square of sd × p to the prediction variance, sd that of all y's, and no width.
@@ -161,7 +162,7 @@ pub fn outlies(band: Band, y: f64) -> bool
 }
 
 // Which terms may be pruned: those above 2⁻⁵², as polyfit has it, so that negative terms stay; or those whose size is, as Student's test has it.
-#[derive(Drop)]
+#[derive(Clone, Copy)]
 pub enum PruningRule {
     Positive,
     Size,

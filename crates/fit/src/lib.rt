@@ -1,4 +1,5 @@
 // Residuals, the attempt at a degree, and the choice of one.
+#![tactic(auto)]
 ghost use Rattle.std.specs.Prelude.{◌≡◌, ◌++◌, map, ◌+◌, ◌≤◌, length, take, drop};
 ghost use Rattle.basis.specs.Sizes.{highest_degree, max_terms, sum_places};
 ghost use Rattle.loops.specs.Fold.{all_of};
@@ -53,7 +54,7 @@ pub fn sizes(
 }
 
 // A solution from the sums: whether it is solved, the pivots tested, and its coefficients.
-#[derive(Drop)]
+#[derive(Clone, Copy)]
 pub struct Solution {
     pub solved: bool,
     pub tests: usize,
@@ -121,7 +122,7 @@ pub fn score_on(criterion: Criterion, a: &[f64], n: usize, k: CoefficientCount) 
 }
 
 // What is known of a coefficient count, and the pivots tested.
-#[derive(Drop)]
+#[derive(Clone, Copy)]
 pub struct Tried {
     pub solved: bool,
     pub score: f64,
@@ -165,7 +166,7 @@ fn trial(
 
 // The chosen degree or none, its score (+0 where none is chosen), the least score, the number of solved degrees, and the number of pivot tests; and of
 // each degree whether it is solved, and its score.
-#[derive(Drop)]
+#[derive(Clone, Copy)]
 pub struct Choice {
     pub chosen: OptionDegree,
     pub score: f64,

@@ -1,4 +1,5 @@
 // k-fold cross-validation: polyfit's `new_kfold_cross_validated`.
+#![tactic(auto)]
 ghost use Rattle.std.specs.Prelude.{◌≡◌, ◌+◌, ◌<◌, ◌≤◌, length, drop, slice_index, slice_index_or};
 ghost use Rattle.std.specs.Float.{nan};
 ghost use Rattle.basis.specs.Sizes.{highest_degree, max_terms, sum_places};

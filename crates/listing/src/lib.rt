@@ -1,6 +1,7 @@
 // The bytes that `stakebook` prints, written into lent memory, and the writers that they are made of.
 // Every writer puts a text at a place as far as there is room, changes nothing else, and answers the place behind the whole text: from 0 on,
 // the length needed.
+#![tactic(auto)]
 mod writing;
 
 ghost use Rattle.std.specs.Prelude.{◌≡◌, ◌+◌, ◌≤◌, min, length};

@@ -1,5 +1,6 @@
 // The losses of the degree that a report chooses, sample by sample, with their total and the score that is made of it. It is promised, for every
 // count, length and content, to answer and to leave what document 02 says.
+#![tactic(auto)]
 mod refusals;
 
 ghost use Rattle.std.specs.Prelude.{◌≡◌, ◌++◌, ◌≤◌, length, take, drop};
@@ -14,7 +15,7 @@ use book::Book;
 use settings::Settings;
 
 // What the call answers: the chosen degree, the total of its losses and the score that is made of it; or the number of a refusal.
-#[derive(Drop)]
+#[derive(Clone, Copy)]
 pub enum LossAnswer {
     Losses {
         degree: Degree,

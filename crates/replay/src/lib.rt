@@ -1,4 +1,5 @@
 // A list of calls in lent buffers, run by the book's own calls. The promise of `replay` is demand 3, of the code.
+#![tactic(auto)]
 ghost use Rattle.std.specs.Prelude.{◌≡◌, true, ◌+◌, ◌*◌, ◌≤◌, ◌<◌, length};
 ghost use Rattle.book.specs.Calls.{state_of};
 ghost use Rattle.report.specs.Reports.{report_out};
@@ -16,14 +17,14 @@ use reporting::{Places, ReportAnswer};
 use settings::Settings;
 
 // How a replay ends: with the book after the last call, or because the buffers do not hold a list of calls.
-#[derive(Drop)]
+#[derive(Clone, Copy)]
 pub enum Replayed {
     Book(Book),
     Malformed,
 }
 
 // How many places the buffers have that are written.
-#[derive(Drop)]
+#[derive(Clone, Copy)]
 pub struct Buffers {
     pub sums: usize,
     pub results: usize,
@@ -32,7 +33,7 @@ pub struct Buffers {
 
 // The book that goes on to the next call, and the results recorded of a call: the refusal's number, 0 for none; the book's count or the degree;
 // solved degrees; outliers; pruned terms.
-#[derive(Drop)]
+#[derive(Clone, Copy)]
 pub struct Done {
     pub count: usize,
     pub number: usize,

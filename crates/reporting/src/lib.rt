@@ -1,5 +1,6 @@
 // A report over rows of any basis, of a curve or of a surface: it chooses a degree, measures it, and writes coefficients, errors, pruning bytes, bands and
 // outlier bytes.
+#![tactic(auto)]
 mod refusals;
 
 ghost use Rattle.std.specs.Prelude.{◌+◌, ◌≤◌, length};
@@ -21,7 +22,7 @@ use score::Criterion;
 use settings::Settings;
 
 // How many places are lent of each memory that a report writes.
-#[derive(Drop)]
+#[derive(Clone, Copy)]
 pub struct Places {
     pub scratch: usize,
     pub coefficients: usize,
@@ -33,7 +34,7 @@ pub struct Places {
 }
 
 // What a report answers: the chosen degree, the number of solved degrees, of outliers and of pruned terms; or the number of a refusal.
-#[derive(Drop)]
+#[derive(Clone, Copy)]
 pub enum ReportAnswer {
     Report {
         degree: Degree,
@@ -48,14 +49,14 @@ pub enum ReportAnswer {
 pub const NO_LIMIT: usize = 256;
 
 // What a report within a limit answers, and the pivot tests that it takes: none where it is refused by 1 to 9 or by 16.
-#[derive(Drop)]
+#[derive(Clone, Copy)]
 pub struct Counted {
     pub answer: ReportAnswer,
     pub tests: usize,
 }
 
 // The choice, with the coefficients of the chosen degree and their covariance. A number other than 0 is that of a refusal, 11 or 12.
-#[derive(Drop)]
+#[derive(Clone, Copy)]
 pub struct Chosen {
     pub number: u8,
     pub choice: Choice,

@@ -1,5 +1,6 @@
 // Of each degree within the bound whether it is solved and its score, and what a report chooses from them. It is promised, for every count, length and
 // content, to answer and to leave what its definition says.
+#![tactic(auto)]
 mod refusals;
 
 ghost use Rattle.std.specs.Prelude.{◌≡◌, ◌++◌, map, ◌≤◌, length, drop};
@@ -15,7 +16,7 @@ use settings::Settings;
 
 // What the call answers: the chosen degree, the bound, the number of solved degrees, the least score and the number of pivot tests; or the number of a
 // refusal.
-#[derive(Drop)]
+#[derive(Clone, Copy)]
 pub enum ScoresAnswer {
     Scores {
         degree: Degree,

@@ -1,5 +1,6 @@
 // The season book's calls that change it. Each that names a stake is promised to answer what the book's own call on the stake's parts answers, and to leave every
 // place of all lent memory as that call and the season's definition have it.
+#![tactic(auto)]
 ghost use Rattle.std.specs.Prelude.{◌≡◌};
 ghost use Rattle.samples.specs.Columns.{columns_of, no_columns};
 ghost use Rattle.lent.specs.Slices.{before, after};
@@ -12,7 +13,7 @@ use book::{Answer, Book};
 use stakes::STAKES;
 
 // What is asked of a stake's book by a call that may write all its columns. A frame and a text come beside it.
-#[derive(Drop)]
+#[derive(Clone, Copy)]
 enum Asked {
     Add(f64, f64, f64),
     Window(f64, f64, f64),

@@ -1,4 +1,5 @@
 // The report of one stake, and the season report: the stakes in order, each one's report or refusal, with the number of stakes not refused.
+#![tactic(auto)]
 ghost use Rattle.std.specs.Prelude.{◌≡◌, ◌≤◌};
 ghost use Rattle.samples.specs.Columns.{columns_of};
 ghost use Rattle.lent.specs.Slices.{before};
@@ -12,13 +13,13 @@ use settings::Settings;
 use stakes::STAKES;
 
 // What a season report gives of one stake: its report, or the number of a refusal.
-#[derive(Drop)]
+#[derive(Clone, Copy)]
 pub struct StakeReport {
     pub answer: ReportAnswer,
 }
 
 // The stakes' reports in stake order, and how many of them are not refused.
-#[derive(Drop)]
+#[derive(Clone, Copy)]
 pub struct SeasonReport {
     pub reports: [StakeReport; STAKES],
     pub passed: usize,

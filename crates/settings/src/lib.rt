@@ -1,4 +1,5 @@
 // The settings of a report, and the numbers by which records and the C interface name their cases. The last case takes every other number.
+#![tactic(auto)]
 ghost use Rattle.std.specs.Prelude.{◌≡◌, get_or};
 ghost use Rattle.value.specs.Numbers.{zero_f};
 ghost use Rattle.settings.specs.Numbers.{bound_of, criterion_of, confidence_of, tolerance_of, pruning_of, settings_of, settings_in};
@@ -9,7 +10,7 @@ use score::Criterion;
 use statistics::{Confidence, DegreeBound, Tolerance};
 
 // How a degree is chosen, what the bands allow, and which terms may be pruned.
-#[derive(Drop)]
+#[derive(Clone, Copy)]
 pub struct Settings {
     pub bound: DegreeBound,
     pub criterion: Criterion,

@@ -1,5 +1,6 @@
 // The solution and the inverse of the k by k corner of A, by elimination and back substitution, for every content of the lent sums.
 // They stand in for polyfit's SVD in `solve_matrix` and for its inverse.
+#![tactic(auto)]
 ghost use Rattle.std.specs.Prelude.{◌≡◌, ◌≤◌, ◌<◌, length};
 ghost use Rattle.basis.specs.Sizes.{matrix_places, max_terms, sum_places};
 ghost use Rattle.solve.specs.Solve.{eliminate as eliminateF, back, matrix_of, right_of, solve as solveF, ridge as ridgeF, put_column, inverse as inverseF};
@@ -101,7 +102,7 @@ fn right_of(sums: &[f64], k: CoefficientCount) -> [f64; TERMS]
 }
 
 // How many pivots held, and the k coefficients if all did; +0 in every other place.
-#[derive(Drop)]
+#[derive(Clone, Copy)]
 pub struct Solved {
     pub held: usize,
     pub c: [f64; TERMS],
@@ -126,7 +127,7 @@ pub fn solve(sums: &[f64], k: CoefficientCount) -> Solved
 }
 
 // An elimination: how many pivots held, and M and b then.
-#[derive(Drop)]
+#[derive(Clone, Copy)]
 pub struct Elimination {
     pub held: usize,
     pub m: [f64; MATRIX],
@@ -197,7 +198,7 @@ fn put_column(k: CoefficientCount, j: usize, b: &[f64; TERMS], v: &mut [f64; MAT
 }
 
 // How many columns of the inverse are made, all k unless a pivot fails, and the inverse; +0 in every other place.
-#[derive(Drop)]
+#[derive(Clone, Copy)]
 pub struct Inverted {
     pub columns: usize,
     pub v: [f64; MATRIX],

@@ -1,5 +1,6 @@
 // The break of a book's list in two sides whose chosen scores total least: melt season and cold season. The call is promised, for every count, length
 // and content, to answer and to leave what document 02 says.
+#![tactic(auto)]
 mod refusals;
 
 ghost use Rattle.std.specs.Prelude.{◌≡◌, ◌++◌, ◌+◌, ◌≤◌, length, take, drop};
@@ -26,7 +27,7 @@ use settings::Settings;
 use statistics::DegreeBound;
 
 // The best break so far: how many samples are before it, the total, and the degrees of its two sides. Nothing is said of them where none is found.
-#[derive(Drop)]
+#[derive(Clone, Copy)]
 pub struct Best {
     pub found: bool,
     pub at: usize,
@@ -36,7 +37,7 @@ pub struct Best {
 }
 
 // How many places are lent of each memory that a split writes.
-#[derive(Drop)]
+#[derive(Clone, Copy)]
 pub struct Places {
     pub scratch: usize,
     pub before: usize,
@@ -45,7 +46,7 @@ pub struct Places {
 
 // What a split answers: the total, how many samples are before the break, the number of pivot tests, and the degrees of its two sides; or the number
 // of a refusal.
-#[derive(Drop)]
+#[derive(Clone, Copy)]
 pub enum SplitAnswer {
     Split {
         total: f64,
@@ -119,7 +120,7 @@ fn choose_side(
 }
 
 // The choices of the two sides of a break.
-#[derive(Drop)]
+#[derive(Clone, Copy)]
 pub struct Sides {
     pub left: Choice,
     pub right: Choice,
@@ -160,14 +161,14 @@ fn tests_of(left: Choice, right: Choice) -> usize
 }
 
 // What a split within a limit answers, and the pivot tests that it takes: none where it is refused by 1 to 9 or by 16.
-#[derive(Drop)]
+#[derive(Clone, Copy)]
 pub struct CountedSplit {
     pub answer: SplitAnswer,
     pub tests: usize,
 }
 
 // What a search comes to: the number of the refusal, 16 or 11, or 0; the pivot tests that it takes, none at 16; and but for 16 the best break.
-#[derive(Drop)]
+#[derive(Clone, Copy)]
 pub struct Searched {
     pub number: u8,
     pub tests: usize,

@@ -1,4 +1,5 @@
 // polyfit's `statistics.rs`: scores, the bound on the degree, medians, losses and variances.
+#![tactic(auto)]
 ghost use Rattle.std.specs.Prelude.{◌≡◌, ◌<◌, ◌≤◌, map, length, take};
 ghost use Rattle.value.specs.Absolute.{abs_f};
 ghost use Rattle.value.specs.Total.{total_f};
@@ -15,7 +16,7 @@ mod whole;
 
 use basis::{CoefficientCount, Degree};
 
-#[derive(Drop)]
+#[derive(Clone, Copy)]
 pub enum Confidence {
     P80,
     P90,
@@ -26,7 +27,7 @@ pub enum Confidence {
     Custom(f64),
 }
 
-#[derive(Drop)]
+#[derive(Clone, Copy)]
 pub enum DegreeBound {
     Conservative,
     Relaxed,
@@ -34,7 +35,7 @@ pub enum DegreeBound {
     Custom(Degree),
 }
 
-#[derive(Drop)]
+#[derive(Clone, Copy)]
 pub enum Tolerance {
     None,
     Absolute(f64),
@@ -42,7 +43,7 @@ pub enum Tolerance {
     Measurement(f64),
 }
 
-#[derive(Drop)]
+#[derive(Clone, Copy)]
 pub struct StddevAndMean {
     pub stddev: f64,
     pub mean: f64,

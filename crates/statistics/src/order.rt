@@ -142,7 +142,7 @@ fn next_turn(turn: u64, were: usize, left: usize) -> u64 {
 }
 
 // The bits of two numbers.
-#[derive(Drop)]
+#[derive(Clone, Copy)]
 struct Pair {
     low: u64,
     high: u64,
@@ -164,7 +164,7 @@ fn edges(a: &[f64], n: usize, d: f64, lo: u64, b: u64) -> Pair
 }
 
 // A range that a place is looked for in: bits from lo to hi, and how many are under lo.
-#[derive(Drop)]
+#[derive(Clone, Copy)]
 struct Range {
     lo: u64,
     hi: u64,

@@ -1,5 +1,7 @@
 // The number functions that document 01 puts in the place of what polyfit takes from other libraries.
 // Each is promised, for every double, to be the definition of `specs/` that states 01's words.
+#![tactic(auto)]
+
 mod bits;
 mod logarithm;
 mod square_root;

@@ -3,6 +3,7 @@
 // Standard input has a line of 53 bytes for each: `r` for a square root or `l` for ln, then x, the right result and, for
 // ln, a library's result, each as 16 hexadecimal digits in capitals. `judge/src/bin/vectors.rs` makes them:
 // `cargo run --release -p judge --bin vectors > crates/value_vectors/stdin`.
+#![tactic(auto)]
 ghost use Rattle.std.specs.Prelude.{◌+◌, ◌<◌, ◌≤◌, length};
 
 const STDIN: i32 = 0;

@@ -5,16 +5,11 @@ use lib.Ieee.Fits.{mul-fits}
 use Rattle.loops.specs.Places.{table}
 use Rattle.value.specs.Exact.{one_times}
 use Rattle.value.specs.Power.{power_f, power_from, power_turns}
-use Rattle.value.proofs.powers.Statement.{statement}
-use Rattle.value.proofs.powers.Tie as tie
+use Rattle.value.proofs.powers.Goals as goal
 
-returns : tie.Need-returns
+pub returns : goal.returns
 unfolding table power_f power_from power_turns
-returns c =
-    let x = c.args.x in
+returns c = let x = c.args.x in
     let x2 = mul binary64 x x in
     let x4 = mul binary64 x2 x2 in
     rw (one_times x (subst T (sym c.well_formed.0.1) tt), one_times x2 (mul-fits binary64 x x), one_times x4 (mul-fits binary64 x2 x2), one_times (mul binary64 x4 x4) (mul-fits binary64 x4 x4))
-
-pub powers-spec : {M : Type 1} → statement M
-powers-spec = tie.close (tie.spec returns)
