@@ -90,7 +90,7 @@ pub fn group_report(
     outliers: &mut [u8],
     table: &mut [usize],
 ) -> ReportAnswer
-    ensures { GroupReportIs group book.count settings (columns_of (before xs) (before ys) (before ws)) (before sums) result (outputs scratch coefficients errors pruned lower upper outliers) (contents table) }
+    ensures { GroupReportIs group book.count settings (columns_of xs.now ys.now ws.now) sums.now result (outputs scratch coefficients errors pruned lower upper outliers) (contents table) }
 {
     let n = book.count;
     let places = Places {
@@ -145,7 +145,7 @@ pub fn group_surface_report(
     outliers: &mut [u8],
     table: &mut [usize],
 ) -> ReportAnswer
-    ensures { GroupSurfaceIs group count settings (point_columns (before xs) (before zs) (before ys)) result (outputs scratch coefficients errors pruned lower upper outliers) (contents table) }
+    ensures { GroupSurfaceIs group count settings (point_columns xs.now zs.now ys.now) result (outputs scratch coefficients errors pruned lower upper outliers) (contents table) }
 {
     let places = Places {
         scratch: scratch.len(),
@@ -195,7 +195,7 @@ pub fn group_split(
     later: &mut [f64],
     table: &mut [usize],
 ) -> SplitAnswer
-    ensures { GroupSplitIs group book.count settings (columns_of (before xs) (before ys) (before ws)) (before sums) result (lent_split scratch earlier later) (contents table) }
+    ensures { GroupSplitIs group book.count settings (columns_of xs.now ys.now ws.now) sums.now result (lent_split scratch earlier later) (contents table) }
 {
     let n = book.count;
     let places = split::Places {

@@ -216,7 +216,7 @@ pub extern "C" fn stakebook_correct(
     ws: &[f64],
     sums: &mut [f64],
 ) -> u64
-    ensures { BookPacked (correct_out count i y (columns_of (before xs) (before ys) (before ws)) (before sums)) result (columns_of (before xs) (after ys) (before ws)) (after sums) }
+    ensures { BookPacked (correct_out count i y (columns_of xs.now (before ys) ws.now) (before sums)) result (columns_of xs.now (after ys) ws.now) (after sums) }
 {
     packed::book(book::correct(Book { count }, i, y, xs, ys, ws, sums))
 }
@@ -246,7 +246,7 @@ pub extern "C" fn stakebook_add_frame(
     ws: &mut [f64],
     sums: &mut [f64],
 ) -> u64
-    ensures { BookPacked (add_frame_out count (before frame) (columns_of (before xs) (before ys) (before ws)) (before sums)) result (columns_of (after xs) (after ys) (after ws)) (after sums) }
+    ensures { BookPacked (add_frame_out count frame.now (columns_of (before xs) (before ys) (before ws)) (before sums)) result (columns_of (after xs) (after ys) (after ws)) (after sums) }
 {
     packed::book(book::add_frame(Book { count }, frame, xs, ys, ws, sums))
 }
@@ -261,7 +261,7 @@ pub extern "C" fn stakebook_add_lines(
     ws: &mut [f64],
     sums: &mut [f64],
 ) -> u64
-    ensures { BookPacked (add_lines_out count (before text) (columns_of (before xs) (before ys) (before ws)) (before sums)) result (columns_of (after xs) (after ys) (after ws)) (after sums) }
+    ensures { BookPacked (add_lines_out count text.now (columns_of (before xs) (before ys) (before ws)) (before sums)) result (columns_of (after xs) (after ys) (after ws)) (after sums) }
 {
     packed::book(book::add_lines(Book { count }, text, xs, ys, ws, sums))
 }
@@ -299,7 +299,7 @@ pub extern "C" fn stakebook_two_column_correct(
     ys: &mut [f64],
     sums: &mut [f64],
 ) -> u64
-    ensures { PairPacked (pairCorrectOut count i y (pairColumns (before xs) (before ys)) (before sums)) result (pairColumns (before xs) (after ys)) (after sums) }
+    ensures { PairPacked (pairCorrectOut count i y (pairColumns xs.now (before ys)) (before sums)) result (pairColumns xs.now (after ys)) (after sums) }
 {
     packed::book(two_column::correct(Book { count }, i, y, xs, ys, sums))
 }
@@ -327,7 +327,7 @@ pub extern "C" fn stakebook_two_column_add_frame(
     ys: &mut [f64],
     sums: &mut [f64],
 ) -> u64
-    ensures { PairPacked (pairFrameOut count (before frame) (pairColumns (before xs) (before ys)) (before sums)) result (pairColumns (after xs) (after ys)) (after sums) }
+    ensures { PairPacked (pairFrameOut count frame.now (pairColumns (before xs) (before ys)) (before sums)) result (pairColumns (after xs) (after ys)) (after sums) }
 {
     packed::book(two_column::add_frame(Book { count }, frame, xs, ys, sums))
 }
@@ -341,7 +341,7 @@ pub extern "C" fn stakebook_carry(
     ws: &mut [f64],
     sums: &[f64],
 ) -> u64
-    ensures { BookPacked (carry_out count (columns_of (before xs) (before ys) (before ws)) (before sums)) result (columns_of (before xs) (before ys) (after ws)) (before sums) }
+    ensures { BookPacked (carry_out count (columns_of xs.now ys.now (before ws)) sums.now) result (columns_of xs.now ys.now (after ws)) sums.now }
 {
     packed::book(carried::carry(Book { count }, xs, ys, ws, sums))
 }
@@ -358,7 +358,7 @@ pub extern "C" fn stakebook_fit(
     scratch: &mut [f64],
     coefficients: &mut [f64],
 ) -> u64
-    ensures { FitPacked (fit_out count (columns_of (before xs) (before ys) (before ws)) (before sums) (before scratch) (before coefficients) degree) result scratch coefficients }
+    ensures { FitPacked (fit_out count (columns_of xs.now ys.now ws.now) sums.now (before scratch) (before coefficients) degree) result scratch coefficients }
 {
     packed::fit(query::fit(
         Book { count },
@@ -387,7 +387,7 @@ pub extern "C" fn stakebook_validate(
     scratch: &mut [f64],
     coefficients: &mut [f64],
 ) -> u64
-    ensures { FitPacked (validate_out count (columns_of (before xs) (before ys) (before ws)) (before sums) (before scratch) (before coefficients) folds (bound_of bound most) (criterion_of criterion)) result scratch coefficients }
+    ensures { FitPacked (validate_out count (columns_of xs.now ys.now ws.now) sums.now (before scratch) (before coefficients) folds (bound_of bound most) (criterion_of criterion)) result scratch coefficients }
 {
     let by = settings::bound(bound, most);
     let scored = settings::criterion(criterion);
@@ -422,7 +422,7 @@ pub extern "C" fn stakebook_band(
     scratch: &mut [f64],
     numbers: &mut [f64],
 ) -> u64
-    ensures { BandPacked (band_into (length (before numbers)) (band_out count x degree (confidence_of confidence score) (tolerance_of tolerance value) (columns_of (before xs) (before ys) (before ws)) (before sums) (before scratch))) result scratch numbers }
+    ensures { BandPacked (band_into (length (before numbers)) (band_out count x degree (confidence_of confidence score) (tolerance_of tolerance value) (columns_of xs.now ys.now ws.now) sums.now (before scratch))) result scratch numbers }
 {
     if numbers.len() < BAND {
         return packed::refused(1);
@@ -467,7 +467,7 @@ pub extern "C" fn stakebook_report(
     upper: &mut [f64],
     outliers: &mut [u8],
 ) -> u64
-    ensures { ReportPackedIs count (settings_of bound most criterion confidence score tolerance value 0) (columns_of (before xs) (before ys) (before ws)) (before sums) result (outputs scratch coefficients errors pruned lower upper outliers) }
+    ensures { ReportPackedIs count (settings_of bound most criterion confidence score tolerance value 0) (columns_of xs.now ys.now ws.now) sums.now result (outputs scratch coefficients errors pruned lower upper outliers) }
 {
     let settings = settings::numbered(
         bound, most, criterion, confidence, score, tolerance, value, 0,
@@ -507,7 +507,7 @@ pub extern "C" fn stakebook_report_by(
     upper: &mut [f64],
     outliers: &mut [u8],
 ) -> u64
-    ensures { ReportPackedIs count (settings_in (before words) (before values)) (columns_of (before xs) (before ys) (before ws)) (before sums) result (outputs scratch coefficients errors pruned lower upper outliers) }
+    ensures { ReportPackedIs count (settings_in words.now values.now) (columns_of xs.now ys.now ws.now) sums.now result (outputs scratch coefficients errors pruned lower upper outliers) }
 {
     let settings = settings::listed(words, values);
     packed_report(report::report(
@@ -538,7 +538,7 @@ pub extern "C" fn stakebook_surface_fit(
     scratch: &mut [f64],
     coefficients: &mut [f64],
 ) -> u64
-    ensures { FitPacked (surface_fit_out count degree (point_columns (before xs) (before zs) (before ys)) (before scratch) (before coefficients)) result scratch coefficients }
+    ensures { FitPacked (surface_fit_out count degree (point_columns xs.now zs.now ys.now) (before scratch) (before coefficients)) result scratch coefficients }
 {
     packed::fit(surface::surface_fit(count, Degree(degree), xs, zs, ys, scratch, coefficients))
 }
@@ -560,7 +560,7 @@ pub extern "C" fn stakebook_surface_band(
     scratch: &mut [f64],
     numbers: &mut [f64],
 ) -> u64
-    ensures { BandPacked (band_into (length (before numbers)) (surface_band_out count x z degree (confidence_of confidence score) (tolerance_of tolerance value) (point_columns (before xs) (before zs) (before ys)) (before scratch))) result scratch numbers }
+    ensures { BandPacked (band_into (length (before numbers)) (surface_band_out count x z degree (confidence_of confidence score) (tolerance_of tolerance value) (point_columns xs.now zs.now ys.now) (before scratch))) result scratch numbers }
 {
     let places = numbers.len();
     if places < BAND {
@@ -600,7 +600,7 @@ pub extern "C" fn stakebook_surface_report(
     upper: &mut [f64],
     outliers: &mut [u8],
 ) -> u64
-    ensures { SurfacePackedIs count (settings_in (before words) (before values)) (point_columns (before xs) (before zs) (before ys)) result (outputs scratch coefficients errors pruned lower upper outliers) }
+    ensures { SurfacePackedIs count (settings_in words.now values.now) (point_columns xs.now zs.now ys.now) result (outputs scratch coefficients errors pruned lower upper outliers) }
 {
     let settings = settings::listed(words, values);
     packed_report(surface::surface_report(
@@ -635,7 +635,7 @@ pub extern "C" fn stakebook_split(
     later: &mut [f64],
     total: &mut [f64],
 ) -> u64
-    ensures { SplitPackedIs count (settings_in (before words) (before values)) limit (columns_of (before xs) (before ys) (before ws)) (before sums) result (lent_split scratch earlier later) total }
+    ensures { SplitPackedIs count (settings_in words.now values.now) limit (columns_of xs.now ys.now ws.now) sums.now result (lent_split scratch earlier later) total }
 {
     if total.len() < 1 {
         return packed::refused(1);
@@ -670,7 +670,7 @@ pub extern "C" fn stakebook_losses(
     losses: &mut [f64],
     numbers: &mut [f64],
 ) -> u64
-    ensures { LossPacked (loss_into (length (before numbers)) (loss_out count (settings_in (before words) (before values)) (columns_of (before xs) (before ys) (before ws)) (before sums) (before scratch) (before losses))) result scratch losses numbers }
+    ensures { LossPacked (loss_into (length (before numbers)) (loss_out count (settings_in words.now values.now) (columns_of xs.now ys.now ws.now) sums.now (before scratch) (before losses))) result scratch losses numbers }
 {
     if numbers.len() < TOLD {
         return packed::refused(1);
@@ -698,7 +698,7 @@ pub extern "C" fn stakebook_scores(
     scores: &mut [f64],
     least: &mut [f64],
 ) -> u64
-    ensures { ScoresPacked (scores_into (length (before least)) (scores_out count (settings_in (before words) (before values)) (columns_of (before xs) (before ys) (before ws)) (before sums) (before scratch) (before solved) (before scores))) result scratch solved scores least }
+    ensures { ScoresPacked (scores_into (length (before least)) (scores_out count (settings_in words.now values.now) (columns_of xs.now ys.now ws.now) sums.now (before scratch) (before solved) (before scores))) result scratch solved scores least }
 {
     if least.len() < 1 {
         return packed::refused(1);
@@ -754,7 +754,7 @@ pub extern "C" fn stakebook_group_report(
     outliers: &mut [u8],
     table: &mut [usize],
 ) -> u64
-    ensures { GroupReportPackedIs group count (settings_in (before words) (before values)) (columns_of (before xs) (before ys) (before ws)) (before sums) result (outputs scratch coefficients errors pruned lower upper outliers) table }
+    ensures { GroupReportPackedIs group count (settings_in words.now values.now) (columns_of xs.now ys.now ws.now) sums.now result (outputs scratch coefficients errors pruned lower upper outliers) table }
 {
     let settings = settings::listed(words, values);
     packed_report(allowance::group_report(
@@ -795,7 +795,7 @@ pub extern "C" fn stakebook_group_surface_report(
     outliers: &mut [u8],
     table: &mut [usize],
 ) -> u64
-    ensures { GroupSurfacePackedIs group count (settings_in (before words) (before values)) (point_columns (before xs) (before zs) (before ys)) result (outputs scratch coefficients errors pruned lower upper outliers) table }
+    ensures { GroupSurfacePackedIs group count (settings_in words.now values.now) (point_columns xs.now zs.now ys.now) result (outputs scratch coefficients errors pruned lower upper outliers) table }
 {
     let settings = settings::listed(words, values);
     packed_report(allowance::group_surface_report(
@@ -833,7 +833,7 @@ pub extern "C" fn stakebook_group_split(
     total: &mut [f64],
     table: &mut [usize],
 ) -> u64
-    ensures { GroupSplitPackedIs group count (settings_in (before words) (before values)) (columns_of (before xs) (before ys) (before ws)) (before sums) result (lent_split scratch earlier later) total table }
+    ensures { GroupSplitPackedIs group count (settings_in words.now values.now) (columns_of xs.now ys.now ws.now) sums.now result (lent_split scratch earlier later) total table }
 {
     if total.len() < 1 {
         return packed::refused(1);
@@ -858,7 +858,7 @@ pub extern "C" fn stakebook_group_split(
 // A reader of a frame: the offset of its first sample.
 #[unsafe(no_mangle)]
 pub extern "C" fn stakebook_reader(frame: &[u8]) -> u64
-    ensures { result ≡ packed_opened (opened_of (before frame)) }
+    ensures { result ≡ packed_opened (opened_of frame.now) }
 {
     packed::opened(frame::reader(frame))
 }
@@ -867,7 +867,7 @@ pub extern "C" fn stakebook_reader(frame: &[u8]) -> u64
 // done when its reader was made.
 #[unsafe(no_mangle)]
 pub extern "C" fn stakebook_next(frame: &[u8], at: usize, numbers: &mut [f64]) -> u64
-    ensures { ReadPacked (next_of (before frame) at) result numbers }
+    ensures { ReadPacked (next_of frame.now at) result numbers }
 {
     if numbers.len() < SAMPLE {
         return packed::refused(1);
@@ -895,7 +895,7 @@ pub extern "C" fn stakebook_replay(
     upper: &mut [f64],
     outliers: &mut [u8],
 ) -> u64
-    ensures { ReplayPacked (before kinds) (before words) (before numbers) width (memory xs ys ws sums results (outputs scratch coefficients errors pruned lower upper outliers)) result }
+    ensures { ReplayPacked kinds.now words.now numbers.now width (memory xs ys ws sums results (outputs scratch coefficients errors pruned lower upper outliers)) result }
 {
     packed::replay(replay::replay(
         kinds,

@@ -75,7 +75,7 @@ pub extern "C" fn stakebook_season_add_frame(
     ws: &mut [f64],
     sums: &mut [f64],
 ) -> u64
-    ensures { SeasonPacked (season_out stake (season_of (before counts) (columns_of (before xs) (before ys) (before ws)) (before sums)) (frames (before frame))) result (season_of (after counts) (columns_of (after xs) (after ys) (after ws)) (after sums)) }
+    ensures { SeasonPacked (season_out stake (season_of (before counts) (columns_of (before xs) (before ys) (before ws)) (before sums)) (frames frame.now)) result (season_of (after counts) (columns_of (after xs) (after ys) (after ws)) (after sums)) }
 {
     packed::book(season::add_frame(stake, frame, counts, xs, ys, ws, sums))
 }
@@ -91,7 +91,7 @@ pub extern "C" fn stakebook_season_add_lines(
     ws: &mut [f64],
     sums: &mut [f64],
 ) -> u64
-    ensures { SeasonPacked (season_out stake (season_of (before counts) (columns_of (before xs) (before ys) (before ws)) (before sums)) (texts (before text))) result (season_of (after counts) (columns_of (after xs) (after ys) (after ws)) (after sums)) }
+    ensures { SeasonPacked (season_out stake (season_of (before counts) (columns_of (before xs) (before ys) (before ws)) (before sums)) (texts text.now)) result (season_of (after counts) (columns_of (after xs) (after ys) (after ws)) (after sums)) }
 {
     packed::book(season::add_lines(stake, text, counts, xs, ys, ws, sums))
 }
@@ -108,7 +108,7 @@ pub extern "C" fn stakebook_season_correct(
     ws: &[f64],
     sums: &mut [f64],
 ) -> u64
-    ensures { SeasonPacked (season_out stake (season_of (before counts) (columns_of (before xs) (before ys) (before ws)) (before sums)) (corrects i y)) result (season_of (after counts) (columns_of (before xs) (after ys) (before ws)) (after sums)) }
+    ensures { SeasonPacked (season_out stake (season_of (before counts) (columns_of xs.now (before ys) ws.now) (before sums)) (corrects i y)) result (season_of (after counts) (columns_of xs.now (after ys) ws.now) (after sums)) }
 {
     packed::book(season::correct(stake, i, y, counts, xs, ys, ws, sums))
 }
@@ -139,7 +139,7 @@ pub extern "C" fn stakebook_season_carry(
     ws: &mut [f64],
     sums: &[f64],
 ) -> u64
-    ensures { SeasonPacked (carry_stake_out stake (season_of (before counts) (columns_of (before xs) (before ys) (before ws)) (before sums))) result (season_of (after counts) (columns_of (before xs) (before ys) (after ws)) (before sums)) }
+    ensures { SeasonPacked (carry_stake_out stake (season_of (before counts) (columns_of xs.now ys.now (before ws)) sums.now)) result (season_of (after counts) (columns_of xs.now ys.now (after ws)) sums.now) }
 {
     packed::book(season::carry(stake, counts, xs, ys, ws, sums))
 }

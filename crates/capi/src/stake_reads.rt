@@ -24,7 +24,7 @@ pub extern "C" fn stakebook_season_fit(
     scratch: &mut [f64],
     coefficients: &mut [f64],
 ) -> u64
-    ensures { StakeFitPacked stake (stake_fit_out (fit_from degree) stake (season_of (before counts) (columns_of (before xs) (before ys) (before ws)) (before sums)) (before scratch) (before coefficients)) result scratch coefficients }
+    ensures { StakeFitPacked stake (stake_fit_out (fit_from degree) stake (season_of counts.now (columns_of xs.now ys.now ws.now) sums.now) (before scratch) (before coefficients)) result scratch coefficients }
 {
     packed::fit(season_query::fit(
         stake,
@@ -55,7 +55,7 @@ pub extern "C" fn stakebook_season_validate(
     scratch: &mut [f64],
     coefficients: &mut [f64],
 ) -> u64
-    ensures { StakeFitPacked stake (stake_fit_out (validate_from folds (bound_of bound most) (criterion_of criterion)) stake (season_of (before counts) (columns_of (before xs) (before ys) (before ws)) (before sums)) (before scratch) (before coefficients)) result scratch coefficients }
+    ensures { StakeFitPacked stake (stake_fit_out (validate_from folds (bound_of bound most) (criterion_of criterion)) stake (season_of counts.now (columns_of xs.now ys.now ws.now) sums.now) (before scratch) (before coefficients)) result scratch coefficients }
 {
     let by = settings::bound(bound, most);
     let scored = settings::criterion(criterion);
@@ -92,7 +92,7 @@ pub extern "C" fn stakebook_season_band(
     scratch: &mut [f64],
     numbers: &mut [f64],
 ) -> u64
-    ensures { StakeBandPackedIs (band_from x degree (confidence_of confidence score) (tolerance_of tolerance value)) stake (season_of (before counts) (columns_of (before xs) (before ys) (before ws)) (before sums)) result scratch numbers }
+    ensures { StakeBandPackedIs (band_from x degree (confidence_of confidence score) (tolerance_of tolerance value)) stake (season_of counts.now (columns_of xs.now ys.now ws.now) sums.now) result scratch numbers }
 {
     if STAKES <= stake {
         return packed::refused(18);
@@ -133,7 +133,7 @@ pub extern "C" fn stakebook_season_losses(
     losses: &mut [f64],
     numbers: &mut [f64],
 ) -> u64
-    ensures { StakeLossPackedIs (loss_from (settings_in (before words) (before values)) (before losses)) stake (season_of (before counts) (columns_of (before xs) (before ys) (before ws)) (before sums)) result scratch losses numbers }
+    ensures { StakeLossPackedIs (loss_from (settings_in words.now values.now) (before losses)) stake (season_of counts.now (columns_of xs.now ys.now ws.now) sums.now) result scratch losses numbers }
 {
     if STAKES <= stake {
         return packed::refused(18);
@@ -162,7 +162,7 @@ pub extern "C" fn stakebook_season_scores(
     scores: &mut [f64],
     least: &mut [f64],
 ) -> u64
-    ensures { StakeScoresPackedIs (scores_from (settings_in (before words) (before values)) (before solved) (before scores)) stake (season_of (before counts) (columns_of (before xs) (before ys) (before ws)) (before sums)) result scratch solved scores least }
+    ensures { StakeScoresPackedIs (scores_from (settings_in words.now values.now) (before solved) (before scores)) stake (season_of counts.now (columns_of xs.now ys.now ws.now) sums.now) result scratch solved scores least }
 {
     if STAKES <= stake {
         return packed::refused(18);
@@ -194,7 +194,7 @@ pub extern "C" fn stakebook_season_split(
     later: &mut [f64],
     total: &mut [f64],
 ) -> u64
-    ensures { StakeSplitPackedIs (split_from (settings_in (before words) (before values)) limit (before earlier) (before later)) stake (season_of (before counts) (columns_of (before xs) (before ys) (before ws)) (before sums)) result (lent_split scratch earlier later) total }
+    ensures { StakeSplitPackedIs (split_from (settings_in words.now values.now) limit (before earlier) (before later)) stake (season_of counts.now (columns_of xs.now ys.now ws.now) sums.now) result (lent_split scratch earlier later) total }
 {
     if STAKES <= stake {
         return packed::refused(18);

@@ -32,7 +32,7 @@ pub extern "C" fn stakebook_season_report_stake(
     upper: &mut [f64],
     outliers: &mut [u8],
 ) -> u64
-    ensures { StakeReportPackedIs (settings_in (before words) (before values)) stake (season_of (before counts) (columns_of (before xs) (before ys) (before ws)) (before sums)) result (outputs scratch coefficients errors pruned lower upper outliers) }
+    ensures { StakeReportPackedIs (settings_in words.now values.now) stake (season_of counts.now (columns_of xs.now ys.now ws.now) sums.now) result (outputs scratch coefficients errors pruned lower upper outliers) }
 {
     let settings = settings::listed(words, values);
     packed_report(season_report::report(
@@ -85,7 +85,7 @@ pub extern "C" fn stakebook_season_report(
     outliers: &mut [u8],
     answers: &mut [u64],
 ) -> u64
-    ensures { SeasonReportPackedIs (settings_in (before words) (before values)) (season_of (before counts) (columns_of (before xs) (before ys) (before ws)) (before sums)) result (outputs scratch coefficients errors pruned lower upper outliers) answers }
+    ensures { SeasonReportPackedIs (settings_in words.now values.now) (season_of counts.now (columns_of xs.now ys.now ws.now) sums.now) result (outputs scratch coefficients errors pruned lower upper outliers) answers }
 {
     if answers.len() < STAKES {
         return packed::refused(1);

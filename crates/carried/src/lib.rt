@@ -16,7 +16,7 @@ fn carry_refusal(n: usize, xs: usize, ys: usize, ws: usize, sums: usize) -> u8
 
 // The weights below the count become 1, and nothing else changes.
 pub fn carry(book: Book, xs: &[f64], ys: &[f64], ws: &mut [f64], sums: &[f64]) -> Answer
-    ensures { Is (carry_out book.count (columns_of (before xs) (before ys) (before ws)) (before sums)) result (columns_of (before xs) (before ys) (after ws)) (before sums) }
+    ensures { Is (carry_out book.count (columns_of xs.now ys.now (before ws)) sums.now) result (columns_of xs.now ys.now (after ws)) sums.now }
 {
     let n = book.count;
     let refusal = carry_refusal(n, xs.len(), ys.len(), ws.len(), sums.len());

@@ -1,5 +1,6 @@
 // Readings as they are written in the field book: decimals, the doubles nearest to them, lines of two, and a cursor that hands out their samples.
 #![tactic(auto)]
+
 mod cursor;
 mod digits;
 mod lines;

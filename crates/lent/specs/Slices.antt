@@ -1,11 +1,11 @@
 -- A lent slice in a contract: its values as the call finds them and as it leaves them. Definitions only.
 use Rattle.std.specs.Prelude.{List}
-use Rattle.std.specs.Borrow.{Bor}
+use Rattle.std.specs.Borrow.{MutBor}
 use denote.Triple.Both.{Both}
 
--- what a parameter of the types `&[T]` and `&mut [T]` means in a `requires`, and in an `ensures`
+-- what a parameter of the type `&mut [T]` means in a `requires`, and in an `ensures`
 abbrev pub Given : Type 0 → Type 0
-Given A = Bor (List A)
+Given A = MutBor (List A)
 
 abbrev pub Slice : Type 0 → Type 0
 Slice A = Both (Given A) (Given A)

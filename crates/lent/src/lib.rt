@@ -1,5 +1,6 @@
 // Writing to lent memory from its first place on, and taking a place out.
 #![tactic(auto)]
+
 ghost use Rattle.std.specs.Prelude.{◌≡◌, ◌++◌, ◌≤◌, ◌<◌, length, take, drop, replicate};
 ghost use Rattle.basis.specs.Sizes.{max_terms};
 ghost use Rattle.lent.specs.Gaps.{without_at};

@@ -28,8 +28,8 @@ pub enum LossAnswer {
 // The first n places become the losses of the first n numbers, residuals or their sizes. Answers the total, in index order from +0.
 fn put_losses(a: &[f64], n: usize, out: &mut [f64]) -> f64
     requires { (n ≤ length a.now) × (n ≤ length out.old) }
-    ensures total { result ≡ total_f (lossesF (take n (before a))) }
-    ensures written { after out ≡ lossesF (take n (before a)) ++ drop n (before out) }
+    ensures total { result ≡ total_f (lossesF (take n a.now)) }
+    ensures written { after out ≡ lossesF (take n a.now) ++ drop n (before out) }
 {
     let mad = statistics::median_absolute_deviation(a, n);
     let constant = statistics::huber_const();
@@ -53,7 +53,7 @@ pub fn losses(
     scratch: &mut [f64],
     losses: &mut [f64],
 ) -> LossAnswer
-    ensures { LossIs (loss_out book.count settings (columns_of (before xs) (before ys) (before ws)) (before sums) (before scratch) (before losses)) result (contents scratch) (contents losses) }
+    ensures { LossIs (loss_out book.count settings (columns_of xs.now ys.now ws.now) sums.now (before scratch) (before losses)) result (contents scratch) (contents losses) }
 {
     let n = book.count;
     let refusal = refusals::loss_refusal(

@@ -17,7 +17,7 @@ pub fn loss_refusal(
     scratch: usize,
     losses: usize,
 ) -> u8
-    ensures { result ≡ loss_refusal n settings (samples_of n (columns_of (before xs) (before ys) (before ws))) (lengths (columns_of (before xs) (before ys) (before ws))) sums scratch losses }
+    ensures { result ≡ loss_refusal n settings (samples_of n (columns_of xs.now ys.now ws.now)) (lengths (columns_of xs.now ys.now ws.now)) sums scratch losses }
 {
     let memory = refusal::short(
         SUMS,

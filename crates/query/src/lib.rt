@@ -27,7 +27,7 @@ pub fn fit(
     scratch: &mut [f64],
     coefficients: &mut [f64],
 ) -> FitAnswer
-    ensures { FitIs (fit_out book.count (columns_of (before xs) (before ys) (before ws)) (before sums) (before scratch) (before coefficients) degree.0) result (contents scratch) (contents coefficients) }
+    ensures { FitIs (fit_out book.count (columns_of xs.now ys.now ws.now) sums.now (before scratch) (before coefficients) degree.0) result (contents scratch) (contents coefficients) }
 {
     let n = book.count;
     let refusal = refusals::fit_refusal(
@@ -69,7 +69,7 @@ pub fn validate(
     scratch: &mut [f64],
     coefficients: &mut [f64],
 ) -> FitAnswer
-    ensures { FitIs (validate_out book.count (columns_of (before xs) (before ys) (before ws)) (before sums) (before scratch) (before coefficients) folds bound criterion) result (contents scratch) (contents coefficients) }
+    ensures { FitIs (validate_out book.count (columns_of xs.now ys.now ws.now) sums.now (before scratch) (before coefficients) folds bound criterion) result (contents scratch) (contents coefficients) }
 {
     let n = book.count;
     let refusal = refusals::validate_refusal(
@@ -118,7 +118,7 @@ pub fn band(
     sums: &[f64],
     scratch: &mut [f64],
 ) -> BandAnswer
-    ensures { BandIs (band_out book.count x degree.0 confidence tolerance (columns_of (before xs) (before ys) (before ws)) (before sums) (before scratch)) result (contents scratch) }
+    ensures { BandIs (band_out book.count x degree.0 confidence tolerance (columns_of xs.now ys.now ws.now) sums.now (before scratch)) result (contents scratch) }
 {
     let n = book.count;
     let refusal = refusals::band_refusal(

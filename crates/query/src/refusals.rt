@@ -42,7 +42,7 @@ pub fn fit_refusal(
     scratch: usize,
     coefficients: usize,
 ) -> u8
-    ensures { result ≡ fit_refusal n degree.0 (samples_of n (columns_of (before xs) (before ys) (before ws))) (lengths (columns_of (before xs) (before ys) (before ws))) sums scratch coefficients }
+    ensures { result ≡ fit_refusal n degree.0 (samples_of n (columns_of xs.now ys.now ws.now)) (lengths (columns_of xs.now ys.now ws.now)) sums scratch coefficients }
 {
     if fit_short(n, xs.len(), ys.len(), ws.len(), sums, scratch, coefficients) {
         return 1;
@@ -67,7 +67,7 @@ pub fn validate_refusal(
     scratch: usize,
     coefficients: usize,
 ) -> u8
-    ensures { result ≡ validate_refusal n folds bound (samples_of n (columns_of (before xs) (before ys) (before ws))) (lengths (columns_of (before xs) (before ys) (before ws))) sums scratch coefficients }
+    ensures { result ≡ validate_refusal n folds bound (samples_of n (columns_of xs.now ys.now ws.now)) (lengths (columns_of xs.now ys.now ws.now)) sums scratch coefficients }
 {
     if fit_short(n, xs.len(), ys.len(), ws.len(), sums, scratch, coefficients) {
         return 1;
@@ -94,7 +94,7 @@ pub fn band_refusal(
     sums: usize,
     scratch: usize,
 ) -> u8
-    ensures { result ≡ band_refusal n x degree.0 confidence tolerance (samples_of n (columns_of (before xs) (before ys) (before ws))) (lengths (columns_of (before xs) (before ys) (before ws))) sums scratch }
+    ensures { result ≡ band_refusal n x degree.0 confidence tolerance (samples_of n (columns_of xs.now ys.now ws.now)) (lengths (columns_of xs.now ys.now ws.now)) sums scratch }
 {
     if band_short(n, xs.len(), ys.len(), ws.len(), sums, scratch) {
         return 1;

@@ -56,7 +56,7 @@ fn pruning_by(kind: u32) -> u32
 // The settings of the k-th record.
 fn settings_at(kinds: &[u32], words: &[usize], numbers: &[f64], k: usize) -> Settings
     requires { Stands kinds.now words.now numbers.now k }
-    ensures { result ≡ settings_at (before kinds) (before words) (before numbers) k }
+    ensures { result ≡ settings_at kinds.now words.now numbers.now k }
 {
     let kind = 5 * k;
     let word = 9 * k;
@@ -77,7 +77,7 @@ fn settings_at(kinds: &[u32], words: &[usize], numbers: &[f64], k: usize) -> Set
 // The lengths of the k-th record.
 fn places_at(words: &[usize], k: usize) -> Places
     requires { 9 * k + 9 ≤ length words.now }
-    ensures { result ≡ places_at (before words) k }
+    ensures { result ≡ places_at words.now k }
 {
     let word = 9 * k;
     Places {
@@ -117,7 +117,7 @@ fn fits_in(width: usize, p: Places) -> bool
 // Whether that of the first m records does.
 fn all_fit(words: &[usize], width: usize, m: usize) -> bool
     requires { 9 * m ≤ length words.now }
-    ensures { result ≡ all_fit (before words) width m }
+    ensures { result ≡ all_fit words.now width m }
 {
     let mut fit = true;
     for k in 0..m {
@@ -154,7 +154,7 @@ fn has_room(m: usize, words: usize, numbers: usize, width: usize, b: Buffers) ->
 
 // Whether the buffers hold a list of calls, with room for all that is written.
 fn well_formed(kinds: &[u32], words: &[usize], numbers: &[f64], width: usize, b: Buffers) -> bool
-    ensures { result ≡ well_formed (before kinds) (before words) (before numbers) width b }
+    ensures { result ≡ well_formed kinds.now words.now numbers.now width b }
 {
     let calls = kinds.len() / 5;
     if !has_room(calls, words.len(), numbers.len(), width, b) {
@@ -291,7 +291,7 @@ fn report_at(
     outliers: &mut [u8],
 ) -> Done
     requires { Windows at p (outputs_now scratch coefficients errors pruned lower upper outliers) }
-    ensures { Reported book.count at (report_out book.count settings (columns_of (before xs) (before ys) (before ws)) (before sums) p) result (outputs scratch coefficients errors pruned lower upper outliers) }
+    ensures { Reported book.count at (report_out book.count settings (columns_of xs.now ys.now ws.now) sums.now p) result (outputs scratch coefficients errors pruned lower upper outliers) }
 {
     let s = at + p.scratch;
     let c = at + p.coefficients;
@@ -340,7 +340,7 @@ fn turn(
     outliers: &mut [u8],
 ) -> Book
     requires { Stands kinds.now words.now numbers.now k × (5 * k + 5 ≤ length results.old) × Windows (width * k) (places_at words.now k) (outputs_now scratch coefficients errors pruned lower upper outliers) }
-    ensures { TurnIs (call_at (before kinds) (before words) (before numbers) k) width k book.count result.count (memory xs ys ws sums results (outputs scratch coefficients errors pruned lower upper outliers)) }
+    ensures { TurnIs (call_at kinds.now words.now numbers.now k) width k book.count result.count (memory xs ys ws sums results (outputs scratch coefficients errors pruned lower upper outliers)) }
 {
     let settings = settings_at(kinds, words, numbers, k);
     let places = places_at(words, k);
@@ -400,7 +400,7 @@ fn run(
     outliers: &mut [u8],
 ) -> Book
     requires { well_formed kinds.now words.now numbers.now width (buffers_of sums.old results.old (outputs_now scratch coefficients errors pruned lower upper outliers)) ≡ true }
-    ensures { RunIs (calls_of (before kinds) (before words) (before numbers)) width result.count (memory xs ys ws sums results (outputs scratch coefficients errors pruned lower upper outliers)) }
+    ensures { RunIs (calls_of kinds.now words.now numbers.now) width result.count (memory xs ys ws sums results (outputs scratch coefficients errors pruned lower upper outliers)) }
 {
     let a = book::open(sums);
     let first = record_change(Book { count: 0 }, a);
@@ -453,7 +453,7 @@ pub fn replay(
     upper: &mut [f64],
     outliers: &mut [u8],
 ) -> Replayed
-    ensures { ReplayIs (before kinds) (before words) (before numbers) width (memory xs ys ws sums results (outputs scratch coefficients errors pruned lower upper outliers)) result }
+    ensures { ReplayIs kinds.now words.now numbers.now width (memory xs ys ws sums results (outputs scratch coefficients errors pruned lower upper outliers)) result }
 {
     let places = Places {
         scratch: scratch.len(),

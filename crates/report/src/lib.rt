@@ -32,7 +32,7 @@ pub fn report_within(
     upper: &mut [f64],
     outliers: &mut [u8],
 ) -> Counted
-    ensures { WithinIs book.count settings limit (columns_of (before xs) (before ys) (before ws)) (before sums) result (outputs scratch coefficients errors pruned lower upper outliers) }
+    ensures { WithinIs book.count settings limit (columns_of xs.now ys.now ws.now) sums.now result (outputs scratch coefficients errors pruned lower upper outliers) }
 {
     let n = book.count;
     let places = Places {
@@ -89,7 +89,7 @@ pub fn report(
     upper: &mut [f64],
     outliers: &mut [u8],
 ) -> ReportAnswer
-    ensures { ReportIs book.count settings (columns_of (before xs) (before ys) (before ws)) (before sums) result (outputs scratch coefficients errors pruned lower upper outliers) }
+    ensures { ReportIs book.count settings (columns_of xs.now ys.now ws.now) sums.now result (outputs scratch coefficients errors pruned lower upper outliers) }
 {
     let done = report_within(
         book,

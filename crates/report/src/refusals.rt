@@ -41,7 +41,7 @@ pub fn report_refusal(
     sums: usize,
     places: Places,
 ) -> u8
-    ensures { result ≡ report_refusal n settings (samples_of n (columns_of (before xs) (before ys) (before ws))) (lengths (columns_of (before xs) (before ys) (before ws))) sums places }
+    ensures { result ≡ report_refusal n settings (samples_of n (columns_of xs.now ys.now ws.now)) (lengths (columns_of xs.now ys.now ws.now)) sums places }
 {
     if report_short(n, xs.len(), ys.len(), ws.len(), sums, places) {
         return 1;

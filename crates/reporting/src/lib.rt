@@ -78,7 +78,7 @@ pub fn choose(
     scratch: &mut [f64],
 ) -> Chosen
     requires { (n ≤ length xs.now) × (n ≤ length zs.now) × (n ≤ length ys.now) × (n ≤ length scratch.old) × (sum_places ≤ length sums.now) × (last.0 ≤ highest_degree) × (count_of basis last.0 ≤ max_terms) }
-    ensures { Chooses basis (choice_of criterion (before sums) (rows_at basis n (before xs) (before zs) (before ys)) (counts_of basis last.0)) n (rows_at basis n (before xs) (before zs) (before ys)) (before sums) (before scratch) (after scratch) result }
+    ensures { Chooses basis (choice_of criterion sums.now (rows_at basis n xs.now zs.now ys.now) (counts_of basis last.0)) n (rows_at basis n xs.now zs.now ys.now) sums.now (before scratch) (after scratch) result }
 {
     let choice = fit::choose(basis, xs, zs, ys, n, sums, last, criterion, &mut *scratch);
     let chosen = choice.chosen;
@@ -128,7 +128,7 @@ pub fn write(
 ) -> ReportAnswer
     requires n_in_bounds { (n ≤ length xs.now) × (n ≤ length zs.now) × (n ≤ length ys.now) × (degree.0 ≤ highest_degree) × (count_of basis degree.0 ≤ n) × (count_of basis degree.0 ≤ max_terms) }
     requires n_in_bounds_2 { (n ≤ length scratch.old) × (term_places basis ≤ length coefficients.old) × (term_places basis ≤ length errors.old) × (term_places basis ≤ length pruned.old) × (n ≤ length lower.old) × (n ≤ length upper.old) × (n ≤ length outliers.old) }
-    ensures { Does (written_by basis n settings (rows_at basis n (before xs) (before zs) (before ys)) degree.0 solved c v) result (outputs scratch coefficients errors pruned lower upper outliers) }
+    ensures { Does (written_by basis n settings (rows_at basis n xs.now zs.now ys.now) degree.0 solved c v) result (outputs scratch coefficients errors pruned lower upper outliers) }
 {
     let places = measure::term_places(basis);
     let k = degree.k(basis);
@@ -176,7 +176,7 @@ pub fn report_rows(
 ) -> Counted
     requires n_in_bounds { (n ≤ length xs.now) × (n ≤ length zs.now) × (n ≤ length ys.now) × (sum_places ≤ length sums.now) × (last.0 ≤ highest_degree) × (count_of basis last.0 ≤ n) × (count_of basis last.0 ≤ max_terms) }
     requires n_in_bounds_2 { (n ≤ length scratch.old) × (term_places basis ≤ length coefficients.old) × (term_places basis ≤ length errors.old) × (term_places basis ≤ length pruned.old) × (n ≤ length lower.old) × (n ≤ length upper.old) × (n ≤ length outliers.old) }
-    ensures { DoesWithin (limited_up_to basis n settings limit last.0 (rows_at basis n (before xs) (before zs) (before ys)) (before sums)) result (outputs scratch coefficients errors pruned lower upper outliers) }
+    ensures { DoesWithin (limited_up_to basis n settings limit last.0 (rows_at basis n xs.now zs.now ys.now) sums.now) result (outputs scratch coefficients errors pruned lower upper outliers) }
 {
     let criterion = settings.criterion;
     let m = choose(basis, n, last, criterion, xs, zs, ys, sums, &mut *scratch);

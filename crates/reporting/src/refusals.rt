@@ -17,7 +17,7 @@ pub fn settings_refusal(
     few: bool,
 ) -> u8
     requires { (n ≤ length xs.now) × (n ≤ length ys.now) × (n ≤ length ws.now) }
-    ensures { result ≡ first_of (settings_tests n settings (samples_of n (columns_of (before xs) (before ys) (before ws))) few) }
+    ensures { result ≡ first_of (settings_tests n settings (samples_of n (columns_of xs.now ys.now ws.now)) few) }
 {
     let bound = settings.bound;
     let confidence = settings.confidence;

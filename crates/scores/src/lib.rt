@@ -50,7 +50,7 @@ pub fn scores(
     solved: &mut [u8],
     scores: &mut [f64],
 ) -> ScoresAnswer
-    ensures { ScoresIs (scores_out book.count settings (columns_of (before xs) (before ys) (before ws)) (before sums) (before scratch) (before solved) (before scores)) result (contents scratch) (contents solved) (contents scores) }
+    ensures { ScoresIs (scores_out book.count settings (columns_of xs.now ys.now ws.now) sums.now (before scratch) (before solved) (before scores)) result (contents scratch) (contents solved) (contents scores) }
 {
     let n = book.count;
     let refusal = refusals::scores_refusal(

@@ -18,7 +18,7 @@ pub fn scores_refusal(
     solved: usize,
     scores: usize,
 ) -> u8
-    ensures { result ≡ scores_refusal n settings (samples_of n (columns_of (before xs) (before ys) (before ws))) (lengths (columns_of (before xs) (before ys) (before ws))) sums scratch solved scores }
+    ensures { result ≡ scores_refusal n settings (samples_of n (columns_of xs.now ys.now ws.now)) (lengths (columns_of xs.now ys.now ws.now)) sums scratch solved scores }
 {
     let tables = refusal::short(TERMS, solved, refusal::short(TERMS, scores, false));
     let memory = refusal::short(SUMS, sums, refusal::short(n, scratch, tables));

@@ -42,7 +42,7 @@ fn call(
     ws: &mut [f64],
     sums: &mut [f64],
 ) -> Answer
-    ensures { Is (out_of (state_of book.count (columns_of (before xs) (before ys) (before ws)) (before sums)) (change_of asked (before bytes))) result (columns_of (after xs) (after ys) (after ws)) (after sums) }
+    ensures { Is (out_of (state_of book.count (columns_of (before xs) (before ys) (before ws)) (before sums)) (change_of asked bytes.now)) result (columns_of (after xs) (after ys) (after ws)) (after sums) }
 {
     match asked {
         Asked::Add(x, y, w) => book::add(book, x, y, w, xs, ys, ws, sums),
@@ -64,7 +64,7 @@ fn change(
     ws: &mut [f64],
     sums: &mut [f64],
 ) -> Answer
-    ensures { SeasonIs (season_out stake (season_of (before counts) (columns_of (before xs) (before ys) (before ws)) (before sums)) (change_of asked (before bytes))) result (season_of (after counts) (columns_of (after xs) (after ys) (after ws)) (after sums)) }
+    ensures { SeasonIs (season_out stake (season_of (before counts) (columns_of (before xs) (before ys) (before ws)) (before sums)) (change_of asked bytes.now)) result (season_of (after counts) (columns_of (after xs) (after ys) (after ws)) (after sums)) }
 {
     let refusal = stakes::stake_refusal(stake, counts.len());
     if refusal != 0 {
@@ -140,7 +140,7 @@ pub fn add_frame(
     ws: &mut [f64],
     sums: &mut [f64],
 ) -> Answer
-    ensures { SeasonIs (season_out stake (season_of (before counts) (columns_of (before xs) (before ys) (before ws)) (before sums)) (frames (before frame))) result (season_of (after counts) (columns_of (after xs) (after ys) (after ws)) (after sums)) }
+    ensures { SeasonIs (season_out stake (season_of (before counts) (columns_of (before xs) (before ys) (before ws)) (before sums)) (frames frame.now)) result (season_of (after counts) (columns_of (after xs) (after ys) (after ws)) (after sums)) }
 {
     change(stake, Asked::Frame, frame, counts, xs, ys, ws, sums)
 }
@@ -155,7 +155,7 @@ pub fn add_lines(
     ws: &mut [f64],
     sums: &mut [f64],
 ) -> Answer
-    ensures { SeasonIs (season_out stake (season_of (before counts) (columns_of (before xs) (before ys) (before ws)) (before sums)) (texts (before text))) result (season_of (after counts) (columns_of (after xs) (after ys) (after ws)) (after sums)) }
+    ensures { SeasonIs (season_out stake (season_of (before counts) (columns_of (before xs) (before ys) (before ws)) (before sums)) (texts text.now)) result (season_of (after counts) (columns_of (after xs) (after ys) (after ws)) (after sums)) }
 {
     change(stake, Asked::Lines, text, counts, xs, ys, ws, sums)
 }
@@ -186,7 +186,7 @@ pub fn correct(
     ws: &[f64],
     sums: &mut [f64],
 ) -> Answer
-    ensures { SeasonIs (season_out stake (season_of (before counts) (columns_of (before xs) (before ys) (before ws)) (before sums)) (corrects i y)) result (season_of (after counts) (columns_of (before xs) (after ys) (before ws)) (after sums)) }
+    ensures { SeasonIs (season_out stake (season_of (before counts) (columns_of xs.now (before ys) ws.now) (before sums)) (corrects i y)) result (season_of (after counts) (columns_of xs.now (after ys) ws.now) (after sums)) }
 {
     let refusal = stakes::stake_refusal(stake, counts.len());
     if refusal != 0 {
@@ -221,7 +221,7 @@ pub fn carry(
     ws: &mut [f64],
     sums: &[f64],
 ) -> Answer
-    ensures { SeasonIs (carry_stake_out stake (season_of (before counts) (columns_of (before xs) (before ys) (before ws)) (before sums))) result (season_of (after counts) (columns_of (before xs) (before ys) (after ws)) (before sums)) }
+    ensures { SeasonIs (carry_stake_out stake (season_of (before counts) (columns_of xs.now ys.now (before ws)) sums.now)) result (season_of (after counts) (columns_of xs.now ys.now (after ws)) sums.now) }
 {
     let refusal = stakes::stake_refusal(stake, counts.len());
     if refusal != 0 {

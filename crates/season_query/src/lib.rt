@@ -28,7 +28,7 @@ pub fn fit(
     scratch: &mut [f64],
     coefficients: &mut [f64],
 ) -> FitAnswer
-    ensures { StakeFitIs stake (stake_fit_out (fit_from degree.0) stake (season_of (before counts) (columns_of (before xs) (before ys) (before ws)) (before sums)) (before scratch) (before coefficients)) result (contents scratch) (contents coefficients) }
+    ensures { StakeFitIs stake (stake_fit_out (fit_from degree.0) stake (season_of counts.now (columns_of xs.now ys.now ws.now) sums.now) (before scratch) (before coefficients)) result (contents scratch) (contents coefficients) }
 {
     let refusal = stakes::stake_refusal(stake, counts.len());
     if refusal != 0 {
@@ -67,7 +67,7 @@ pub fn validate(
     scratch: &mut [f64],
     coefficients: &mut [f64],
 ) -> FitAnswer
-    ensures { StakeFitIs stake (stake_fit_out (validate_from folds bound criterion) stake (season_of (before counts) (columns_of (before xs) (before ys) (before ws)) (before sums)) (before scratch) (before coefficients)) result (contents scratch) (contents coefficients) }
+    ensures { StakeFitIs stake (stake_fit_out (validate_from folds bound criterion) stake (season_of counts.now (columns_of xs.now ys.now ws.now) sums.now) (before scratch) (before coefficients)) result (contents scratch) (contents coefficients) }
 {
     let refusal = stakes::stake_refusal(stake, counts.len());
     if refusal != 0 {
@@ -108,7 +108,7 @@ pub fn band(
     sums: &[f64],
     scratch: &mut [f64],
 ) -> BandAnswer
-    ensures { StakeBandIs stake (stake_band_out (band_from x degree.0 confidence tolerance) stake (season_of (before counts) (columns_of (before xs) (before ys) (before ws)) (before sums)) (before scratch)) result (contents scratch) }
+    ensures { StakeBandIs stake (stake_band_out (band_from x degree.0 confidence tolerance) stake (season_of counts.now (columns_of xs.now ys.now ws.now) sums.now) (before scratch)) result (contents scratch) }
 {
     let refusal = stakes::stake_refusal(stake, counts.len());
     if refusal != 0 {
@@ -144,7 +144,7 @@ pub fn losses(
     scratch: &mut [f64],
     losses: &mut [f64],
 ) -> LossAnswer
-    ensures { StakeLossIs stake (stake_loss_out (loss_from settings (before losses)) stake (season_of (before counts) (columns_of (before xs) (before ys) (before ws)) (before sums)) (before scratch)) result (contents scratch) (contents losses) }
+    ensures { StakeLossIs stake (stake_loss_out (loss_from settings (before losses)) stake (season_of counts.now (columns_of xs.now ys.now ws.now) sums.now) (before scratch)) result (contents scratch) (contents losses) }
 {
     let refusal = stakes::stake_refusal(stake, counts.len());
     if refusal != 0 {
@@ -179,7 +179,7 @@ pub fn scores(
     solved: &mut [u8],
     scores: &mut [f64],
 ) -> ScoresAnswer
-    ensures { StakeScoresIs stake (stake_scores_out (scores_from settings (before solved) (before scores)) stake (season_of (before counts) (columns_of (before xs) (before ys) (before ws)) (before sums)) (before scratch)) result (contents scratch) (contents solved) (contents scores) }
+    ensures { StakeScoresIs stake (stake_scores_out (scores_from settings (before solved) (before scores)) stake (season_of counts.now (columns_of xs.now ys.now ws.now) sums.now) (before scratch)) result (contents scratch) (contents solved) (contents scores) }
 {
     let refusal = stakes::stake_refusal(stake, counts.len());
     if refusal != 0 {
@@ -216,7 +216,7 @@ pub fn split(
     earlier: &mut [f64],
     later: &mut [f64],
 ) -> SplitAnswer
-    ensures { StakeSplitIs stake (stake_split_out (split_from settings limit (before earlier) (before later)) stake (season_of (before counts) (columns_of (before xs) (before ys) (before ws)) (before sums)) (before scratch)) result (lent_split scratch earlier later) }
+    ensures { StakeSplitIs stake (stake_split_out (split_from settings limit (before earlier) (before later)) stake (season_of counts.now (columns_of xs.now ys.now ws.now) sums.now) (before scratch)) result (lent_split scratch earlier later) }
 {
     let refusal = stakes::stake_refusal(stake, counts.len());
     if refusal != 0 {

@@ -42,7 +42,7 @@ pub fn report(
     upper: &mut [f64],
     outliers: &mut [u8],
 ) -> ReportAnswer
-    ensures { StakeReports settings stake (season_of (before counts) (columns_of (before xs) (before ys) (before ws)) (before sums)) result (outputs scratch coefficients errors pruned lower upper outliers) }
+    ensures { StakeReports settings stake (season_of counts.now (columns_of xs.now ys.now ws.now) sums.now) result (outputs scratch coefficients errors pruned lower upper outliers) }
 {
     let refusal = stakes::stake_refusal(stake, counts.len());
     if refusal != 0 {
@@ -118,7 +118,7 @@ pub fn season_report(
     upper: &mut [f64],
     outliers: &mut [u8],
 ) -> SeasonReport
-    ensures { SeasonReports settings (season_of (before counts) (columns_of (before xs) (before ys) (before ws)) (before sums)) result (outputs scratch coefficients errors pruned lower upper outliers) }
+    ensures { SeasonReports settings (season_of counts.now (columns_of xs.now ys.now ws.now) sums.now) result (outputs scratch coefficients errors pruned lower upper outliers) }
 {
     let none = StakeReport {
         answer: ReportAnswer::Refused(1),

@@ -94,7 +94,7 @@ fn side_sums(
 ) -> [f64; SUMS]
     requires { (start ≤ end) × (end ≤ length xs.now) × (end ≤ length ys.now) × (k.0 ≤ max_terms) }
     ensures long { length result ≡ sum_places }
-    ensures same { SameCorner k.0 result (sums_of (drop start (weighted_rows_at Curve end (before xs) (before xs) (before ys) (before ws)))) }
+    ensures same { SameCorner k.0 result (sums_of (drop start (weighted_rows_at Curve end xs.now xs.now ys.now ws.now))) }
 {
     let mut sums = [0.0; SUMS];
     monomial::add_corner(Basis::Curve, xs, xs, ys, ws, start, end, k, &mut sums);
@@ -112,7 +112,7 @@ fn choose_side(
     scratch: &mut [f64],
 ) -> Choice
     requires { (n ≤ length xs.now) × (n ≤ length ys.now) × (n ≤ length scratch.old) × (sum_places ≤ length sums.now) × (max_degree bound n ≤ highest_degree) }
-    ensures is { result ≡ choice_of criterion (before sums) (rows_at Curve n (before xs) (before xs) (before ys)) (counts_of Curve (max_degree bound n)) }
+    ensures is { result ≡ choice_of criterion sums.now (rows_at Curve n xs.now xs.now ys.now) (counts_of Curve (max_degree bound n)) }
     ensures within { Within n (before scratch) (after scratch) }
 {
     let most = statistics::max_degree(bound, n);
@@ -140,8 +140,8 @@ fn choose_sides(
 ) -> Sides
     requires n_in_bounds { (n ≤ length xs.now) × (n ≤ length ys.now) × (n ≤ length scratch.old) × (b ≤ n) × (max_degree bound n ≤ highest_degree) × (n ≤ max_samples) }
     requires sums_len { (length sums.now ≡ sum_places) × SameCorner (count_of Curve (max_degree bound n)) sums.now (sums_of (weighted_rows_at Curve b xs.now xs.now ys.now ws.now)) }
-    ensures left { result.left ≡ left_of bound criterion (weighted_rows_at Curve n (before xs) (before xs) (before ys) (before ws)) b }
-    ensures right { result.right ≡ right_of bound criterion (weighted_rows_at Curve n (before xs) (before xs) (before ys) (before ws)) b }
+    ensures left { result.left ≡ left_of bound criterion (weighted_rows_at Curve n xs.now xs.now ys.now ws.now) b }
+    ensures right { result.right ≡ right_of bound criterion (weighted_rows_at Curve n xs.now xs.now ys.now ws.now) b }
     ensures within { Within n (before scratch) (after scratch) }
 {
     let left = choose_side(xs, ys, b, sums, bound, criterion, &mut *scratch);
@@ -187,7 +187,7 @@ fn search(
     scratch: &mut [f64],
 ) -> Searched
     requires { (n ≤ length xs.now) × (n ≤ length ys.now) × (n ≤ length scratch.old) × (4 ≤ n) × (n ≤ max_samples) × (max_degree bound n ≤ highest_degree) }
-    ensures { Searches limit bound criterion (weighted_rows_at Curve n (before xs) (before xs) (before ys) (before ws)) n (before scratch) (after scratch) result }
+    ensures { Searches limit bound criterion (weighted_rows_at Curve n xs.now xs.now ys.now ws.now) n (before scratch) (after scratch) result }
 {
     let last = n - 1;
     let most = statistics::max_degree(bound, n);
@@ -240,7 +240,7 @@ fn side_fit(
     degree: Degree,
 ) -> [f64; TERMS]
     requires { (start ≤ end) × (end ≤ length xs.now) × (end ≤ length ys.now) × (degree.0 ≤ highest_degree) }
-    ensures { result ≡ side_fit (drop start (weighted_rows_at Curve end (before xs) (before xs) (before ys) (before ws))) degree }
+    ensures { result ≡ side_fit (drop start (weighted_rows_at Curve end xs.now xs.now ys.now ws.now)) degree }
 {
     let k = degree.k(Basis::Curve);
     let sums = side_sums(xs, ys, ws, start, end, k);
@@ -259,8 +259,8 @@ fn write(
     later: &mut [f64],
 )
     requires { (n ≤ length xs.now) × (n ≤ length ys.now) × (best.at ≤ n) × (best.before.0 ≤ highest_degree) × (best.after.0 ≤ highest_degree) × (max_terms ≤ length earlier.old) × (max_terms ≤ length later.old) }
-    ensures earlier { after earlier ≡ side_fit (take best.at (weighted_rows_at Curve n (before xs) (before xs) (before ys) (before ws))) best.before ++ drop max_terms (before earlier) }
-    ensures later { after later ≡ side_fit (drop best.at (weighted_rows_at Curve n (before xs) (before xs) (before ys) (before ws))) best.after ++ drop max_terms (before later) }
+    ensures earlier { after earlier ≡ side_fit (take best.at (weighted_rows_at Curve n xs.now xs.now ys.now ws.now)) best.before ++ drop max_terms (before earlier) }
+    ensures later { after later ≡ side_fit (drop best.at (weighted_rows_at Curve n xs.now xs.now ys.now ws.now)) best.after ++ drop max_terms (before later) }
 {
     let at = best.at;
     let d = best.before;
@@ -282,7 +282,7 @@ pub fn split_within(
     earlier: &mut [f64],
     later: &mut [f64],
 ) -> CountedSplit
-    ensures { SplitWithinIs book.count settings limit (columns_of (before xs) (before ys) (before ws)) (before sums) result (lent_split scratch earlier later) }
+    ensures { SplitWithinIs book.count settings limit (columns_of xs.now ys.now ws.now) sums.now result (lent_split scratch earlier later) }
 {
     let n = book.count;
     let places = Places {
@@ -336,7 +336,7 @@ pub fn split(
     earlier: &mut [f64],
     later: &mut [f64],
 ) -> SplitAnswer
-    ensures { SplitIs book.count settings limit (columns_of (before xs) (before ys) (before ws)) (before sums) result (lent_split scratch earlier later) }
+    ensures { SplitIs book.count settings limit (columns_of xs.now ys.now ws.now) sums.now result (lent_split scratch earlier later) }
 {
     let done = split_within(
         book, settings, limit, xs, ys, ws, sums, scratch, earlier, later,

@@ -32,7 +32,7 @@ pub fn split_refusal(
     sums: usize,
     places: Places,
 ) -> u8
-    ensures { result ≡ split_refusal n settings (samples_of n (columns_of (before xs) (before ys) (before ws))) (lengths (columns_of (before xs) (before ys) (before ws))) sums places }
+    ensures { result ≡ split_refusal n settings (samples_of n (columns_of xs.now ys.now ws.now)) (lengths (columns_of xs.now ys.now ws.now)) sums places }
 {
     if split_short(n, xs.len(), ys.len(), ws.len(), sums, places) {
         return 1;

@@ -32,7 +32,7 @@ pub fn cut(len: usize, stake: usize) -> Span
 // The part itself, to be read.
 pub fn part(s: &[f64], stake: usize) -> &[f64]
     requires { stake < stakes }
-    ensures { result.now ≡ part_of stake (before s) }
+    ensures { result.now ≡ part_of stake s.now }
 {
     let c = cut(s.len(), stake);
     let a = c.start;

@@ -1,5 +1,6 @@
 // polyfit's `statistics.rs`: scores, the bound on the degree, medians, losses and variances.
 #![tactic(auto)]
+
 ghost use Rattle.std.specs.Prelude.{◌≡◌, ◌<◌, ◌≤◌, map, length, take};
 ghost use Rattle.value.specs.Absolute.{abs_f};
 ghost use Rattle.value.specs.Total.{total_f};

@@ -28,7 +28,7 @@ use statistics::{Confidence, Tolerance};
 fn sums_of(n: usize, xs: &[f64], zs: &[f64], ys: &[f64]) -> [f64; SUMS]
     requires { (n ≤ length xs.now) × (n ≤ length zs.now) × (n ≤ length ys.now) }
     ensures long { length result ≡ sum_places }
-    ensures is { result ≡ sums_of (weighted_rows_at Surface n (before xs) (before zs) (before ys) []) }
+    ensures is { result ≡ sums_of (weighted_rows_at Surface n xs.now zs.now ys.now []) }
 {
     let mut sums = [0.0; SUMS];
     for t in 0..n {
@@ -70,7 +70,7 @@ pub fn surface_fit(
     scratch: &mut [f64],
     coefficients: &mut [f64],
 ) -> FitAnswer
-    ensures { FitIs (surface_fit_out count degree.0 (point_columns (before xs) (before zs) (before ys)) (before scratch) (before coefficients)) result (contents scratch) (contents coefficients) }
+    ensures { FitIs (surface_fit_out count degree.0 (point_columns xs.now zs.now ys.now) (before scratch) (before coefficients)) result (contents scratch) (contents coefficients) }
 {
     let refusal = refusals::fit_refusal(
         count,
@@ -111,7 +111,7 @@ pub fn surface_band(
     ys: &[f64],
     scratch: &mut [f64],
 ) -> BandAnswer
-    ensures { BandIs (surface_band_out count x z degree.0 confidence tolerance (point_columns (before xs) (before zs) (before ys)) (before scratch)) result (contents scratch) }
+    ensures { BandIs (surface_band_out count x z degree.0 confidence tolerance (point_columns xs.now zs.now ys.now) (before scratch)) result (contents scratch) }
 {
     let refusal = refusals::band_refusal(
         count,
@@ -161,7 +161,7 @@ pub fn surface_report_within(
     upper: &mut [f64],
     outliers: &mut [u8],
 ) -> Counted
-    ensures { SurfaceWithinIs count settings limit (point_columns (before xs) (before zs) (before ys)) result (outputs scratch coefficients errors pruned lower upper outliers) }
+    ensures { SurfaceWithinIs count settings limit (point_columns xs.now zs.now ys.now) result (outputs scratch coefficients errors pruned lower upper outliers) }
 {
     let places = Places {
         scratch: scratch.len(),
@@ -218,7 +218,7 @@ pub fn surface_report(
     upper: &mut [f64],
     outliers: &mut [u8],
 ) -> ReportAnswer
-    ensures { SurfaceReportIs count settings (point_columns (before xs) (before zs) (before ys)) result (outputs scratch coefficients errors pruned lower upper outliers) }
+    ensures { SurfaceReportIs count settings (point_columns xs.now zs.now ys.now) result (outputs scratch coefficients errors pruned lower upper outliers) }
 {
     let done = surface_report_within(
         count,

@@ -50,7 +50,7 @@ fn band_short(n: usize, xs: usize, zs: usize, ys: usize, scratch: usize) -> bool
 // 4 is not given: the column values below the count are finite.
 fn points_finite(xs: &[f64], zs: &[f64], ys: &[f64], n: usize) -> bool
     requires { (n ≤ length xs.now) × (n ≤ length zs.now) × (n ≤ length ys.now) }
-    ensures { result ≡ points_finite (points_of n (point_columns (before xs) (before zs) (before ys))) }
+    ensures { result ≡ points_finite (points_of n (point_columns xs.now zs.now ys.now)) }
 {
     refusal::samples_finite(xs, zs, ys, n)
 }
@@ -83,7 +83,7 @@ pub fn fit_refusal(
     scratch: usize,
     coefficients: usize,
 ) -> u8
-    ensures { result ≡ surface_fit_refusal n (points_of n (point_columns (before xs) (before zs) (before ys))) (point_lengths (point_columns (before xs) (before zs) (before ys))) degree.0 scratch coefficients }
+    ensures { result ≡ surface_fit_refusal n (points_of n (point_columns xs.now zs.now ys.now)) (point_lengths (point_columns xs.now zs.now ys.now)) degree.0 scratch coefficients }
 {
     if fit_short(n, xs.len(), zs.len(), ys.len(), scratch, coefficients) {
         return 1;
@@ -105,7 +105,7 @@ pub fn report_refusal(
     ys: &[f64],
     places: Places,
 ) -> u8
-    ensures { result ≡ surface_report_refusal n (points_of n (point_columns (before xs) (before zs) (before ys))) (point_lengths (point_columns (before xs) (before zs) (before ys))) settings places }
+    ensures { result ≡ surface_report_refusal n (points_of n (point_columns xs.now zs.now ys.now)) (point_lengths (point_columns xs.now zs.now ys.now)) settings places }
 {
     if report_short(n, xs.len(), zs.len(), ys.len(), places) {
         return 1;
@@ -137,7 +137,7 @@ pub fn band_refusal(
     ys: &[f64],
     scratch: usize,
 ) -> u8
-    ensures { result ≡ surface_band_refusal n (points_of n (point_columns (before xs) (before zs) (before ys))) (point_lengths (point_columns (before xs) (before zs) (before ys))) x z degree.0 confidence tolerance scratch }
+    ensures { result ≡ surface_band_refusal n (points_of n (point_columns xs.now zs.now ys.now)) (point_lengths (point_columns xs.now zs.now ys.now)) x z degree.0 confidence tolerance scratch }
 {
     if band_short(n, xs.len(), zs.len(), ys.len(), scratch) {
         return 1;

@@ -1,0 +1,11 @@
+-- `monomial::fitted_at` meets its contract.
+use Rattle.monomial.specs.Terms.{terms_at}
+use Rattle.monomial.proofs.fitted_at.Goals as goal
+
+pub returns-in-Curve : goal.returns-in-Curve
+unfolding terms_at
+returns-in-Curve c = rw (c.curve_at.ensures, c.in-Curve.is)
+
+pub returns-in-Surface : goal.returns-in-Surface
+unfolding terms_at
+returns-in-Surface c = rw (c.surface_at.ensures, c.in-Surface.is)
