@@ -1,5 +1,6 @@
 // AIC and BIC, from the number of samples scored, the number of coefficients and the total of the losses.
 #![tactic(auto)]
+
 ghost use Rattle.std.specs.Prelude.{◌≡◌};
 ghost use Rattle.score.specs.Score.{likelihood_of, aic_of, bic_of, score_of};
 
