@@ -3,7 +3,6 @@ use Rattle.std.specs.Prelude.{◌≡◌, refl, Bool, List, ℕ, ◌+◌, ◌<◌
 use Rattle.std.proofs.Math.Path.{ap}
 use Rattle.std.proofs.Common.{◌∙◌}
 use Rattle.std.proofs.Math.Bool.{cond}
-use Rattle.std.specs.Float.Ieee.{le}
 use Rattle.loops.specs.LoopLaws.{from_same, seek_same}
 use Rattle.choice.specs.declared.Scored.{Scored}
 use Rattle.value.specs.Numbers.{infinity_f}

@@ -97,6 +97,7 @@ or_first false b h = never h
 
 told : (b : Bool) → T b → b ≡ true
 told true t = refl
+told false t = elim t [ ]
 
 two_is : two_f ≡ round binary64 false 2 1
 unfolding of_bits round size span climb odd units count_trailing_zeros

@@ -1,5 +1,6 @@
 // The choice among the degrees below b, of which each is solved or not and has a score. The arrays have 16 places, so b is at most 16.
 #![tactic(auto)]
+
 ghost use Rattle.std.specs.Prelude.{◌≡◌, ◌≤◌, get_or};
 ghost use Rattle.std.specs.Float.{nan};
 ghost use Rattle.basis.specs.Sizes.{max_terms};
