@@ -1,5 +1,5 @@
 -- Laws of Nested.antt: the solution for k coefficients from the elimination of K.
-use Rattle.std.specs.Prelude.{◌≡◌, Bool, true, false, cond, ℕ, ◌+◌, ◌*◌, ◌≤◌, ◌<◌, min, ltb, eqb, length, set, take, drop, replicate}
+use Rattle.std.specs.Prelude.{◌≡◌, Bool, true, false, cond, ℕ, ◌+◌, ◌*◌, ◌≤◌, ◌<◌, min, ltb, eqb, length, set, take, replicate}
 use Rattle.std.proofs.Math.Path.{refl, sym}
 use Rattle.std.proofs.Common.{ap, ◌∙◌, arith, le-ltb, ltb-true, ltb-false, eqb-true, take-append-drop, get_or-set_same}
 use mathlib.Core.List.{List, ◌++◌}

@@ -1,5 +1,5 @@
 -- Laws of Solve.antt.
-use Rattle.std.specs.Prelude.{List, ℕ, ◌-◌, ◌≤◌, replicate, Float}
+use Rattle.std.specs.Prelude.{List, ℕ, ◌≤◌, replicate, Float}
 use Rattle.std.proofs.Common.{arith}
 use Rattle.loops.specs.LoopLaws.{while_at_most}
 use Rattle.value.specs.Numbers.{zero_f}

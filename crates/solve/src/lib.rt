@@ -1,6 +1,7 @@
 // The solution and the inverse of the k by k corner of A, by elimination and back substitution, for every content of the lent sums.
 // They stand in for polyfit's SVD in `solve_matrix` and for its inverse.
 #![tactic(auto)]
+
 ghost use Rattle.std.specs.Prelude.{◌≡◌, ◌≤◌, ◌<◌, length};
 ghost use Rattle.basis.specs.Sizes.{matrix_places, max_terms, sum_places};
 ghost use Rattle.solve.specs.Solve.{eliminate as eliminateF, back, matrix_of, right_of, solve as solveF, ridge as ridgeF, put_column, inverse as inverseF};
@@ -24,7 +25,7 @@ pub fn eliminate(
     b: &mut [f64; TERMS],
 ) -> usize
     requires { (matrix_places ≤ length start.now) × (k.0 ≤ max_terms) }
-    ensures { record { at = result; state = record { m = m.exit.now; b = b.new } } ≡ eliminateF start.now k.0 (record { m = m.entry.now; b = b.old }) }
+    ensures { record { at = result; state = record { m = m.new; b = b.new } } ≡ eliminateF start.now k.0 (record { m = m.old; b = b.old }) }
 {
     let n = k.0;
     let mut p = 0;
