@@ -1,6 +1,6 @@
 -- The listing that `stakebook` prints, in the words of document 01, and the losses of document 02 behind it. Definitions only.
 use mathlib.Core.List.{List, [], ◌∷◌, ◌++◌, flatten}
-use Rattle.std.specs.Prelude.{ℕ, ◌+◌, min, Float, length, get_or}
+use Rattle.std.specs.Prelude.{ℕ, min, Float, length, get_or}
 use Rattle.std.specs.Float.{nan}
 use Rattle.basis.specs.Counts.{count_of}
 use Rattle.basis.specs.declared.Basis.TheVariants.{Curve}

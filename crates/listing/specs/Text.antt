@@ -1,5 +1,4 @@
 -- Text as bytes: ASCII, numbers in decimal and hexadecimal digits, and lines of fields. Definitions only.
-use Rattle.std.proofs.Common.{ap}
 use Rattle.std.specs.Prelude.{List, [], ◌∷◌, ◌++◌, map, cond, ℕ, zero, suc, ◌+◌, ◌/◌, ◌%◌, ltb, Float}
 use Prim.Native.Char.{code}
 use Prim.Native.String.{String}

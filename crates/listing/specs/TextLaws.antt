@@ -1,7 +1,6 @@
 -- Laws of Text.antt.
-use Rattle.std.specs.Prelude.{◌≡◌, List, [], ◌∷◌, ◌++◌, map, Bool, true, false, cond, ℕ, zero, suc, ◌+◌, ◌/◌, ◌%◌, ◌^◌, ◌≤◌, ◌<◌, ltb, Float, length}
+use Rattle.std.specs.Prelude.{◌≡◌, List, [], ◌∷◌, ◌++◌, Bool, true, false, cond, ℕ, zero, suc, ◌+◌, ◌/◌, ◌%◌, ◌^◌, ◌≤◌, ◌<◌, ltb, Float, length}
 use Rattle.std.proofs.Common.{ap, subst, ◌∙◌, div-lt_iff_lt-mul, pow-suc, arith, lt-ltb, length-append}
-use Prim.Native.String as string
 use Rattle.std.specs.Float.{binary64}
 use Rattle.std.specs.Float.Ieee.{to_bits}
 use Rattle.std.proofs.lemmas.List.{length-map}

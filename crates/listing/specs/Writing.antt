@@ -1,5 +1,5 @@
 -- Writing a text into lent memory: as much of it as has room, and the place behind it. Definitions only.
-use Rattle.std.specs.Prelude.{◌≡◌, List, ℕ, ◌+◌, min, length, set}
+use Rattle.std.specs.Prelude.{◌≡◌, List, ℕ, ◌+◌, min, length}
 use Rattle.std.proofs.lemmas.List.Edits.{sets}
 
 -- A place is a usize; the last of them stands for every later one.

@@ -2,6 +2,7 @@
 // Every writer puts a text at a place as far as there is room, changes nothing else, and answers the place behind the whole text: from 0 on,
 // the length needed.
 #![tactic(auto)]
+
 mod writing;
 
 ghost use Rattle.std.specs.Prelude.{◌≡◌, ◌+◌, ◌≤◌, min, length};

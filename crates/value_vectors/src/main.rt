@@ -4,6 +4,7 @@
 // ln, a library's result, each as 16 hexadecimal digits in capitals. `judge/src/bin/vectors.rs` makes them:
 // `cargo run --release -p judge --bin vectors > crates/value_vectors/stdin`.
 #![tactic(auto)]
+
 ghost use Rattle.std.specs.Prelude.{◌+◌, ◌<◌, ◌≤◌, length};
 
 const STDIN: i32 = 0;
