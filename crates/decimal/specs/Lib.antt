@@ -1,4 +1,5 @@
 -- Readings as they are written in the field book: decimals, the doubles nearest to them, and lines of two.
+pub mod Bytes
 pub mod Characters
 pub mod Digits
 pub mod DigitLaws

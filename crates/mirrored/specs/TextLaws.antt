@@ -6,7 +6,7 @@ use Rattle.std.proofs.Math.Bool.{true, false}
 use Rattle.std.proofs.Math.Dec.{eqb}
 use Rattle.std.specs.Float.{binary64}
 use Rattle.std.specs.Float.Ieee.{round}
-use Rattle.bytes.specs.Bytes.{index_of, index_after}
+use Rattle.decimal.specs.Bytes.{index_of, index_after}
 use Rattle.loops.specs.All.{All}
 use Rattle.loops.specs.Cases.{by_test, and_first, never}
 use Rattle.loops.specs.Fold.{fold}
