@@ -1,6 +1,7 @@
 // Covariance, errors, confidence bands, outliers and pruning: polyfit's `CurveFitCovariance`, `confidence_band`, `outliers` and
 // `prune_insignificant`.
 #![tactic(auto)]
+
 ghost use Rattle.std.specs.Prelude.{◌≡◌, ◌++◌, ◌≤◌, ◌<◌, length, get_or, take, drop};
 ghost use Rattle.std.specs.Float.{nan};
 ghost use Rattle.basis.specs.Sizes.{max_terms};

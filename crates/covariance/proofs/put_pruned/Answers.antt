@@ -1,0 +1,35 @@
+-- `covariance::put_pruned` meets its contract. The loop's invariant: the places passed hold their bytes, and count is their number of ones.
+use mathlib.Core.Path.{◌≡◌, refl, sym, ◌∙◌}
+use native.Mathlib.Omega.{arith}
+use borrow.Author.Rules.{rules}
+use lib.ListN.{length-set}
+use Rattle.loops.specs.Fold.{fold}
+use Rattle.loops.specs.Places.{each, table}
+use Rattle.loops.specs.PlaceLaws.{each_again, each_write}
+use Rattle.covariance.specs.Marks.{ones}
+use Rattle.covariance.specs.MarkLaws.{ones_again}
+use Rattle.covariance.specs.Pruning.{pruned_at}
+use Rattle.covariance.proofs.put_pruned.Goals as goal
+
+pub loop-i-init : goal.loop-i-init
+unfolding each ones fold table
+loop-i-init c = (search rules, refl, refl, search rules, refl)
+
+pub overflow_cast-count : goal.overflow_cast-count
+overflow_cast-count c = omega (arith, c.mark-b.ensures.1)
+
+pub overflow_add-count : goal.overflow_add-count
+overflow_add-count c = omega (arith, c.mark-b.ensures.1, c.loop-i.invariant.3)
+
+pub loop-i-preserved : goal.loop-i-preserved
+unfolding pruned_at
+loop-i-preserved c = let b : c.mark-b.result ≡ pruned_at c.args.rule c.args.k.0 c.args.c.now c.args.errors.now c.args.t c.loop-i.i = c.mark-b.ensures.0 ∙ (rw c.prunes.ensures) in (
+  search rules,
+  simp length-set c.loop-i.invariant.1,
+  rw (b, c.loop-i.invariant.2) (each_again (λ j _. pruned_at c.args.rule c.args.k.0 c.args.c.now c.args.errors.now c.args.t j) c.loop-i.i _ 0 (search rules)),
+  omega (arith, c.mark-b.ensures.1, c.loop-i.invariant.3),
+  rw (b, c.loop-i.invariant.4) (sym (ones_again (pruned_at c.args.rule c.args.k.0 c.args.c.now c.args.errors.now c.args.t) c.loop-i.i)),
+)
+
+pub returns : goal.returns
+returns c = let z : c.loop-i.i ≡ c.args.m = omega arith in record { counted = rw z at c.loop-i.invariant.4; written = (rw z at c.loop-i.invariant.2) ∙ each_write (pruned_at c.args.rule c.args.k.0 c.args.c.now c.args.errors.now c.args.t) c.args.m _ (search rules) }
