@@ -1,5 +1,4 @@
 -- Residuals, over rows of term values. Definitions only.
-use Rattle.std.proofs.Common.{ap}
 use Rattle.std.specs.Prelude.{List, map, ℕ, Float}
 use Rattle.std.specs.Float.{binary64}
 use Rattle.std.specs.Float.Ieee.{sub}

@@ -1,5 +1,5 @@
 -- When a coefficient count is solved, its score and its pivot tests. Definitions only.
-use Rattle.std.specs.Prelude.{Bool, cond, ◌&&◌, List, ℕ, ◌+◌, min, T, eqb, length, Float}
+use Rattle.std.specs.Prelude.{Bool, cond, ◌&&◌, List, ℕ, ◌+◌, min, eqb, length, Float}
 use Rattle.loops.specs.Fold.{all_of}
 use Rattle.value.specs.Finite.{finite}
 use Rattle.value.specs.Numbers.{zero_f}

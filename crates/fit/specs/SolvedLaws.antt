@@ -1,5 +1,5 @@
 -- Laws of Solved.antt.
-use Rattle.std.specs.Prelude.{◌≡◌, true, false, cond, List, map, ℕ, length, Float}
+use Rattle.std.specs.Prelude.{◌≡◌, true, false, List, map, ℕ, length, Float}
 use Rattle.value.specs.Absolute.{abs_f}
 use Rattle.value.specs.Numbers.{zero_f}
 use Rattle.value.specs.Total.{total_f}

@@ -1,0 +1,18 @@
+-- `fit::sizes` meets its contract.
+use mathlib.Core.Path.{◌≡◌}
+use Prim.Native.Nat.{◌-◌, ◌≤◌}
+use lib.ListN.{length}
+use Rattle.loops.specs.Fold.{all_of}
+use Rattle.loops.specs.Places.{each}
+use Rattle.value.specs.Finite.{finite}
+use Rattle.value.specs.Absolute.{abs_f}
+use Rattle.monomial.specs.Rows.{Row, row_at, rows_at}
+use Rattle.fit.specs.Residuals.{residual}
+use Rattle.fit.proofs.sizes.Given as goal
+
+abbrev pub invariant-loop-i : goal.invariant-loop-i
+invariant-loop-i l = (l.i ≤ l.n) × (length l.scratch ≡ length l.initial.scratch) × (l.scratch ≡ each (λ t _. abs_f (residual l.k.0 l.c (row_at l.basis l.xs l.zs l.ys t))) l.i l.initial.scratch)
+    × (l.all ≡ all_of (λ (r : Row). finite (residual l.k.0 l.c r)) (rows_at l.basis l.i l.xs l.zs l.ys))
+
+abbrev pub decreases-loop-i : goal.decreases-loop-i
+decreases-loop-i l = l.n - l.i
