@@ -17,8 +17,7 @@ ONE_IN = [5, 10, 20, 50, 100, 1000]
 HEAD = '''-- Made by `python3 tools/area_partitions.py`, not by hand. The partitions that show the 180 entries by area, one for each number of degrees of freedom from 1
 -- to 30, with M = 1000000000000. Each pair is a half width g and a number of pieces. The first 18 pairs go, for each of the six entries, in two pairs to half a
 -- place below it and in one to half a place above it; the others go on towards M. `AreaCheck` computes with them; nothing need be believed of them. Definitions only.
-use mathlib.Core.List.{List, [], _∷_}
-use Prim.Native.Nat.{ℕ}
+use Rattle.std.specs.Prelude.{List, [], ◌∷◌, ℕ}
 
 unfoldable pub partitions : List (List (ℕ × ℕ))
 partitions =

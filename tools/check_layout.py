@@ -15,7 +15,7 @@ import sys
 from itertools import takewhile, zip_longest
 from pathlib import Path
 
-KIT = {'check', 'libc', 'io', 'os', 'bytes'}
+KIT = {'check', 'io'}
 LONGEST = 300
 CRATES = Path('crates')
 DESIGN = Path('docs/DESIGN.md')
@@ -38,6 +38,7 @@ def listed_crates():
         if not line:
             continue
         name, _, deps = line.partition(':')
+        name = name.removesuffix(' staticlib')
         for dep in deps.split():
             if dep not in crates and dep not in KIT:
                 wrong.append(f'crates.txt:{number}: {name} stands before {dep}, on which it rests, or there is no {dep}')
@@ -49,12 +50,12 @@ def code_of(crate):
     return '\n'.join(without_comments(f) for f in files(crate, ['src']))
 
 
-# The libraries that a crate names: `NAME::` in its code, where no module of its own has that name, and `Rattle·NAME` in contracts, definitions and
+# The libraries that a crate names: `NAME::` in its code, where no module of its own has that name, and `Rattle.NAME` in contracts, definitions and
 # proofs.
 def named_by(crate, libraries):
     code = code_of(crate)
     paths = set(re.findall(r'(?<![\w:])(\w+)::', code)) - set(re.findall(r'\bmod (\w+);', code))
-    logic = {name for f in files(crate, ['src', 'specs', 'proofs']) for name in re.findall(r'Rattle·(\w+)', without_comments(f))}
+    logic = {name for f in files(crate, ['src', 'specs', 'proofs']) for name in re.findall(r'\bRattle\.(\w+)', without_comments(f))}
     return (paths & libraries | logic) - {crate, 'std'}
 
 
@@ -147,7 +148,7 @@ def check_files(crates):
     for crate in crates:
         for path in files(crate, ['src']):
             for number, line in enumerate(path.read_text(encoding='utf-8').splitlines(), 1):
-                if '⌜' in line and len(line) > LONGEST:
+                if re.match(r'\s*(?:requires|ensures)\b', line) and len(line) > LONGEST:
                     wrong.append(f'{path}:{number}: a contract line of {len(line)} characters, where {LONGEST} is the most')
         for path in files(crate, ['specs', 'proofs']):
             if 'Assumes nothing.' in path.read_text(encoding='utf-8'):

@@ -24,8 +24,8 @@ def list_of_specs(name):
 
 def z_scores_of_specs():
     text = without_comments(open(SCORES, encoding='utf-8').read(), '--')
-    numbers = list_of_specs('zThousandths')
-    return {name: numbers[int(col)] for name, col in re.findall(r'^zScore (P\d+) = zAt (\d+)$', text, re.M)}
+    numbers = list_of_specs('z_thousandths')
+    return {name: numbers[int(col)] for name, col in re.findall(r'^z_score (P\d+) = z_at (\d+)$', text, re.M)}
 
 
 def entries_of_rust(text):

@@ -2,7 +2,7 @@
 """The words of the refusals stand once, in include/refusals.txt: a line for each, NUMBER<TAB>words, in the checking order, 255 last. This writes them into the
 header's table; with --check it writes nothing, and fails where header and file differ. Run in the repository's root.
 
-The file is judged too: its numbers must be those of `checkingOrder` (crates/refusal/specs/Refusals.antt), in that order, which every call is proved to keep.
+The file is judged too: its numbers must be those of `checking_order` (crates/refusal/specs/Refusals.antt), in that order, which every call is proved to keep.
 A line of the table that begins with no number is a note: it is the header's own and stays behind the refusal that it stands behind."""
 import re
 import sys
@@ -37,9 +37,9 @@ def read_words():
 
 
 def proved_order():
-    listed = re.search(r'^checkingOrder = ([0-9 ∷]*) ∷ \[\]$', ORDER.read_text(encoding='utf-8'), re.M)
+    listed = re.search(r'^checking_order = ([0-9 ∷]*) ∷ \[\]$', ORDER.read_text(encoding='utf-8'), re.M)
     if not listed:
-        fail(f'{ORDER} has no checkingOrder')
+        fail(f'{ORDER} has no checking_order')
     return [int(number) for number in listed[1].split(' ∷ ')]
 
 
