@@ -1,5 +1,6 @@
 // The settings of a report, and the numbers by which records and the C interface name their cases. The last case takes every other number.
 #![tactic(auto)]
+
 ghost use Rattle.std.specs.Prelude.{◌≡◌, get_or};
 ghost use Rattle.value.specs.Numbers.{zero_f};
 ghost use Rattle.settings.specs.Numbers.{bound_of, criterion_of, confidence_of, tolerance_of, pruning_of, settings_of, settings_in};
