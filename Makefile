@@ -1,5 +1,5 @@
 # make                builds target/lib/libstakebook.a and libstakebook.so from the proved archive target/staticlib/libcapi.a. If that is not there,
-#                     `rt staticlib capi` makes it, which proves the crates below it: minutes the first time
+#                     `tools/build.sh capi` makes it, which proves the crates below it: minutes the first time
 # make install        PREFIX=/usr/local DESTDIR=: libraries, header, pkg-config file, manual pages, and those of the programs that are there
 # make deb            target/stakebook_VERSION_ARCHITECTURE.deb, with all programs
 # make check-install  tools/check_install.sh: all of it, in folders of its own
@@ -41,7 +41,7 @@ all: $(LIB)/libstakebook.a $(LIB)/libstakebook.so $(MAN1) $(MAN3)
 
 # no prerequisites: it is made where it is missing, and is otherwise taken as it stands
 $(CAPI):
-	rt staticlib capi
+	tools/build.sh capi
 
 # ---- the library
 

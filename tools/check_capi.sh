@@ -3,7 +3,7 @@
 # sample, a window, a replay, the calls of two columns, a book carried over from them, the stakes of a season), and the Rust wrapper's tests.
 set -euo pipefail
 cd "$(dirname "$0")/.."
-rt staticlib capi | tail -n 1
+tools/build.sh capi | tail -n 1
 
 # the judge still prints the committed answers, and the C examples print them too
 make --silent --always-make -C examples/c

@@ -2,7 +2,7 @@
 # What `make`, `make install` and `make deb` make, in folders of its own: exported symbols beside the header's functions; consumers in C and C++ that are built
 # by pkg-config alone in an empty folder, shared and static, and print what the documents and the judge have; versions; manual pages; the Debian package
 # installed into a root of its own; and a second build in another folder, whose bytes are the same. It needs the proved archive and programs, which
-# `rt staticlib capi` and `rt check stakebook` make.
+# `tools/build.sh` makes.
 set -euo pipefail
 cd "$(dirname "$0")/.."
 export LC_ALL=C

@@ -1,5 +1,5 @@
 #!/usr/bin/env python3
-"""Runs the proved program target/bin/stakebook, which `rt check stakebook` builds: on frames of both versions, beside the judge's listing of them, and where
+"""Runs the proved program target/bin/stakebook, which `tools/build.sh stakebook` puts there: on frames of both versions, beside the judge's listing of them, and where
 its input can't be read or its output can't be written. That is said on standard error in one line, and nothing is where nothing went wrong. The losses of each
 listing are added up by tools/add_losses.py, which must find a listing that was changed. Run in the repository's root."""
 import math

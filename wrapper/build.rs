@@ -1,4 +1,4 @@
-//! Links libcapi.a, which `rt staticlib capi` writes to target/staticlib; another folder is named by
+//! Links libcapi.a, which `tools/build.sh capi` writes to target/staticlib; another folder is named by
 //! the variable STAKEBOOK_LIB_DIR.
 
 use std::path::PathBuf;
@@ -12,7 +12,7 @@ fn main() {
     let library = folder.join("libcapi.a");
     println!("cargo:rerun-if-changed={}", library.display());
     if !library.exists() {
-        eprintln!("{} is missing: `rt staticlib capi` makes it", library.display());
+        eprintln!("{} is missing: `tools/build.sh capi` makes it", library.display());
         std::process::exit(1);
     }
     println!("cargo:rustc-link-search=native={}", folder.display());
