@@ -1,6 +1,5 @@
 -- Laws of Bands.antt.
-use Rattle.std.specs.Prelude.{◌≡◌, refl, ℕ, zero, suc, Float}
-use Rattle.std.proofs.Common.{sym}
+use Rattle.std.specs.Prelude.{ℕ, zero, suc, Float}
 use mathlib.Core.List.{List, [], ◌∷◌, Memᴰ}
 use Rattle.statistics.specs.declared.Confidence.{Confidence}
 use Rattle.statistics.specs.declared.Tolerance.{Tolerance}

@@ -1,5 +1,5 @@
 -- The band of an asked degree at x and z: what it answers and writes, from rows and sums, of a curve and of a surface. Definitions only.
-use Rattle.std.specs.Prelude.{◌≡◌, List, [], ◌∷◌, ℕ, Float}
+use Rattle.std.specs.Prelude.{◌≡◌, List, [], ℕ, Float}
 use Rattle.statistics.specs.Scores.{z_score}
 use Rattle.statistics.specs.Variances.{stddev_and_mean}
 use Rattle.statistics.specs.declared.Confidence.{Confidence}

@@ -1,5 +1,5 @@
 -- The fit of an asked degree: what it answers and writes, from rows and sums, of a curve and of a surface. Definitions only.
-use Rattle.std.specs.Prelude.{◌≡◌, cond, List, [], ◌∷◌, ℕ, take, Float}
+use Rattle.std.specs.Prelude.{◌≡◌, cond, List, [], ℕ, take, Float}
 use Rattle.basis.specs.Counts.{count_of}
 use Rattle.basis.specs.declared.Basis.{Basis}
 use Rattle.monomial.specs.Rows.{Row}
