@@ -7,8 +7,7 @@ each for one of its kind, with the same calls in the same order: then the code a
 tools/twins/CRATE/NAME.edit in the same format, which may change proofs/ too, or one of comments alone, which say why there is no twin.
 
 Without words it checks just that, in a moment. `--run` has the prover try every twin (a minute each), `--run CRATE` or `--run CRATE/NAME` some.
-`--logs` reads what the prover said of the edits, in target/must-fail after `rt must-fail` or `rt ci`: a proof that names a field or a need which is
-no longer there did not fit the shape, in place or not."""
+`--said FILE` reads what `rt must-fail` or `rt ci` printed: a proof that names what an edit took away did not fit the shape, in place or not."""
 import re
 import shutil
 import subprocess
@@ -23,7 +22,7 @@ TOKEN = re.compile(r'\d[\w]*(?:\.\d+(?:e-?\d+)?)?|[^\W\d]\w*(?:(?:::|\.)[^\W\d]\
 # words of the language; a test of `true` or `false` is not even made
 WORDS = {'as', 'const', 'else', 'false', 'for', 'if', 'in', 'let', 'match', 'mut', 'return', 'true', 'while'}
 KINDS = [{'<', '<=', '>', '>=', '==', '!=', '≤'}, {'+', '-', '*', '/'}, {'&', '|'}]
-MISFITS = ['has no field', 'has no `Need-']
+MISFIT = 'only because a proof file names what the edit took away'
 wrong = []
 
 
@@ -86,14 +85,10 @@ def check():
     return f'{len(edits)} edits: {len(standing)} change in place, {len(twins) - len(none)} have a twin, {len(none)} say why not', twins
 
 
-# A copy of the crates with what was proved here, and the twins in the place of the edits.
+# A copy of the crates, and the twins in the place of the edits. A check there begins with what one here kept.
 def copy_to(folder, chosen):
-    shutil.copytree(CRATES, folder / 'crates', ignore=shutil.ignore_patterns('must-fail'))
+    shutil.copytree(CRATES, folder / 'crates', ignore=shutil.ignore_patterns('must-fail', 'out'))
     shutil.copy('crates.txt', folder)
-    (folder / 'target').mkdir()
-    for part in Path('target').iterdir():
-        if part.name != 'must-fail':
-            (folder / 'target' / part.name).symlink_to(part.absolute())
     for path in chosen:
         to = folder / 'crates' / path.parent.name / 'must-fail'
         to.mkdir(exist_ok=True)
@@ -107,29 +102,26 @@ def run(twins, wanted):
     with tempfile.TemporaryDirectory() as folder:
         copy_to(Path(folder), chosen)
         said = subprocess.run(['rt', 'must-fail', *crates], cwd=folder, stdout=subprocess.PIPE, stderr=subprocess.STDOUT, encoding='utf-8', check=False).stdout
-        accepted = set(re.findall(r'^rt: must-fail (\S+): NOT REFUSED', said, re.M))
+        told = dict(re.findall(r'^rt: must-fail (\S+)\.edit: (.*)$', said, re.M))
         for path in chosen:
-            log = Path(folder, 'target/must-fail', label(path), '.log')
-            if label(path) not in accepted:
-                wrong.append(f'{path}: not accepted')
-                wrong.extend(re.findall(r'^.*\berror\b.*$', log.read_text(encoding='utf-8'), re.M)[:3] if log.is_file() else said.splitlines()[-3:])
-    return f'{len(accepted)} accepted'
+            what = told.get(label(path), said[-300:])
+            if not what.startswith('NOT REFUSED'):
+                wrong.append(f'{path}: not accepted: {what}')
+    return f'{len(chosen)} accepted'
 
 
-def read_logs():
-    logs = sorted(path for path in Path('target/must-fail').glob('*/*/.log') if (CRATES / path.parts[2] / 'must-fail' / f'{path.parts[3]}.edit').is_file())
-    for path in logs:
-        text = path.read_text(encoding='utf-8')
-        wrong.extend(f'{path}: the proof did not fit the shape: {said}' for said in MISFITS if said in text)
-    return f'{len(logs)} logs: the proofs fitted the shape'
+def read_said(path):
+    told = re.findall(r'^rt: must-fail (\S+)\.edit: (.*)$', Path(path).read_text(encoding='utf-8'), re.M)
+    wrong.extend(f'{name}: the proof did not fit the shape' for name, what in told if MISFIT in what)
+    return f'{len(told)} edits: the proofs fitted the shape'
 
 
 def main():
     said, twins = check()
     if not wrong and sys.argv[1:2] == ['--run']:
         said = run(twins, sys.argv[2:])
-    elif not wrong and sys.argv[1:] == ['--logs']:
-        said = read_logs()
+    elif not wrong and sys.argv[1:2] == ['--said'] and len(sys.argv) == 3:
+        said = read_said(sys.argv[2])
     for line in wrong:
         print('twins:', line)
     if not wrong:
