@@ -13,7 +13,6 @@ use Rattle.value.specs.Total.{total_f}
 use Rattle.choice.specs.declared.Scored.{Scored}
 use Rattle.folds.specs.Folds.{solved_of}
 use Rattle.folds.specs.Tallies.{plus, more, Tallied}
-use Rattle.statistics.specs.Counting.{count}
 
 -- one fold more
 solved_snoc : (l : List Scored) (s : Scored) → solved_of (l ++ (s ∷ [])) ≡ solved_of l ++ solved_of (s ∷ [])

@@ -1,5 +1,6 @@
 // k-fold cross-validation: polyfit's `new_kfold_cross_validated`.
 #![tactic(auto)]
+
 ghost use Rattle.std.specs.Prelude.{◌≡◌, ◌+◌, ◌<◌, ◌≤◌, length, drop, slice_index, slice_index_or};
 ghost use Rattle.std.specs.Float.{nan};
 ghost use Rattle.basis.specs.Sizes.{highest_degree, max_terms, sum_places};
@@ -149,7 +150,7 @@ fn add_fold(
 )
     requires n_in_bounds { (n ≤ length xs.now) × (n ≤ length ys.now) × (n ≤ length scratch.old) × (f < folds) × (b ≤ max_terms) }
     requires same_corner { SameCorner b before (sums_of (weighted_rows_at Curve (start_of n folds f) xs.now xs.now ys.now ws.now)) }
-    requires tallied_2 { Tallied (degree_scored criterion (weighted_rows_at Curve n xs.now xs.now ys.now ws.now) folds) f b totals.old counts.old }
+    requires tallied_before { Tallied (degree_scored criterion (weighted_rows_at Curve n xs.now xs.now ys.now ws.now) folds) f b totals.old counts.old }
     ensures tallied { Tallied (degree_scored criterion (weighted_rows_at Curve n xs.now xs.now ys.now ws.now) folds) (f + 1) b totals.new counts.new }
     ensures within { Within n scratch.old scratch.new }
 {
