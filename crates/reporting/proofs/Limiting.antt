@@ -2,7 +2,6 @@
 use mathlib.Core.Path.{◌≡◌, refl, sym, ap, ◌∙◌}
 use mathlib.Core.List.{List, ◌++◌}
 use Prim.Native.Nat.{ℕ, ◌≤◌, ◌<◌}
-use native.Mathlib.Omega.{arith}
 use borrow.Author.Tests.{lt-ltb}
 use lib.ListN.{drop}
 use lib.Ieee.{Float}
@@ -24,7 +23,7 @@ use Rattle.reporting.specs.Chosen.{chosen_refusal, Chooses}
 use Rattle.reporting.specs.ChosenLaws.{last_solved}
 use Rattle.reporting.specs.Limited.{limited_of, DoesWithin}
 use Rattle.reporting.specs.LimitedLaws.{within_limit}
-use Rattle.reporting.specs.Outputs.{Outputs, over_all}
+use Rattle.reporting.specs.Outputs.{Outputs}
 use Rattle.reporting.specs.Reports.{Does, refused_late, written_by, report_of}
 use Rattle.reporting.proofs.Reporting.{late_refused, chosen_whole, used_scratch, written_scratch}
 

@@ -18,7 +18,7 @@ use Rattle.settings.specs.declared.Settings.{Settings}
 use Rattle.reporting.specs.Chosen.{chosen_refusal}
 use Rattle.reporting.specs.ChosenLaws.{of_late, of_told}
 use Rattle.reporting.specs.Outputs.{Outputs, over_all}
-use Rattle.reporting.specs.Reports.{ReportOut, refused_late, written_by, report_of}
+use Rattle.reporting.specs.Reports.{refused_late, written_by, report_of}
 
 module _ (basis : Basis) (n : ℕ) (settings : Settings) (rows : List Row) (sums : List Float) (solved : ℕ) where
   -- a number that is not 0 is what the report is refused by

@@ -1,5 +1,5 @@
 -- Laws of a report within a limit: no report makes more than 256 pivot tests, within such a limit it is the report, and no report past the limit is refused by 16.
-use Rattle.std.specs.Prelude.{◌≡◌, refl, Bool, true, false, cond, List, map, Float}
+use Rattle.std.specs.Prelude.{◌≡◌, refl, Bool, true, false, cond, List, Float}
 use Rattle.std.proofs.Math.Path.{ap}
 use Rattle.std.proofs.Common.{◌∙◌, mul-le-mul_right, le-ltb}
 use Prim.Native.Nat.{ℕ, zero, suc, ◌+◌, ◌*◌, ◌≤◌, ◌<◌}

@@ -1,6 +1,7 @@
 // A report over rows of any basis, of a curve or of a surface: it chooses a degree, measures it, and writes coefficients, errors, pruning bytes, bands and
 // outlier bytes.
 #![tactic(auto)]
+
 mod refusals;
 
 ghost use Rattle.std.specs.Prelude.{◌+◌, ◌≤◌, length};
@@ -127,7 +128,7 @@ pub fn write(
     outliers: &mut [u8],
 ) -> ReportAnswer
     requires n_in_bounds { (n ≤ length xs.now) × (n ≤ length zs.now) × (n ≤ length ys.now) × (degree.0 ≤ highest_degree) × (count_of basis degree.0 ≤ n) × (count_of basis degree.0 ≤ max_terms) }
-    requires n_in_bounds_2 { (n ≤ length scratch.old) × (term_places basis ≤ length coefficients.old) × (term_places basis ≤ length errors.old) × (term_places basis ≤ length pruned.old) × (n ≤ length lower.old) × (n ≤ length upper.old) × (n ≤ length outliers.old) }
+    requires outputs_fit { (n ≤ length scratch.old) × (term_places basis ≤ length coefficients.old) × (term_places basis ≤ length errors.old) × (term_places basis ≤ length pruned.old) × (n ≤ length lower.old) × (n ≤ length upper.old) × (n ≤ length outliers.old) }
     ensures { Does (written_by basis n settings (rows_at basis n xs.now zs.now ys.now) degree.0 solved c v) result (outputs scratch coefficients errors pruned lower upper outliers) }
 {
     let places = measure::term_places(basis);
@@ -175,7 +176,7 @@ pub fn report_rows(
     outliers: &mut [u8],
 ) -> Counted
     requires n_in_bounds { (n ≤ length xs.now) × (n ≤ length zs.now) × (n ≤ length ys.now) × (sum_places ≤ length sums.now) × (last.0 ≤ highest_degree) × (count_of basis last.0 ≤ n) × (count_of basis last.0 ≤ max_terms) }
-    requires n_in_bounds_2 { (n ≤ length scratch.old) × (term_places basis ≤ length coefficients.old) × (term_places basis ≤ length errors.old) × (term_places basis ≤ length pruned.old) × (n ≤ length lower.old) × (n ≤ length upper.old) × (n ≤ length outliers.old) }
+    requires outputs_fit { (n ≤ length scratch.old) × (term_places basis ≤ length coefficients.old) × (term_places basis ≤ length errors.old) × (term_places basis ≤ length pruned.old) × (n ≤ length lower.old) × (n ≤ length upper.old) × (n ≤ length outliers.old) }
     ensures { DoesWithin (limited_up_to basis n settings limit last.0 (rows_at basis n xs.now zs.now ys.now) sums.now) result (outputs scratch coefficients errors pruned lower upper outliers) }
 {
     let criterion = settings.criterion;
