@@ -1,6 +1,7 @@
 // A season book of 32 stakes in one lent memory: each memory that is lent whole is cut into 32 equal parts, rounded down, in stake order, and the rest at the
 // end is nobody's. Where a stake's part lies, and the tests that a season has of its own.
 #![tactic(auto)]
+
 ghost use Rattle.std.specs.Prelude.{◌≡◌, ◌<◌};
 ghost use Rattle.lent.specs.Slices.{before};
 ghost use Rattle.stakes.specs.Parts.{stakes, part_of, Cut};
