@@ -4,7 +4,6 @@ use mathlib.Core.List.{List}
 use Prim.Native.Nat.{ℕ, zero, suc}
 use lib.ListN.{length, take}
 use lib.Ieee.{Float}
-use Rattle.basis.specs.Counts.{count_of}
 use Rattle.basis.specs.declared.Basis.TheVariants.{Curve}
 use Rattle.samples.specs.Samples.{Sample}
 use Rattle.samples.specs.Columns.{samples_of, Columns, lengths}

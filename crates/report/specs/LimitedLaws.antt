@@ -12,7 +12,7 @@ use Rattle.settings.specs.declared.Settings.{Settings}
 use Rattle.reporting.specs.declared.Places.{Places}
 use Rattle.reporting.specs.Limited.{Limited, limited_early}
 use Rattle.reporting.specs.LimitedLaws.{tests_within, within_limit}
-use Rattle.reporting.specs.Reports.{ReportOut, refused_early}
+use Rattle.reporting.specs.Reports.{refused_early}
 use Rattle.report.specs.Refusals.{report_refusal}
 use Rattle.report.specs.RefusalLaws.{report_room}
 use Rattle.report.specs.Reports.{report_choice, report_past, report_on}

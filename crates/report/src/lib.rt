@@ -1,6 +1,7 @@
 // The report of the book: the degrees of its bound, from its columns and sums. It is promised, for every count, length and content, to answer and to leave
 // what document 01 says, and within a limit of pivot tests what document 02 says.
 #![tactic(auto)]
+
 mod refusals;
 
 ghost use Rattle.samples.specs.Columns.{columns_of};
