@@ -1,5 +1,5 @@
 -- Document 01's single fit and validation: what they answer and write, from samples, sums and lengths. Definitions only.
-use Rattle.std.specs.Prelude.{List, [], ◌∷◌, ℕ, length, take, Float}
+use Rattle.std.specs.Prelude.{List, [], ℕ, length, take, Float}
 use Rattle.basis.specs.Sizes.{sum_places}
 use Rattle.basis.specs.declared.OptionDegree.{OptionDegree}
 use Rattle.basis.specs.declared.OptionDegree.TheVariants.{Some, None}

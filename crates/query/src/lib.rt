@@ -1,6 +1,7 @@
 // The calls that read a book, but for the report. Each is promised, for every count, length and content, to answer and to leave what document 01
 // says.
 #![tactic(auto)]
+
 mod refusals;
 
 ghost use Rattle.samples.specs.Columns.{columns_of};
