@@ -1,18 +1,17 @@
 -- A surface's report within a limit that no report's pivot tests pass is the report.
 use Rattle.std.specs.Prelude.{◌≡◌, refl, List, ℕ, zero, suc, ◌≤◌, ◌<◌, Float}
-use Rattle.std.proofs.Common.{ap, ◌∙◌, arith}
+use Rattle.std.proofs.Common.{ap, arith}
 use Rattle.surface.specs.RefusalLaws.{total_terms, surface_report_room}
 use Rattle.basis.specs.declared.Basis.TheVariants.{Surface}
 use Rattle.statistics.specs.Degrees.{max_degree}
 use Rattle.monomial.specs.Rows.{Row}
 use Rattle.fit.specs.Chosen.{choice_of}
-use Rattle.fit.specs.declared.Choice.{Choice}
 use Rattle.refusal.specs.Refusals.{settle}
 use Rattle.settings.specs.declared.Settings.{Settings}
 use Rattle.reporting.specs.declared.Places.{Places}
 use Rattle.reporting.specs.Limited.{Limited, limited_early}
 use Rattle.reporting.specs.LimitedLaws.{tests_within, within_limit}
-use Rattle.reporting.specs.Reports.{ReportOut, refused_early}
+use Rattle.reporting.specs.Reports.{refused_early}
 use Rattle.surface.specs.Points.{Point, rows_of_points, surface_sums}
 use Rattle.surface.specs.Refusals.{highest_total, surface_report_refusal}
 use Rattle.surface.specs.Surfaces.{last_tried, surface_choice, surface_report_past, surface_report_on}

@@ -1,12 +1,12 @@
 -- The 15 terms are every xᵃ × zᵇ with a + b at most 4, each once, ordered by a + b and then by falling a.
-use Rattle.std.specs.Prelude.{◌≡◌, refl, Bool, true, false, not, ◌||◌, ℕ, ◌+◌, ◌≤◌, T, leb, length}
-use Rattle.std.proofs.Common.{sym, arith, le-leb}
+use Rattle.std.specs.Prelude.{◌≡◌, refl, Bool, true, not, ◌||◌, ℕ, ◌+◌, ◌≤◌, T, leb, length}
+use Rattle.std.proofs.Common.{arith, le-leb}
 use Rattle.loops.specs.Fold.{fold, all_of}
 use Rattle.loops.specs.Places.{table}
 use Rattle.statistics.specs.Table.{all_below}
 use Rattle.statistics.specs.TableLaws.{all_cells}
 use Rattle.monomial.specs.Terms.{Powers, surface_powers}
-use Rattle.surface.specs.Order.{stands_in, is_before, all_after, in_order}
+use Rattle.surface.specs.Order.{stands_in, all_after, in_order}
 
 pub fifteen_terms : length surface_powers ≡ 15
 unfolding surface_powers table

@@ -1,5 +1,5 @@
 -- Laws of Points.antt.
-use Rattle.std.specs.Prelude.{◌≡◌, refl, ℕ, ◌≤◌, length, take, Float}
+use Rattle.std.specs.Prelude.{◌≡◌, ℕ, ◌≤◌, length, take, Float}
 use Rattle.std.proofs.Math.Path.{sym, ap}
 use Rattle.std.proofs.Common.{◌∙◌}
 use mathlib.Core.List.{List, [], map}

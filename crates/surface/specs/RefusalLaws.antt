@@ -1,14 +1,14 @@
 -- What a surface's calls may refuse by of 1 to 9, in the checking order, and what they may count on past them.
 use Rattle.std.specs.Prelude.{◌≡◌, true, false, ◌&&◌, ℕ, ◌≤◌, ◌<◌, ltb, Float}
 use Rattle.std.proofs.Math.Path.{refl}
-use Rattle.std.proofs.Common.{sym, ap, ◌∙◌, arith}
-use mathlib.Core.List.{List, [], ◌∷◌, Memᴰ, map}
+use Rattle.std.proofs.Common.{ap, ◌∙◌, arith}
+use mathlib.Core.List.{List, [], ◌∷◌, Memᴰ}
 use borrow.Author.Tests.{ltb-false, eqb-false}
 use Rattle.loops.specs.Cases.{or_false}
 use Rattle.loops.specs.FoldLaws.{fold_map}
 use Rattle.loops.specs.PlaceLaws.{map_table}
 use Rattle.basis.specs.Counts.{count_of}
-use Rattle.basis.specs.CountLaws.{count_mono, surface_counts_lem}
+use Rattle.basis.specs.CountLaws.{count_mono}
 use Rattle.basis.specs.declared.Basis.TheVariants.{Surface}
 use Rattle.statistics.specs.Degrees.{max_degree}
 use Rattle.statistics.specs.declared.Confidence.{Confidence}

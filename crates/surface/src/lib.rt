@@ -1,6 +1,7 @@
 // Document 02's surface: fit, report and band of samples with two coordinates, x and z, and y, read from lent columns. Each is promised, for every count,
 // length and content, to answer and to leave what the document says. What fits, chooses, measures and writes is the curve's own code.
 #![tactic(auto)]
+
 mod refusals;
 
 ghost use Rattle.std.specs.Prelude.{◌≡◌, cond, [], ◌≤◌, length};

@@ -1,0 +1,6 @@
+use Rattle.surface.specs.Points.{point_columns}
+use Rattle.surface.proofs.Surfacing.{unlimited}
+use Rattle.surface.proofs.surface_report.Goals as goal
+
+pub returns : goal.returns
+returns c = unlimited c.args.count c.args.settings (point_columns c.args.xs.now c.args.zs.now c.args.ys.now) c.surface_report_within-done.result _ c.surface_report_within-done.ensures
