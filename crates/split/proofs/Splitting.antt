@@ -1,7 +1,7 @@
 -- What a split comes to: refused by 1 to 9, refused by 16 or 11, or written.
-use mathlib.Core.Path.{◌≡◌, refl, sym, ap, subst, ◌∙◌}
-use mathlib.Core.List.{List, [], ◌∷◌, ◌++◌}
-use Prim.Native.Nat.{ℕ, zero, suc, ◌+◌, ◌≤◌}
+use mathlib.Core.Path.{◌≡◌, refl, sym, subst, ◌∙◌}
+use mathlib.Core.List.{List, ◌++◌}
+use Prim.Native.Nat.{ℕ, zero, suc, ◌≤◌}
 use native.Mathlib.Omega.{arith}
 use borrow.Author.Tests.{not-false}
 use lib.ListN.{length, take, drop, length-replicate}
@@ -11,7 +11,6 @@ use Rattle.basis.specs.Counts.{count_of}
 use Rattle.basis.specs.CountLaws.{curve_count}
 use Rattle.basis.specs.declared.Basis.TheVariants.{Curve}
 use Rattle.basis.specs.declared.Degree.{Degree}
-use Rattle.samples.specs.Samples.{Sample}
 use Rattle.samples.specs.Columns.{Columns, samples_of, lengths}
 use Rattle.monomial.specs.Rows.{WeightedRow, weighted_rows}
 use Rattle.monomial.specs.Sums.{sums_of}

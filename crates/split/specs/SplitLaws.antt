@@ -1,11 +1,10 @@
 -- Document 02's words hold of what a split answers past refusals 1 to 9, and the numbers that it may answer.
 use Rattle.std.proofs.Math.Path.{◌≡◌, ap}
-use Rattle.std.specs.Prelude.{refl, Bool, true, ◌⊎◌, ℕ, ◌+◌, ◌-◌, ◌≤◌, ◌<◌, ltb, length, Float}
+use Rattle.std.specs.Prelude.{refl, Bool, true, ◌⊎◌, ℕ, ◌-◌, ◌≤◌, ◌<◌, ltb, length, Float}
 use Rattle.std.proofs.Common.{sym, ◌∙◌, inl, inr, arith, ltb-true, ltb-false}
 use Rattle.std.proofs.Math.Bool.{false}
 use mathlib.Core.List.Memᴰ
 use mathlib.Core.List.{List, [], ◌∷◌, Memᴰ}
-use Rattle.std.specs.Float.Ieee.{lt, le}
 use Rattle.loops.specs.Cases.{never}
 use Rattle.basis.specs.declared.Degree.{Degree}
 use Rattle.statistics.specs.declared.DegreeBound.{DegreeBound}
@@ -21,7 +20,7 @@ use Rattle.split.specs.declared.Places.{Places}
 use Rattle.split.specs.declared.SplitAnswer.{SplitAnswer}
 use Rattle.split.specs.declared.SplitAnswer.TheVariants as answers
 use Rattle.split.specs.Search.{left_of, right_of, best_break, search_tests}
-use Rattle.split.specs.Words.{AllPassed, Answered, NoneChosen}
+use Rattle.split.specs.Words.{Answered, NoneChosen}
 use Rattle.split.specs.SearchLaws.{found_best, none_found, none_found_only}
 use Rattle.split.specs.Refusals.{split_refusal, search_refusal}
 use Rattle.split.specs.RefusalLaws.{split_numbers}

@@ -7,7 +7,7 @@ use Rattle.samples.specs.Columns.{samples_of, Columns, lengths}
 use Rattle.monomial.specs.Rows.{WeightedRow, weighted_rows}
 use Rattle.score.specs.declared.Criterion.{Criterion}
 use Rattle.refusal.specs.Refusals.{settle}
-use Rattle.lent.specs.Slices.{Contents, Slice, before, contents}
+use Rattle.lent.specs.Slices.{Contents, Slice, contents}
 use Rattle.lent.specs.Written.{over, zeros}
 use Rattle.settings.specs.declared.Settings.{Settings}
 use Rattle.split.specs.declared.Best.{Best}

@@ -1,6 +1,7 @@
 // The break of a book's list in two sides whose chosen scores total least: melt season and cold season. The call is promised, for every count, length
 // and content, to answer and to leave what document 02 says.
 #![tactic(auto)]
+
 mod refusals;
 
 ghost use Rattle.std.specs.Prelude.{◌≡◌, ◌++◌, ◌+◌, ◌≤◌, length, take, drop};
@@ -139,7 +140,7 @@ fn choose_sides(
     scratch: &mut [f64],
 ) -> Sides
     requires n_in_bounds { (n ≤ length xs.now) × (n ≤ length ys.now) × (n ≤ length scratch.old) × (b ≤ n) × (max_degree bound n ≤ highest_degree) × (n ≤ max_samples) }
-    requires sums_len { (length sums.now ≡ sum_places) × SameCorner (count_of Curve (max_degree bound n)) sums.now (sums_of (weighted_rows_at Curve b xs.now xs.now ys.now ws.now)) }
+    requires left_sums { (length sums.now ≡ sum_places) × SameCorner (count_of Curve (max_degree bound n)) sums.now (sums_of (weighted_rows_at Curve b xs.now xs.now ys.now ws.now)) }
     ensures left { result.left ≡ left_of bound criterion (weighted_rows_at Curve n xs.now xs.now ys.now ws.now) b }
     ensures right { result.right ≡ right_of bound criterion (weighted_rows_at Curve n xs.now xs.now ys.now ws.now) b }
     ensures within { Within n (before scratch) (after scratch) }
