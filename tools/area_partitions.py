@@ -34,7 +34,7 @@ def half_place(row, col):
     return 10 if row == 0 and col >= 2 else 1
 
 
-# ByArea.antt: `pieceAt`, what lies under the curve and over it from point i to point i + 2 g, where i + 2 g is below M
+# ByArea.antt: `piece_at`, what lies under the curve and over it from point i to point i + 2 g, where i + 2 g is below M
 def piece(v, i, g, M=M):
     p, j = i + g, i + 2 * g
     Pi, Pp, Pj = M * M - i * i, M * M - p * p, M * M - j * j
