@@ -1,6 +1,6 @@
 -- Laws of Losses.antt: what the losses may answer, that they answer where a report does, and that their total is the one that the chosen score is made of.
-use Rattle.std.specs.Prelude.{◌≡◌, refl, Bool, true, false, cond, ℕ, zero, suc, ◌+◌, length, Float}
-use Rattle.std.proofs.Common.{sym, ap, ◌∙◌, arith}
+use Rattle.std.specs.Prelude.{◌≡◌, refl, true, false, ℕ, zero, suc, ◌+◌, length, Float}
+use Rattle.std.proofs.Common.{ap, ◌∙◌, arith}
 use mathlib.Core.List.{List, [], ◌∷◌, Memᴰ}
 use Rattle.std.proofs.lemmas.List.{length-map}
 use Rattle.loops.specs.PlaceLaws.{table_at}
@@ -8,7 +8,7 @@ use Rattle.basis.specs.Counts.{count_of}
 use Rattle.basis.specs.declared.Basis.TheVariants.{Curve}
 use Rattle.basis.specs.declared.Degree.{Degree}
 use Rattle.basis.specs.declared.OptionDegree.{OptionDegree}
-use Rattle.basis.specs.declared.OptionDegree.TheVariants.{Some, None}
+use Rattle.basis.specs.declared.OptionDegree.TheVariants.{Some}
 use Rattle.value.specs.Total.{total_f}
 use Rattle.statistics.specs.Degrees.{max_degree}
 use Rattle.statistics.specs.Losses.{huber_const, huber_loss, losses}

@@ -1,6 +1,7 @@
 // The losses of the degree that a report chooses, sample by sample, with their total and the score that is made of it. It is promised, for every
 // count, length and content, to answer and to leave what document 02 says.
 #![tactic(auto)]
+
 mod refusals;
 
 ghost use Rattle.std.specs.Prelude.{◌≡◌, ◌++◌, ◌≤◌, length, take, drop};
