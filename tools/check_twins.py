@@ -57,7 +57,8 @@ def in_place(old, new):
 def check_twin(crate, path):
     texts = {}
     for file, old, new in pairs(path):
-        text = texts.get(file) or (CRATES / crate / file).read_text(encoding='utf-8')
+        where = CRATES / crate / file
+        text = texts.get(file) or (where.read_text(encoding='utf-8') if where.is_file() else '')
         if text.count(old) != 1:
             wrong.append(f'{path}: the old text stands {text.count(old)} times in {file}, and not once: {old}')
             return
