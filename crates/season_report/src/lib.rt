@@ -1,5 +1,6 @@
 // The report of one stake, and the season report: the stakes in order, each one's report or refusal, with the number of stakes not refused.
 #![tactic(auto)]
+
 ghost use Rattle.std.specs.Prelude.{◌≡◌, ◌≤◌};
 ghost use Rattle.samples.specs.Columns.{columns_of};
 ghost use Rattle.lent.specs.Slices.{before};
