@@ -14,18 +14,16 @@ use Rattle.loops.specs.Cases.{never}
 use Rattle.loops.specs.Fold.{fold}
 use Rattle.loops.specs.FoldLaws.{fold_append}
 use Rattle.loops.specs.LoopLaws.{last, done}
-use Rattle.loops.specs.Places.{each, table}
-use Rattle.loops.specs.PlaceLaws.{length_each, each_at, each_past, each_write, length_table, map_table, map_at}
+use Rattle.loops.specs.Places.{table}
+use Rattle.loops.specs.PlaceLaws.{length_each, each_at, each_past, each_write, length_table, map_table}
 use Rattle.basis.specs.Counts.{count_of}
 use Rattle.basis.specs.declared.Basis.TheVariants.{Curve}
 use Rattle.basis.specs.declared.Degree.{Degree}
-use Rattle.basis.specs.declared.OptionDegree.{OptionDegree}
 use Rattle.basis.specs.declared.OptionDegree.TheVariants.{Some}
 use Rattle.value.specs.Numbers.{zero_f}
 use Rattle.statistics.specs.Degrees.{max_degree}
 use Rattle.samples.specs.Samples.{Sample}
 use Rattle.monomial.specs.Rows.{Row, rows_of}
-use Rattle.score.specs.declared.Criterion.{Criterion}
 use Rattle.choice.specs.Choice.{solved_count}
 use Rattle.choice.specs.Laws.{none_below, score_some}
 use Rattle.choice.specs.declared.Scored.{Scored}

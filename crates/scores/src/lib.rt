@@ -1,6 +1,7 @@
 // Of each degree within the bound whether it is solved and its score, and what a report chooses from them. It is promised, for every count, length and
 // content, to answer and to leave what its definition says.
 #![tactic(auto)]
+
 mod refusals;
 
 ghost use Rattle.std.specs.Prelude.{◌≡◌, ◌++◌, map, ◌≤◌, length, drop};
