@@ -30,12 +30,12 @@ module _ {A B : Type 0} {R : A → B → Type 0} where
   pub pairs_take : {l : List A} {m : List B} (i : ℕ) → Pairs R l m → Pairs R (take i l) (take i m)
   pairs_take zero p = none
   pairs_take (suc i) none = none
-  pairs_take (suc i) (and r p) = and r (pairs_take i p)
+  pairs_take (suc i) (and {a = a} {l = l} r p) = and r (pairs_take {l = l} i p)
 
   pub pairs_drop : {l : List A} {m : List B} (i : ℕ) → Pairs R l m → Pairs R (drop i l) (drop i m)
   pairs_drop zero p = p
   pairs_drop (suc i) none = none
-  pairs_drop (suc i) (and r p) = pairs_drop i p
+  pairs_drop (suc i) (and {a = a} {l = l} r p) = pairs_drop {l = l} i p
 
   pub pairs_table : (f : ℕ → A) (g : ℕ → B) (n : ℕ) → ((k : ℕ) → k < n → R (f k) (g k)) → Pairs R (table f n) (table g n)
   unfolding table
@@ -63,7 +63,7 @@ module _ {A B : Type 0} {R : A → B → Type 0} where
       → {c : C} {d : D} {l : List A} {m : List B} → Q c d → Pairs R l m → Q (fold f c l) (fold g d m)
   unfolding fold
   pairs_fold Q f g h q none = q
-  pairs_fold Q f g h q (and r p) = pairs_fold Q f g h (h _ _ _ _ q r) p
+  pairs_fold Q f g h {c = c} q (and {a = a} r p) = pairs_fold Q f g h {c = f c a} (h _ _ _ _ q r) p
 
   -- a test of every element
   pub pairs_all : (f : A → Bool) (g : B → Bool) → ((a : A) (b : B) → R a b → f a ≡ g b) → {l : List A} {m : List B} → Pairs R l m → all_of f l ≡ all_of g m
