@@ -2,6 +2,7 @@
 use mathlib.Core.Path.{refl, sym, ap, ap₂, ◌∙◌}
 use mathlib.Core.Bool.{not, ◌&&◌, ◌||◌}
 use lib.Dec.{eqb}
+use native.Mathlib.Omega.{arith}
 use Rattle.refusal.specs.Laws.{first_of_lem, first_end, first_holds, first_fails}
 use Rattle.refusal.specs.RoomLaws.{room}
 use Rattle.refusal.specs.Tests.{outside}
@@ -22,7 +23,8 @@ pub outside-beside-requires : goal.outside-beside-requires
 outside-beside-requires c = (room _ _ _ (sym c.band_short.ensures ∙ c.if-band_short.false)).within.0
 
 pub outside-above-requires : goal.outside-above-requires
-outside-above-requires c = (room _ _ _ (sym c.band_short.ensures ∙ c.if-band_short.false)).within.1.0
+outside-above-requires c = let r = room _ _ _ (sym c.band_short.ensures ∙ c.if-band_short.false) in
+    omega (arith, r.within.0, r.within.1.0)
 
 pub returns : goal.returns
 unfolding surface_band_refusal
