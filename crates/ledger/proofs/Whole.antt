@@ -1,7 +1,7 @@
 -- The theorem over a list of calls: the definitions that the contracts promise, folded over any list of calls from a book just opened, agree with
 -- the plain ledger.
 use mathlib.Core.Path.{◌≡◌, refl, ap, subst, ◌∙◌}
-use mathlib.Core.List.{List, [], ◌∷◌, ◌++◌, map}
+use mathlib.Core.List.{List, [], ◌++◌, map}
 use Prim.Native.Nat.{ℕ, zero, suc, ◌≤◌}
 use native.Mathlib.Omega.{arith}
 use lib.ListN.{length, get_or, take, drop, length-map, length-append, length-drop}
