@@ -1,7 +1,7 @@
 -- What a group's call comes to: refused by 1 or 17, or the call within its group's counter, which is less what it takes.
 use mathlib.Core.Path.{◌≡◌, refl, sym, ap, subst, ◌∙◌}
 use mathlib.Core.Bool.{Bool, true, false, cond}
-use mathlib.Core.List.{List, [], ◌∷◌, ◌++◌}
+use mathlib.Core.List.{List, [], ◌++◌}
 use Prim.Native.Nat.{ℕ, zero, suc, ◌-◌, ◌≤◌, ◌<◌}
 use native.Mathlib.Omega.{arith}
 use borrow.Author.Tests.{lt-ltb, le-ltb, ltb-false}
@@ -19,14 +19,14 @@ use Rattle.reporting.specs.declared.Counted.{Counted}
 use Rattle.reporting.specs.declared.ReportAnswer.TheVariants as reports
 use Rattle.reporting.specs.Limited.{Limited, limited_of, limited_early, DoesWithin}
 use Rattle.reporting.specs.Outputs.{LentOutputs, Outputs}
-use Rattle.reporting.specs.Reports.{ReportOut, refused_early, refused_late, report_of, Does}
+use Rattle.reporting.specs.Reports.{refused_early, refused_late, report_of, Does}
 use Rattle.split.specs.declared.CountedSplit.{CountedSplit}
 use Rattle.split.specs.declared.SplitAnswer.TheVariants as splits
 use Rattle.split.specs.Splits.{SplitOut, LentSplit, split_refused, taken_of, Does as SplitDoes}
 use Rattle.allowance.specs.declared.TableAnswer.TheVariants as answers
 use Rattle.allowance.specs.Table.{started, renewed, taken_from, table_refusal, start_out, renew_out, TableIs}
 use Rattle.allowance.specs.TableLaws.{nothing_taken}
-use Rattle.allowance.specs.Charges.{Charged, charged, ReportCharged, SplitCharged}
+use Rattle.allowance.specs.Charges.{charged, ReportCharged, SplitCharged}
 
 -- ---- start and renew
 

@@ -1,23 +1,19 @@
 -- What a group's calls may refuse by before they are charged, in the checking order, and what the code's tests come to.
 use Rattle.std.proofs.Math.Path.{◌≡◌, refl}
 use Rattle.std.proofs.Common.{sym, ◌∙◌}
-use Rattle.std.specs.Prelude.{Bool, ◌||◌, ℕ, zero, suc, ◌≤◌, ◌<◌}
+use Rattle.std.specs.Prelude.{Bool, ◌||◌, ℕ, ◌≤◌, ◌<◌}
 use Rattle.std.proofs.Math.Bool.{true, false, cond}
 use mathlib.Core.List.{List, [], ◌∷◌, Memᴰ}
 use native.Mathlib.Omega.{arith}
 use borrow.Author.Tests.{ltb-false}
 use Rattle.std.proofs.Math.Dec.{ltb}
-use Rattle.loops.specs.Cases.{or_false}
 use Rattle.samples.specs.Samples.{Sample}
-use Rattle.refusal.specs.Refusals.{Refusal, by, first_of, numbers_of, InOrder, those, is_among}
+use Rattle.refusal.specs.Refusals.{Refusal, by, first_of, InOrder, those, is_among}
 use Rattle.refusal.specs.Laws.{numbered}
 use Rattle.settings.specs.declared.Settings.{Settings}
 use Rattle.reporting.specs.declared.Places.{Places}
-use Rattle.report.specs.Refusals.{report_tests}
 use Rattle.surface.specs.Points.{Point}
-use Rattle.surface.specs.Refusals.{surface_report_tests}
 use Rattle.split.specs.declared.Places.{Places as SplitPlaces}
-use Rattle.split.specs.Refusals.{split_tests}
 use Rattle.allowance.specs.Table.{table_places}
 use Rattle.allowance.specs.Refusals.{no_group, with_group, group_report_refusal, group_surface_refusal, group_split_refusal}
 

@@ -9,7 +9,7 @@ use Rattle.surface.specs.Points.{Point}
 use Rattle.surface.specs.Refusals.{surface_report_tests}
 use Rattle.split.specs.declared.Places.{Places as SplitPlaces}
 use Rattle.split.specs.Refusals.{split_tests}
-use Rattle.allowance.specs.Table.{groups, table_places}
+use Rattle.allowance.specs.Table.{table_places}
 
 -- 17: a group number above 7
 abbrev pub no_group : ℕ → Bool

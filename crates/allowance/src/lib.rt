@@ -1,6 +1,7 @@
 // The allowance of each course group. Eight groups share a table of counters; a report, a surface's report or a split of a group takes its pivot tests
 // from the group's counter. Each call is promised, for every count, length and content, to answer and to leave what document 02 says.
 #![tactic(auto)]
+
 ghost use Rattle.std.specs.Prelude.{◌≡◌, ◌||◌, [], ◌∷◌, ◌++◌, ◌≤◌, ltb, length, drop, replicate};
 ghost use Rattle.samples.specs.Columns.{columns_of};
 ghost use Rattle.refusal.specs.Refusals.{by, first_of};
