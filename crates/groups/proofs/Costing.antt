@@ -1,8 +1,8 @@
 -- A call that costs, by the ledger: when it gets 16, what is told of a report that is let through, and that work of at most the quota gets through.
-use mathlib.Core.Path.{◌≡◌, refl, sym, ap, subst, ◌∙◌}
-use mathlib.Core.Bool.{Bool, true, false, cond}
+use mathlib.Core.Path.{◌≡◌, refl, sym, ap, ◌∙◌}
+use mathlib.Core.Bool.{Bool, true, false}
 use mathlib.Core.List.{List, [], ◌∷◌, ◌++◌, map, Memᴰ}
-use Prim.Native.Nat.{ℕ, zero, suc, ◌+◌, ◌-◌, ◌≤◌, ◌<◌}
+use Prim.Native.Nat.{ℕ, zero, suc, ◌+◌, ◌≤◌, ◌<◌}
 use native.Mathlib.Omega.{arith}
 use borrow.Author.Tests.{ltb-true, ltb-false, lt-ltb, le-ltb}
 use lib.Dec.{ltb}
@@ -12,8 +12,6 @@ use Rattle.loops.specs.Fold.{fold}
 use Rattle.runs.specs.Runs.{replies, along}
 use Rattle.runs.specs.RunLaws.{afforded, replies_at_lem, length_replies}
 use Rattle.basis.specs.declared.Basis.{Basis}
-use Rattle.basis.specs.declared.OptionDegree.{OptionDegree}
-use Rattle.basis.specs.declared.OptionDegree.TheVariants.{Some, None}
 use Rattle.samples.specs.Samples.{Sample}
 use Rattle.monomial.specs.Rows.{Row, rows_of, weighted_rows}
 use Rattle.monomial.specs.Sums.{sums_of}
@@ -21,27 +19,24 @@ use Rattle.fit.specs.declared.Choice.{Choice}
 use Rattle.refusal.specs.Refusals.{settle}
 use Rattle.settings.specs.declared.Settings.{Settings}
 use Rattle.reporting.specs.declared.Places.{Places}
-use Rattle.reporting.specs.Chosen.{chosen_refusal}
 use Rattle.reporting.specs.Limited.{Limited, limited_of}
 use Rattle.reporting.specs.LimitedLaws.{within_limit, report_number_lem, chosen_not_16}
-use Rattle.reporting.specs.Reports.{ReportOut, report_number, refused_early, refused_late, report_of}
+use Rattle.reporting.specs.Reports.{ReportOut, report_number, refused_early, refused_late}
 use Rattle.report.specs.Reports.{report_choice, report_past}
 use Rattle.basis.specs.declared.Basis.TheVariants.{Curve}
 use Rattle.report.specs.Limited.{within_past}
 use Rattle.surface.specs.Limited.{surface_within_past}
-use Rattle.split.specs.Splits.{SplitOut, split_number, split_refused, split_past, taken_of}
+use Rattle.split.specs.Splits.{SplitOut, split_number, split_refused, taken_of}
 use Rattle.split.specs.SplitLaws.{over_16, only_over_16}
 use Rattle.split.specs.declared.SplitAnswer.{SplitAnswer}
 use Rattle.split.specs.declared.SplitAnswer.TheVariants as splits
 use Rattle.ledger.specs.Ledger.{Lent, lent_of}
-use Rattle.ledger.specs.ReadCalls.{report_reply}
 use Rattle.ledger.proofs.Words.{past_chosen, words_of}
-use Rattle.allowance.specs.Table.{table_places, table_refusal}
+use Rattle.allowance.specs.Table.{table_places}
 use Rattle.allowance.specs.RefusalLaws.{group_report_numbers, group_split_numbers, group_surface_numbers}
-use Rattle.allowance.specs.Refusals.{group_report_refusal, group_surface_refusal, group_split_refusal}
 use Rattle.groups.specs.Calls.{CostCall, group_reports, group_surfaces, group_splits, GroupCall, books, surfaces, costs, cost_refusal, cost_of, cost_reply, left_of}
 use Rattle.groups.specs.Ledger.{Fed, renews, GroupLedger, calls, refused_by, costing, cost_told, group_next, group_reply, group_ledger}
-use Rattle.groups.specs.Claims.{told_number, Costs, ReportLetThrough, after_calls, cost_for, ledger_of, CostedIn, AnyCost, Refilled, GetsThrough, RightAfter}
+use Rattle.groups.specs.Claims.{told_number, Costs, ReportLetThrough, after_calls, cost_for, ledger_of, AnyCost, Refilled, GetsThrough, RightAfter}
 use Rattle.groups.proofs.Tables.{long_table}
 use Rattle.groups.proofs.Ledgers.{any_table}
 
@@ -73,6 +68,7 @@ not_16 {k} m e = none m
     none (Memᴰ.tail (Memᴰ.tail (Memᴰ.tail (Memᴰ.head z)))) = omega (arith, z, e)
     none (Memᴰ.tail (Memᴰ.tail (Memᴰ.tail (Memᴰ.tail (Memᴰ.head z))))) = omega (arith, z, e)
     none (Memᴰ.tail (Memᴰ.tail (Memᴰ.tail (Memᴰ.tail (Memᴰ.tail (Memᴰ.head z)))))) = omega (arith, z, e)
+    none (Memᴰ.tail (Memᴰ.tail (Memᴰ.tail (Memᴰ.tail (Memᴰ.tail (Memᴰ.tail z)))))) = elim z [ ]
 
 module _ (group table : ℕ) (m : Lent) (counter : ℕ) (l : List Sample) where
   -- 16 of a call past 1 to 9, and no number from 1 to 9 is 16

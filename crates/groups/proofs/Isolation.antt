@@ -1,24 +1,22 @@
 -- Isolation: in the run of all calls a group gets the replies, and ends with the book and counter, of its own calls by themselves.
 use mathlib.Core.Path.{◌≡◌, refl, sym, ap, subst, ◌∙◌}
 use mathlib.Core.Bool.{Bool, true, false, cond}
-use mathlib.Core.Option.{Option, none, some}
+use mathlib.Core.Option.{none, some}
 use mathlib.Core.List.{List}
 use Prim.Native.Nat.{ℕ, ◌≤◌, ◌<◌}
 use native.Mathlib.Omega.{arith}
 use borrow.Author.Tests.{eqb-true, eqb-false, eq-eqb, ne_eqb}
 use lib.Dec.{eqb}
-use lib.ListN.{length, get_or, take}
+use lib.ListN.{length, take}
 use Rattle.loops.specs.Fold.{fold}
 use Rattle.runs.specs.Runs.{replies, only, pick}
 use Rattle.runs.specs.RunLaws.{no_call, each_equal, projected}
-use Rattle.refusal.specs.Refusals.{settle}
 use Rattle.book.specs.Calls.{State}
 use Rattle.ledger.specs.Ledger.{next, told}
-use Rattle.ledger.specs.ReadCalls.{Told}
 use Rattle.allowance.specs.Table.{groups, table_places, counter_of, quota_of, table_refusal, start_out, renew_out}
-use Rattle.groups.specs.Calls.{CostCall, GroupCall, books, surfaces, costs, GroupReply, tabled, replied, cost_reply, left_of}
+use Rattle.groups.specs.Calls.{GroupCall, books, surfaces, costs, replied, cost_reply, left_of}
 use Rattle.groups.specs.Ledger.{Fed, starts, renews, calls}
-use Rattle.groups.specs.Shared.{Shared, SharedCall, start_all, renew_all, of, put_book, charge, shared_next, shared_reply, shared, mine, OneGroup, seen_by, own_samples, own_refusal, own_cost, one_next, one_reply, one_group}
+use Rattle.groups.specs.Shared.{Shared, SharedCall, start_all, renew_all, of, put_book, shared_next, shared_reply, shared, mine, OneGroup, seen_by, own_samples, own_refusal, own_cost, one_next, one_reply, one_group}
 use Rattle.groups.specs.Claims.{Isolated}
 use Rattle.groups.proofs.Tables.{long_table, started_at, length_started, renewed_at, renewed_quota, length_renewed, charge_does, charge_length, charge_others, charge_quota, charge_counter}
 

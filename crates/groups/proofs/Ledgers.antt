@@ -21,7 +21,7 @@ use Rattle.allowance.specs.declared.TableAnswer.TheVariants as answers
 use Rattle.groups.specs.Calls.{books, surfaces, costs, replied, cost_refusal, cost_of, cost_reply, left_of}
 use Rattle.groups.specs.Ledger.{Fed, starts, renews, calls, GroupLedger, group_next, group_reply, group_ledger}
 use Rattle.groups.specs.Shared.{shared_next, mine, OneGroup, seen_by, one_next, one_reply, one_group}
-use Rattle.groups.specs.Claims.{Keeps, opened_on, ledger_of, book_call, GroupWhole, AnyTable, begun, new_ledger, AnyGroups}
+use Rattle.groups.specs.Claims.{Keeps, opened_on, ledger_of, book_call, AnyTable, begun, new_ledger, AnyGroups}
 use Rattle.groups.proofs.Tables.{long_enough, started_at, length_started}
 use Rattle.groups.proofs.Isolation.{alone}
 

@@ -1,8 +1,8 @@
 -- What a start, a renewal and a charge make of each counter and of the quota.
 use mathlib.Core.Path.{◌≡◌, refl, sym, ap, ◌∙◌}
 use mathlib.Core.Bool.{Bool, true, false, cond}
-use mathlib.Core.List.{List, [], ◌∷◌, ◌++◌}
-use Prim.Native.Nat.{ℕ, zero, suc, ◌+◌, ◌-◌, ◌≤◌, ◌<◌}
+use mathlib.Core.List.{List, [], ◌∷◌}
+use Prim.Native.Nat.{ℕ, zero, suc, ◌-◌, ◌≤◌, ◌<◌}
 use native.Mathlib.Omega.{arith}
 use borrow.Author.Tests.{ltb-false, le-ltb}
 use lib.Dec.{ltb}
@@ -12,7 +12,6 @@ use Rattle.loops.specs.Cases.{or_false}
 use Rattle.refusal.specs.Refusals.{Refusal, by, first_of, settle}
 use Rattle.refusal.specs.Laws.{first_none}
 use Rattle.refusal.specs.Tests.{needed, any_short}
-use Rattle.samples.specs.Columns.{samples_of, lengths}
 use Rattle.monomial.specs.Rows.{rows_of, weighted_rows}
 use Rattle.reporting.specs.Limited.{Limited, limited_of}
 use Rattle.reporting.specs.Reports.{refused_early, refused_late, report_of}
@@ -29,11 +28,11 @@ use Rattle.report.specs.Limited.{within_past}
 use Rattle.surface.specs.Limited.{surface_within_past}
 use Rattle.split.specs.Splits.{split_refused, split_past, taken_of}
 use Rattle.book.specs.Calls.{State}
-use Rattle.ledger.specs.ReadCalls.{Told, report_reply, split_reply}
+use Rattle.ledger.specs.ReadCalls.{report_reply, split_reply}
 use lib.Ieee.{Float}
-use Rattle.allowance.specs.Table.{groups, table_places, counter_of, quota_of, started, renewed, taken_from, table_refusal}
-use Rattle.allowance.specs.Refusals.{no_group, with_group, group_report_refusal, group_surface_refusal, group_split_refusal}
-use Rattle.allowance.specs.Charges.{Charged, charged, group_report_on, group_surface_on, group_split_on}
+use Rattle.allowance.specs.Table.{groups, table_places, counter_of, quota_of, started, renewed, table_refusal}
+use Rattle.allowance.specs.Refusals.{no_group, group_report_refusal, group_surface_refusal, group_split_refusal}
+use Rattle.allowance.specs.Charges.{charged, group_report_on, group_surface_on, group_split_on}
 use Rattle.groups.specs.Calls.{CostCall, group_reports, group_surfaces, group_splits, cost_refusal, cost_of, cost_reply, left_of}
 use Rattle.groups.specs.Shared.{charge, own_refusal, own_cost, own_samples}
 

@@ -7,17 +7,16 @@ use Rattle.monomial.specs.Rows.{rows_of, weighted_rows}
 use Rattle.refusal.specs.Refusals.{settle}
 use Rattle.settings.specs.declared.Settings.{Settings}
 use Rattle.reporting.specs.declared.Places.{Places}
-use Rattle.reporting.specs.Limited.{Limited}
 use Rattle.reporting.specs.Reports.{refused_early}
 use Rattle.report.specs.Reports.{report_choice}
 use Rattle.report.specs.Limited.{within_past}
-use Rattle.surface.specs.Points.{Point, PointColumns, points_of, point_lengths, rows_of_points, surface_sums}
+use Rattle.surface.specs.Points.{PointColumns, points_of, point_lengths, rows_of_points, surface_sums}
 use Rattle.surface.specs.Surfaces.{surface_choice, surface_fit_on, surface_band_on, surface_report_on}
 use Rattle.surface.specs.Limited.{surface_within_past}
 use Rattle.split.specs.declared.Places.{Places as SplitPlaces}
 use Rattle.split.specs.Search.{search_tests}
 use Rattle.split.specs.Splits.{split_refused, split_past, taken_of}
-use Rattle.ledger.specs.Ledger.{Call, Reply, Reading}
+use Rattle.ledger.specs.Ledger.{Call, Reply}
 use Rattle.ledger.specs.ReadCalls.{ReadCall, Told, fit_reply, band_reply, report_reply, split_reply}
 use Rattle.allowance.specs.declared.TableAnswer.{TableAnswer}
 use Rattle.allowance.specs.Refusals.{group_report_refusal, group_surface_refusal, group_split_refusal}

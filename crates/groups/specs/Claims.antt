@@ -1,5 +1,5 @@
 -- What is claimed of eight groups that share one table. The theorems are proved in proofs/Isolation.antt, proofs/Ledgers.antt and proofs/Costing.antt. Definitions only.
-use Rattle.std.specs.Prelude.{◌≡◌, List, [], ◌∷◌, ◌++◌, map, ℕ, ◌+◌, ◌≤◌, ◌<◌, length, take, Float}
+use Rattle.std.specs.Prelude.{◌≡◌, List, [], ◌∷◌, ◌++◌, map, ℕ, ◌≤◌, ◌<◌, length, take, Float}
 use Rattle.std.proofs.Math.Option.{Option, none, some}
 use Rattle.basis.specs.Sizes.{sum_places}
 use Rattle.loops.specs.Fold.{fold}
@@ -17,7 +17,7 @@ use Rattle.measure.specs.Fits.{fit_number}
 use Rattle.measure.specs.Bands.{band_number}
 use Rattle.losses.specs.Losses.{loss_number}
 use Rattle.scores.specs.Scores.{scores_number}
-use Rattle.book.specs.Calls.{State, book_of, open_out}
+use Rattle.book.specs.Calls.{book_of, open_out}
 use Rattle.ledger.specs.Ledger.{Call, Lent, lent_of, told, final, opened}
 use Rattle.ledger.specs.ReadCalls.{ReadCall, Told, fit_reply, band_reply, report_reply, split_reply, loss_reply, scores_reply}
 use Rattle.ledger.specs.Words.{Words}

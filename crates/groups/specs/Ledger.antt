@@ -1,17 +1,17 @@
 -- The plain ledger of one course group: its samples, its counter and the quota. It is fed the quota, the renewals and its group's calls, with the lengths of the
 -- lent memory, and nothing of the other groups. Definitions only.
-use Rattle.std.specs.Prelude.{List, ℕ, length, Float}
+use Rattle.std.specs.Prelude.{List, ℕ, length}
 use Rattle.runs.specs.Runs.{Machine}
 use Rattle.samples.specs.Samples.{Sample}
 use Rattle.monomial.specs.Rows.{weighted_rows}
 use Rattle.monomial.specs.Sums.{sums_of}
 use Rattle.refusal.specs.Refusals.{settle}
-use Rattle.ledger.specs.Ledger.{Call, Lent, Reply, told, ledger_next, ledger_reply}
-use Rattle.ledger.specs.ReadCalls.{ReadCall, Told, read_on}
+use Rattle.ledger.specs.Ledger.{Lent, told, ledger_next, ledger_reply}
+use Rattle.ledger.specs.ReadCalls.{Told, read_on}
 use Rattle.allowance.specs.declared.TableAnswer.{TableAnswer}
 use Rattle.allowance.specs.declared.TableAnswer.TheVariants as answers
 use Rattle.allowance.specs.Table.{table_refusal}
-use Rattle.groups.specs.Calls.{SurfaceCall, surface_on, CostCall, GroupCall, books, surfaces, costs, GroupReply, tabled, replied, cost_refusal, cost_of, cost_reply, left_of}
+use Rattle.groups.specs.Calls.{surface_on, CostCall, GroupCall, books, surfaces, costs, GroupReply, tabled, replied, cost_refusal, cost_of, cost_reply, left_of}
 
 -- what a group's ledger is fed
 pub data Fed : Type 0 where
