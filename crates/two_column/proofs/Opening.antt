@@ -10,7 +10,6 @@ use Rattle.refusal.specs.Refusals.{settle}
 use Rattle.monomial.specs.Sums.{sums_of}
 use Rattle.monomial.specs.Plain.{plain_sums}
 use Rattle.book.specs.declared.Answer.{Answer}
-use Rattle.book.specs.declared.Answer.TheVariants as answers
 use Rattle.book.specs.Refusals.{open_refusal}
 use Rattle.book.specs.Calls.{book_of}
 use Rattle.book.specs.Calls as book

@@ -1,30 +1,27 @@
 -- A two-column book seen as one with weights: beside its columns stands a third that holds 1 everywhere. Each call on the one leaves and answers what its
 -- call at weight 1 does on the other.
-use mathlib.Core.Path.{◌≡◌, refl, sym, ap, ap₂, fun_ext, subst, ◌∙◌}
+use mathlib.Core.Path.{◌≡◌, refl, sym, ap, ap₂, fun_ext, ◌∙◌}
 use mathlib.Core.Logic.{◌⊎◌, inl, inr}
-use mathlib.Core.Bool.{Bool, true, false, cond, not, ◌&&◌}
+use mathlib.Core.Bool.{Bool, true, false, cond, ◌&&◌}
 use mathlib.Core.List.{List, [], ◌∷◌, ◌++◌, map, map-map, map-append}
 use Prim.Native.Nat.{ℕ, zero, suc, ◌+◌, ◌-◌, ◌≤◌, ◌<◌}
 use native.Mathlib.Omega.{arith}
 use lib.ListN.{length, get_or, set, take, drop, replicate, length-replicate, get_or-replicate, replicate-append-replicate, length-map}
-use lib.Seq.{paste}
 use lib.Ieee.{Float, nan, lt, of_bits}
-use Rattle.loops.specs.Fold.{fold, all_of}
+use Rattle.loops.specs.Fold.{fold}
 use Rattle.loops.specs.FoldLaws.{fold_map}
-use Rattle.loops.specs.Places.{table}
 use Rattle.loops.specs.PlaceLaws.{table_same, map_table}
 use Rattle.value.specs.Finite.{finite}
 use Rattle.value.specs.Numbers.{one_f, zero_f}
-use Rattle.samples.specs.Samples.{Sample}
 use Rattle.samples.specs.Columns.{Column, of_x, of_y, of_w, value, sample_at, samples_of, with_y}
 use Rattle.samples.specs.Columns as three
 use Rattle.monomial.specs.Rows.{weighted_rows}
 use Rattle.monomial.specs.Sums.{sums_of}
 use Rattle.monomial.specs.Plain.{plain_sums}
-use Rattle.refusal.specs.Refusals.{by, first_of, settle}
+use Rattle.refusal.specs.Refusals.{first_of, settle}
 use Rattle.refusal.specs.Tests.{capacity, sample_finite, all_finite, weight_above, all_above}
 use Rattle.frame.specs.Bytes.{word}
-use Rattle.frame.specs.Frame.{wrong_length, wrong_version, decode, kept}
+use Rattle.frame.specs.Frame.{wrong_length, wrong_version, decode}
 use Rattle.frame.specs.Laws.{neither_test}
 use Rattle.frame.specs.Plain.{plain_refusal, plain_length, plain_version}
 use Rattle.frame.specs.PlainLaws.{plain_sound, plain_neither, plain_number, plain_weights}
@@ -38,7 +35,7 @@ use Rattle.two_column.specs.Pairs.{Pair, pair_of, pair_rows, at_weight_one, Colu
 use Rattle.two_column.specs.PairLaws.{add_pair, sums_of_pairs}
 use Rattle.two_column.specs.Refusals.{pair_finite, pairs_finite, frame_pairs, add_refusal, frame_refusal}
 use Rattle.two_column.specs.RefusalLaws.{capacity_two, short_two, room_two, frame_room}
-use Rattle.two_column.specs.Calls.{Out, refused, add_out, correct_out, withdraw_out, without_pair, add_frame_out, State, state_of, state_after, add_next, add_many}
+use Rattle.two_column.specs.Calls.{Out, refused, add_out, correct_out, withdraw_out, without_pair, add_frame_out, State, state_of, add_next, add_many}
 use Rattle.two_column.specs.Ledger.{Change, adds, corrects, withdraws, frames, out_of, new_y, changed, refusal_of}
 
 -- ---- a column of ones

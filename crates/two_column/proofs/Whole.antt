@@ -1,18 +1,14 @@
 -- Demand 3 for a two-column book: what holds of the book with weights, seen without them.
 use mathlib.Core.Path.{◌≡◌, refl, sym, ap, subst, fun_ext, ◌∙◌}
-use mathlib.Core.List.{List, [], ◌∷◌, ◌++◌, map, map-map}
-use Prim.Native.Nat.{ℕ, zero, suc, ◌≤◌}
+use mathlib.Core.List.{List, [], ◌∷◌, map, map-map}
+use Prim.Native.Nat.{ℕ, zero, suc}
 use native.Mathlib.Omega.{arith}
 use lib.ListN.{length, get_or, take, drop, length-map, length-replicate}
 use lib.Ieee.{Float, nan}
 use Rattle.runs.specs.Runs.{replies as repliesOf}
 use Rattle.runs.specs.RunLaws.{agree, remembered}
-use Rattle.loops.specs.Fold.{fold}
 use Rattle.value.specs.Numbers.{one_f}
 use Rattle.samples.specs.Columns.{Column, of_x, of_y, value}
-use Rattle.monomial.specs.Sums.{sums_of}
-use Rattle.monomial.specs.Plain.{plain_sums}
-use Rattle.refusal.specs.Refusals.{settle}
 use Rattle.book.specs.declared.Answer.TheVariants as answers
 use Rattle.book.specs.Refusals.{open_refusal}
 use Rattle.book.specs.RefusalLaws.{open_room}
@@ -23,13 +19,13 @@ use Rattle.ledger.specs.Ledger as whole
 use Rattle.ledger.proofs.Lists.{seen_is, seen_kept, sums_first, sums_rest}
 use Rattle.ledger.proofs.Steps.{Holds, Leaves, step}
 use Rattle.ledger.proofs.Whole.{empty_state, opened_holds}
-use Rattle.two_column.specs.Pairs.{Pair, at_weight_one, Columns, lengths}
+use Rattle.two_column.specs.Pairs.{Pair, at_weight_one, Columns}
 use Rattle.two_column.specs.PairLaws.{sums_of_pairs}
 use Rattle.two_column.specs.RefusalLaws.{capacity_two}
-use Rattle.two_column.specs.Calls.{State, state_of, state_after, open_out}
-use Rattle.two_column.specs.Ledger.{Change, out_of, next, answer, program, final, opened, lent_of, changed, refusal_of, ledger_next, ledger_answer, ledger, ledger_end, held, WholePairs}
+use Rattle.two_column.specs.Calls.{State, open_out}
+use Rattle.two_column.specs.Ledger.{Change, next, answer, program, final, opened, lent_of, changed, refusal_of, ledger_next, ledger_answer, ledger, ledger_end, held, WholePairs}
 use Rattle.two_column.proofs.Opening.{no_sums}
-use Rattle.two_column.proofs.Weighted.{places, places_are, ones, with_ones, weighted_state, weighted_change, refusal_at_one, out_at_one, changed_at_one}
+use Rattle.two_column.proofs.Weighted.{places, places_are, with_ones, weighted_state, weighted_change, refusal_at_one, out_at_one, changed_at_one}
 
 -- xs, ys and sums are the lengths of the lent memory, rest what the sums hold past the 272
 module _ (xs ys sums : ℕ) (rest : List Float) where
