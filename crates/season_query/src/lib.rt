@@ -1,5 +1,6 @@
 // The season book's calls that read a stake, but for the report. Each is promised to answer and to write what the book's own call does on the stake's parts.
 #![tactic(auto)]
+
 ghost use Rattle.samples.specs.Columns.{columns_of};
 ghost use Rattle.lent.specs.Slices.{before, contents};
 ghost use Rattle.split.specs.Splits.{lent_split};
