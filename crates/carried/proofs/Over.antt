@@ -1,14 +1,13 @@
 -- E6's theorem. The two-column book holds a ledger of pairs, and after the carry the same ledger at weight 1; so does the book with weights from the start;
 -- and two books that hold one ledger answer alike.
-use mathlib.Core.Path.{◌≡◌, refl, sym, ap, ap₂, subst, ◌∙◌}
-use mathlib.Core.Option.{Option, none, some}
-use mathlib.Core.List.{List, [], ◌∷◌, ◌++◌, map, map-map}
-use Prim.Native.Nat.{ℕ, zero, suc, ◌-◌, ◌≤◌}
+use mathlib.Core.Path.{◌≡◌, refl, sym, ap, subst, ◌∙◌}
+use mathlib.Core.Option.{none, some}
+use mathlib.Core.List.{List, [], ◌∷◌, map}
+use Prim.Native.Nat.{ℕ, zero, suc, ◌≤◌}
 use native.Mathlib.Omega.{arith}
 use lib.ListN.{length, get_or, take, drop, replicate, length-map, length-replicate, length-append, length-drop}
 use lib.Seq.{take_at}
 use lib.Ieee.{Float}
-use Rattle.loops.specs.Fold.{fold}
 use Rattle.runs.specs.Runs.{sifted}
 use Rattle.runs.specs.RunLaws.{sifts, no_call}
 use Rattle.value.specs.Numbers.{one_f}
@@ -19,7 +18,6 @@ use Rattle.samples.specs.ColumnLaws.{of_every}
 use Rattle.refusal.specs.Refusals.{settle}
 use Rattle.refusal.specs.Tests.{capacity}
 use Rattle.refusal.specs.RoomLaws.{room_of}
-use Rattle.book.specs.declared.Answer.{Answer}
 use Rattle.book.specs.declared.Answer.TheVariants as answers
 use Rattle.book.specs.Refusals.{open_refusal, sums_lent}
 use Rattle.book.specs.RefusalLaws.{open_room}
@@ -29,17 +27,17 @@ use Rattle.ledger.specs.Ledger as whole
 use Rattle.ledger.specs.ReadCalls.{ReadCall, read_on}
 use Rattle.ledger.proofs.Lists.{sums_first}
 use Rattle.ledger.proofs.Steps.{Holds, step}
-use Rattle.ledger.proofs.Whole.{whole_from, empty_state, opened_holds, opened_is}
-use Rattle.two_column.specs.Pairs.{Pair, Columns, at_weight_one}
+use Rattle.ledger.proofs.Whole.{whole_from, opened_holds, opened_is}
+use Rattle.two_column.specs.Pairs.{Pair, at_weight_one}
 use Rattle.two_column.specs.Calls as calls
 use Rattle.two_column.specs.RefusalLaws.{capacity_longer, capacity_two, frame_room}
 use Rattle.two_column.specs.Ledger.{Change, adds, corrects, withdraws, frames, answer, ledger_next, refusal_of, changed}
 use Rattle.two_column.specs.Ledger as pairs
-use Rattle.two_column.proofs.Weighted.{weighted_state, weighted_change, refusal_at_one, changed_at_one}
+use Rattle.two_column.proofs.Weighted.{weighted_change, refusal_at_one, changed_at_one}
 use Rattle.two_column.proofs.Whole.{HoldsPairs, two, step_pairs, pairs_from, opened_pairs, not_refused_lem}
 use Rattle.carried.specs.Carry.{ones_below, carry_refusal, carried_columns, carry_out}
 use Rattle.carried.specs.CarryLaws.{carry_taken}
-use Rattle.carried.specs.Carried.{two_column, carry_from, carried, at_one, goes_on, not_refused, from_the_start, Alike, CarriedOver, BooksOpenInSpring}
+use Rattle.carried.specs.Carried.{two_column, carry_from, carried, at_one, goes_on, not_refused, from_the_start, Alike, BooksOpenInSpring}
 
 -- two books that hold one ledger answer alike
 alike_from : (m : Lent) (rest rest' : List Float) (l : List Sample) (s t : State) → Holds m rest l s → Holds m rest' l t → (later : List (Call ReadCall)) → Alike s t later

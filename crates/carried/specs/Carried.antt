@@ -1,6 +1,6 @@
 -- Document 02's E6, the claim: a book that was carried over answers, from there, as if every earlier call not refused had gone, at weight 1, to a book with
 -- weights. The theorem, `carried_over`, is proved in proofs/Over.antt. Definitions only.
-use Rattle.std.specs.Prelude.{◌≡◌, List, ℕ, ◌≤◌, length, take, Float}
+use Rattle.std.specs.Prelude.{◌≡◌, List, ◌≤◌, length, take, Float}
 use Rattle.std.proofs.Math.Option.{Option, none, some}
 use Rattle.basis.specs.Sizes.{sum_places}
 use Rattle.runs.specs.Runs.{sifted}

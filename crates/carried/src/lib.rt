@@ -1,5 +1,6 @@
 // A two-column book, open since before weights, becomes one with weights in mid season.
 #![tactic(auto)]
+
 ghost use Rattle.std.specs.Prelude.{◌≡◌, [], ◌∷◌};
 ghost use Rattle.lent.specs.Slices.{before, after};
 ghost use Rattle.samples.specs.Columns.{columns_of};
