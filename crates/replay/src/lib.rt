@@ -1,5 +1,6 @@
 // A list of calls in lent buffers, run by the book's own calls. The promise of `replay` is demand 3, of the code.
 #![tactic(auto)]
+
 ghost use Rattle.std.specs.Prelude.{◌≡◌, true, ◌+◌, ◌*◌, ◌≤◌, ◌<◌, length};
 ghost use Rattle.book.specs.Calls.{state_of};
 ghost use Rattle.report.specs.Reports.{report_out};
