@@ -11,7 +11,6 @@ use Rattle.loops.specs.All.{All}
 use Rattle.loops.specs.Cases.{by_test, and_first, never}
 use Rattle.loops.specs.Fold.{fold}
 use Rattle.loops.specs.FoldLaws.{all_cons}
-use Rattle.samples.specs.Samples.{Sample}
 use Rattle.decimal.specs.Characters.{minus_byte, point_byte, space_byte, newline_byte}
 use Rattle.decimal.specs.IndexLaws.{drop_behind}
 use Rattle.decimal.specs.Digits.{is_digit, digits_only, remaining, spells}
