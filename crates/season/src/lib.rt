@@ -1,6 +1,7 @@
 // The season book's calls that change it. Each that names a stake is promised to answer what the book's own call on the stake's parts answers, and to leave every
 // place of all lent memory as that call and the season's definition have it.
 #![tactic(auto)]
+
 ghost use Rattle.std.specs.Prelude.{◌≡◌};
 ghost use Rattle.samples.specs.Columns.{columns_of, no_columns};
 ghost use Rattle.lent.specs.Slices.{before, after};
