@@ -13,7 +13,7 @@ use Rattle.loops.specs.Fold.{fold}
 use Rattle.loops.specs.FoldLaws.{fold_snoc}
 use Rattle.basis.specs.declared.Basis.{Basis}
 use Rattle.monomial.specs.Terms.{terms_at}
-use Rattle.monomial.specs.Rows.{Row, row_at, WeightedRow, weighted_row, weight_at, weighted_at, weighted_rows_at}
+use Rattle.monomial.specs.Rows.{row_at, WeightedRow, weighted_row, weight_at, weighted_at, weighted_rows_at}
 use Rattle.monomial.specs.RowLaws.{length_weighted_at, weighted_at_again}
 use Rattle.monomial.specs.Sums.{weighted_product, add_row, add_rows}
 use Rattle.monomial.specs.Corner.{SameCorner, CornerSet}

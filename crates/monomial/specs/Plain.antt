@@ -1,5 +1,5 @@
 -- Document 01's sums, of rows without a weight. Definitions only.
-use Rattle.std.specs.Prelude.{List, ℕ, replicate, Float}
+use Rattle.std.specs.Prelude.{List, replicate, Float}
 use Rattle.std.specs.Float.{binary64}
 use Rattle.std.specs.Float.Ieee.{add}
 use Rattle.basis.specs.Sizes.{sum_places}

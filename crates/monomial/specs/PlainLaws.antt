@@ -1,7 +1,7 @@
 -- At weight 1 the sums are document 01's, bit for bit: a product × 1 is the product for every double, a NaN, an infinity, a zero of either sign or a
 -- subnormal number too.
-use Rattle.std.specs.Prelude.{◌≡◌, refl, Bool, true, false, cond, List, map, ℕ, ◌-◌, ◌/◌, ◌%◌, ltb, Float, get_or, replicate}
-use Rattle.std.proofs.Common.{sym, ap, ◌∙◌}
+use Rattle.std.specs.Prelude.{◌≡◌, Bool, true, false, cond, List, map, ℕ, ◌-◌, ◌/◌, ◌%◌, ltb, Float, get_or, replicate}
+use Rattle.std.proofs.Common.{ap, ◌∙◌}
 use Rattle.std.proofs.Math.Path.{fun_ext}
 use Rattle.std.specs.Float.{nan, binary64}
 use Rattle.std.specs.Float.Ieee.{add, mul}

@@ -1,5 +1,4 @@
 -- Rows of term values read off columns, and the fitted value over one. Definitions only.
-use Rattle.std.proofs.Common.{ap}
 use Rattle.std.specs.Prelude.{List, map, ℕ, get_or, Float}
 use Rattle.std.specs.Float.{nan, binary64}
 use Rattle.std.specs.Float.Ieee.{mul}

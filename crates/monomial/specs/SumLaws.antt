@@ -3,7 +3,7 @@ use Rattle.std.specs.Prelude.{◌≡◌, List, [], ◌∷◌, ◌++◌, map, ℕ
 use Rattle.std.proofs.Common.{sym, ◌∙◌, lt-ltb, le-ltb, lit≤, take-append-drop}
 use Rattle.std.proofs.Math.Path.{ap, fun_ext}
 use Rattle.std.proofs.lemmas.Simd.{map-map}
-use Rattle.std.proofs.lemmas.List.{map-append, length-map}
+use Rattle.std.proofs.lemmas.List.{map-append}
 use native.Mathlib.Omega.{arith}
 use Rattle.std.specs.Float.{nan}
 use Rattle.std.specs.Float.Ieee.{binary64, mul}

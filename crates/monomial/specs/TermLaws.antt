@@ -1,5 +1,5 @@
 -- Laws of Terms.antt.
-use Rattle.std.specs.Prelude.{◌≡◌, refl, ◌-◌, Float}
+use Rattle.std.specs.Prelude.{◌≡◌, refl, Float}
 use Rattle.loops.specs.Places.{table}
 use Rattle.value.specs.Power.{power_f}
 use Rattle.basis.specs.declared.Basis.TheVariants.{Curve}

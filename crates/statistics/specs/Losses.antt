@@ -1,5 +1,4 @@
 -- Huber losses: polyfit's `huber_const`, `huber_loss` and the list of losses whose sum `robust_mse_with_n` takes. Definitions only.
-use Rattle.std.proofs.Common.{ap}
 use Rattle.std.specs.Prelude.{cond, List, map, Float}
 use Rattle.std.specs.Float.{binary64}
 use Rattle.std.specs.Float.Ieee.{sub, mul, le}

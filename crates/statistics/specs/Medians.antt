@@ -1,5 +1,4 @@
 -- polyfit's `median` and `median_absolute_deviation`: sort, then the middle. Definitions only.
-use Rattle.std.proofs.Common.{ap}
 use Rattle.std.specs.Prelude.{◌-◌, ◌/◌, ◌%◌, Bool, true, false, cond, ◌||◌, List, [], ◌∷◌, map, length, ◌==◌, is_nan, slice_index_or, Float}
 use Rattle.std.specs.Float.{nan, inf, fin, binary64}
 use Rattle.std.specs.Float.Ieee.{add, sub, div, le}

@@ -3,7 +3,7 @@
 -- the t table is one law, by a test that antt computes over the whole table (`TableLaws.antt`).
 -- The table has a row of six for each number of degrees of freedom from 1 to 30; the columns are the confidences 0.8, 0.9, 0.95, 0.98, 0.99 and 0.999. polyfit
 -- prints three decimals, from the third entry of the first row on two: its 12.71 is 12710 here, and its 2.92 is 2920. Definitions only.
-use Rattle.std.specs.Prelude.{ℕ, zero, suc, ◌+◌, ◌*◌, Bool, true, ◌&&◌, T, List, [], ◌∷◌, slice_index}
+use Rattle.std.specs.Prelude.{ℕ, zero, suc, ◌+◌, ◌*◌, Bool, true, ◌&&◌, List, [], ◌∷◌, slice_index}
 
 unfoldable pub thousandths : List ℕ
 thousandths =

@@ -1,6 +1,5 @@
 -- `lent::close_gap` meets its contract. The loop's invariant: the places from i up to j have been moved down one, the others stand.
-use mathlib.Core.Path.{◌≡◌, refl}
-use Prim.Native.Nat.{◌-◌, ◌≤◌}
+use mathlib.Core.Path.{refl}
 use native.Mathlib.Omega.{arith}
 use borrow.Author.Rules.{rules}
 use lib.ListN.{length-set}

@@ -1,5 +1,5 @@
 -- `lent::put_first` meets its contract. The loop's invariant: the places passed are copied.
-use mathlib.Core.Path.{◌≡◌, ◌∙◌}
+use mathlib.Core.Path.{◌≡◌}
 use Prim.Native.Nat.{◌-◌, ◌≤◌}
 use lib.ListN.{length, get_or}
 use lib.Ieee.{nan}

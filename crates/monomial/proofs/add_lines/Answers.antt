@@ -1,6 +1,5 @@
 -- `monomial::add_lines` meets its contract. The invariants: the lines passed have their products, and of a line the places passed.
 use mathlib.Core.Path.{◌≡◌, refl, sym, ap, ◌∙◌}
-use Prim.Native.Nat.{◌-◌, ◌≤◌}
 use native.Mathlib.Omega.{arith}
 use borrow.Author.Rules.{rules}
 use lib.ListN.{length-set}

@@ -1,5 +1,5 @@
 -- `monomial::add_lines` meets its contract. The invariants: the lines passed have their products, and of a line the places passed.
-use mathlib.Core.Path.{◌≡◌, ◌∙◌}
+use mathlib.Core.Path.{◌≡◌}
 use Prim.Native.Nat.{◌-◌, ◌≤◌}
 use lib.ListN.{length}
 use Rattle.monomial.specs.Rows.{weighted_row}

@@ -1,7 +1,7 @@
 -- `monomial::add_matrix` meets its contract. The invariants: the places of A that were passed, 16i in the outer loop and 16i + j in the inner one, have
 -- their products.
 use mathlib.Core.Path.{◌≡◌, refl, ◌∙◌}
-use Prim.Native.Nat.{◌+◌, ◌-◌, ◌*◌, ◌≤◌}
+use Prim.Native.Nat.{◌+◌, ◌*◌}
 use native.Mathlib.Omega.{arith}
 use borrow.Author.Rules.{rules}
 use lib.ListN.{length-set}

@@ -1,6 +1,6 @@
 -- `monomial::add_matrix` meets its contract. The invariants: the places of A that were passed, 16i in the outer loop and 16i + j in the inner one, have
 -- their products.
-use mathlib.Core.Path.{◌≡◌, ◌∙◌}
+use mathlib.Core.Path.{◌≡◌}
 use mathlib.Core.List.{List}
 use Prim.Native.Nat.{◌+◌, ◌-◌, ◌*◌, ◌≤◌}
 use lib.ListN.{length}

@@ -1,6 +1,5 @@
 -- `monomial::add_right` meets its contract. The loop's invariant: the places of g that were passed have their products.
 use mathlib.Core.Path.{◌≡◌, refl, sym}
-use Prim.Native.Nat.{◌-◌, ◌≤◌}
 use native.Mathlib.Omega.{arith}
 use borrow.Author.Rules.{rules}
 use lib.ListN.{length-set}

@@ -5,4 +5,4 @@ use Rattle.monomial.proofs.Parts.{add_parts}
 use Rattle.monomial.proofs.add_row.Goals as goal
 
 pub returns : goal.returns
-returns c =         rw c.add_right.ensures (add_parts c.args.sums.now c.add_matrix.new.sums (weighted_row c.args.terms.now c.args.y c.args.w) (search rules) c.add_matrix.ensures)
+returns c = rw c.add_right.ensures (add_parts c.args.sums.now c.add_matrix.new.sums (weighted_row c.args.terms.now c.args.y c.args.w) (search rules) c.add_matrix.ensures)

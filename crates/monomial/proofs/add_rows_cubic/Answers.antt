@@ -1,6 +1,5 @@
 -- `monomial::add_rows_cubic` meets its contract. The invariant: the rows passed are added in the corner.
 use mathlib.Core.Path.{◌≡◌, refl, ◌∙◌}
-use Prim.Native.Nat.{◌-◌, ◌≤◌}
 use native.Mathlib.Omega.{arith}
 use borrow.Author.Rules.{rules}
 use Rattle.monomial.proofs.Lines.{rows_none, rows_more}

@@ -1,5 +1,5 @@
 -- `monomial::add_rows_cubic` meets its contract. The invariant: the rows passed are added in the corner.
-use mathlib.Core.Path.{◌≡◌, ◌∙◌}
+use mathlib.Core.Path.{◌≡◌}
 use Prim.Native.Nat.{◌-◌, ◌≤◌}
 use lib.ListN.{length, drop}
 use Rattle.monomial.specs.Rows.{weighted_rows_at}

@@ -1,6 +1,6 @@
 -- `monomial::add_upper` meets its contract. The invariants: the places that were passed, those before 16i in the outer loop and before 16i + j in the inner
 -- one, have their products.
-use mathlib.Core.Path.{◌≡◌, ◌∙◌}
+use mathlib.Core.Path.{◌≡◌}
 use mathlib.Core.List.{List}
 use Prim.Native.Nat.{ℕ, ◌+◌, ◌-◌, ◌*◌, ◌≤◌}
 use lib.ListN.{length}

@@ -1,6 +1,5 @@
 -- `monomial::fitted` meets its contract. The loop's invariant: v is the fitted value of the coefficients passed.
 use mathlib.Core.Path.{◌≡◌, refl, sym}
-use Prim.Native.Nat.{◌-◌, ◌≤◌}
 use native.Mathlib.Omega.{arith}
 use borrow.Author.Rules.{rules}
 use Rattle.loops.specs.Fold.{fold}

@@ -1,6 +1,5 @@
 -- `monomial::fold_right` meets its contract. The invariants: the places passed are +0; what the rows of the samples passed add to g is added.
 use mathlib.Core.Path.{◌≡◌, refl, sym, ap, ◌∙◌}
-use Prim.Native.Nat.{◌-◌, ◌≤◌}
 use native.Mathlib.Omega.{arith}
 use borrow.Author.Rules.{rules}
 use lib.ListN.{length, length-set}

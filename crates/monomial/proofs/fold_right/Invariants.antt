@@ -1,5 +1,5 @@
 -- `monomial::fold_right` meets its contract. The invariants: the places passed are +0; what the rows of the samples passed add to g is added.
-use mathlib.Core.Path.{◌≡◌, ◌∙◌}
+use mathlib.Core.Path.{◌≡◌}
 use Prim.Native.Nat.{◌-◌, ◌≤◌}
 use lib.ListN.{length}
 use Rattle.value.specs.Numbers.{zero_f}

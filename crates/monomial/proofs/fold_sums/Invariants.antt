@@ -1,8 +1,8 @@
 -- `monomial::fold_sums` meets its contract. The invariants: the places passed are +0; the rows of the samples passed are added, in the upper half of A and
 -- in g.
-use mathlib.Core.Path.{◌≡◌, ◌∙◌}
-use mathlib.Core.List.{List, ◌++◌}
-use Prim.Native.Nat.{◌+◌, ◌-◌, ◌*◌, ◌/◌, ◌≤◌}
+use mathlib.Core.Path.{◌≡◌}
+use mathlib.Core.List.{List}
+use Prim.Native.Nat.{◌-◌, ◌*◌, ◌≤◌}
 use lib.ListN.{length}
 use lib.Ieee.{Float}
 use Rattle.value.specs.Numbers.{zero_f}

@@ -1,5 +1,5 @@
 -- `monomial::mirror` meets its contract. The invariants: of the places that were passed, those below the diagonal are copied.
-use mathlib.Core.Path.{◌≡◌, ◌∙◌}
+use mathlib.Core.Path.{◌≡◌}
 use mathlib.Core.List.{List}
 use Prim.Native.Nat.{◌+◌, ◌-◌, ◌*◌, ◌≤◌}
 use lib.ListN.{length}

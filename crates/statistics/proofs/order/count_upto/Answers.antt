@@ -1,5 +1,5 @@
 -- `statistics::order::count_upto` meets its contract. The invariant: found is the count so far.
-use Rattle.std.proofs.Common.{◌≡◌, ◌-◌, ◌≤◌, refl, arith, rules}
+use Rattle.std.proofs.Common.{◌≡◌, refl, arith, rules}
 use Rattle.statistics.specs.Counting.{distances, count}
 use Rattle.statistics.proofs.Counts.{count_turn}
 use Rattle.statistics.proofs.Deviations.{plain_at}

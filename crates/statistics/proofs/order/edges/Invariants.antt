@@ -1,5 +1,5 @@
 -- `statistics::order::edges` meets its contract. The invariant: low is the greatest under b and high the least from lo on, so far.
-use Rattle.std.proofs.Common.{◌≡◌, ◌-◌, ◌<◌, ◌≤◌, take}
+use Rattle.std.proofs.Common.{◌≡◌, ◌-◌, ◌≤◌, take}
 use Rattle.statistics.specs.Counting.{distances, least_from, greatest_under}
 use Rattle.statistics.proofs.order.edges.Given as goal
 

@@ -1,5 +1,5 @@
 -- `statistics::order::gather` meets its contract. The invariant: the first c places are those kept so far.
-use Rattle.std.proofs.Common.{◌≡◌, ◌-◌, ◌<◌, ◌≤◌, length, refl, arith, length-set, rules}
+use Rattle.std.proofs.Common.{◌≡◌, ◌<◌, length, refl, arith, length-set, rules}
 use Rattle.statistics.specs.Counting.{distances, count, between, keep}
 use Rattle.statistics.proofs.Deviations.{plain_at, bits_some}
 use Rattle.statistics.proofs.Kept.{keep_turn, kept_turn, count_part}

@@ -1,5 +1,5 @@
 -- `statistics::order::gather` meets its contract. The invariant: the first c places are those kept so far.
-use Rattle.std.proofs.Common.{◌≡◌, ◌-◌, ◌<◌, ◌≤◌, length, take}
+use Rattle.std.proofs.Common.{◌≡◌, ◌-◌, ◌≤◌, length, take}
 use Rattle.statistics.specs.Counting.{distances, count, between, keep}
 use Rattle.statistics.proofs.order.gather.Given as goal
 

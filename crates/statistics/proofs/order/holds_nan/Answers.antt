@@ -1,5 +1,5 @@
 -- `statistics::order::holds_nan` meets its contract. The invariant: found is the answer so far.
-use Rattle.std.proofs.Common.{◌≡◌, ◌-◌, ◌≤◌, false, ◌||◌, get_or, sym, refl, arith, rules}
+use Rattle.std.proofs.Common.{◌≡◌, false, ◌||◌, get_or, sym, refl, arith, rules}
 use lib.Ieee.{nan, is_nan}
 use Rattle.loops.specs.Fold.{fold}
 use Rattle.loops.specs.FoldLaws.{fold_again}

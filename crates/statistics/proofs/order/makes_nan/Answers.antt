@@ -1,5 +1,5 @@
 -- `statistics::order::makes_nan` meets its contract. The invariant: found is the answer so far.
-use Rattle.std.proofs.Common.{◌≡◌, ◌-◌, ◌≤◌, refl, ap, arith, rules}
+use Rattle.std.proofs.Common.{◌≡◌, refl, ap, arith, rules}
 use lib.Ieee.{Float, binary64, sub}
 use Rattle.loops.specs.Fold.{fold}
 use Rattle.statistics.specs.Medians.{any_nan}

@@ -1,5 +1,5 @@
 -- `statistics::order::narrow` meets its contract. The invariant: the bits at place m lie from lo to hi, and `below` are under lo.
-use Rattle.std.proofs.Common.{◌≡◌, ◌+◌, ◌-◌, ◌*◌, ◌<◌, ◌≤◌, take, sym, ◌∙◌, inl, inr, arith}
+use Rattle.std.proofs.Common.{take, sym, ◌∙◌, inl, inr, arith}
 use Rattle.statistics.specs.Counting.{distances}
 use Rattle.statistics.proofs.Counts.{under_next, under_zero, upto_all, ends_moved}
 use Rattle.statistics.proofs.Deviations.{length_distances}

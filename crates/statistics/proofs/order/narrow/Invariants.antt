@@ -1,5 +1,5 @@
 -- `statistics::order::narrow` meets its contract. The invariant: the bits at place m lie from lo to hi, and `below` are under lo.
-use Rattle.std.proofs.Common.{◌≡◌, ◌+◌, ◌-◌, ◌*◌, ◌<◌, ◌≤◌, take, ◌∙◌}
+use Rattle.std.proofs.Common.{◌≡◌, ◌+◌, ◌-◌, ◌*◌, ◌<◌, ◌≤◌, take}
 use Rattle.statistics.specs.Counting.{distances, count, upto as bitsUpto, under}
 use Rattle.statistics.proofs.order.narrow.Given as goal
 

@@ -1,5 +1,5 @@
 -- `statistics::sums::squares_about` meets its contract. The invariant: v is the sum so far.
-use Rattle.std.proofs.Common.{◌≡◌, ◌-◌, ◌≤◌, sym, refl, arith, rules}
+use Rattle.std.proofs.Common.{◌≡◌, sym, refl, arith, rules}
 use lib.Ieee.{nan, binary64, add, sub}
 use Rattle.loops.specs.Fold.{fold}
 use Rattle.loops.specs.FoldLaws.{fold_map_again}

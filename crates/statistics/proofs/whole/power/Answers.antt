@@ -1,5 +1,5 @@
 -- `statistics::whole::power` meets its contract. The invariant: r is the power so far, at most 15 to the power 5.
-use Rattle.std.proofs.Common.{◌≡◌, ℕ, ◌-◌, ◌^◌, ◌≤◌, sym, ap, ◌∙◌, lt_of_le_of_lt, arith, lit<}
+use Rattle.std.proofs.Common.{◌≡◌, ℕ, ◌^◌, sym, ap, ◌∙◌, lt_of_le_of_lt, arith, lit<}
 use native.Mathlib.Nat.{pow-zero}
 use Rattle.statistics.proofs.Roots.{more, more_le}
 use Rattle.statistics.proofs.whole.power.Goals as goal

@@ -1,5 +1,5 @@
 -- `statistics::whole::power` meets its contract. The invariant: r is the power so far, at most 15 to the power 5.
-use Rattle.std.proofs.Common.{◌≡◌, ◌-◌, ◌^◌, ◌≤◌, ◌∙◌}
+use Rattle.std.proofs.Common.{◌≡◌, ◌-◌, ◌^◌, ◌≤◌}
 use Rattle.statistics.proofs.whole.power.Given as goal
 
 abbrev pub invariant-loop : goal.invariant-loop

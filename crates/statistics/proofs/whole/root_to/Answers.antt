@@ -1,5 +1,5 @@
 -- `statistics::whole::root_to` meets its contract. The invariant: r is at most the cap, and its power at most n.
-use Rattle.std.proofs.Common.{◌≡◌, ◌-◌, ◌^◌, ◌≤◌, ◌∙◌, arith}
+use Rattle.std.proofs.Common.{◌≡◌, ◌∙◌, arith}
 use Rattle.statistics.proofs.Roots.{root_is, root_cap, zero_le_power}
 use Rattle.statistics.proofs.whole.root_to.Goals as goal
 

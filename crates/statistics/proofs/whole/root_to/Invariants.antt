@@ -1,5 +1,5 @@
 -- `statistics::whole::root_to` meets its contract. The invariant: r is at most the cap, and its power at most n.
-use Rattle.std.proofs.Common.{◌≡◌, ◌-◌, ◌^◌, ◌≤◌, ◌∙◌}
+use Rattle.std.proofs.Common.{◌-◌, ◌^◌, ◌≤◌}
 use Rattle.statistics.proofs.whole.root_to.Given as goal
 
 abbrev pub invariant-loop-r : goal.invariant-loop-r

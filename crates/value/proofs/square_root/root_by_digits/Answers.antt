@@ -1,5 +1,5 @@
 -- `value::root_by_digits` meets its contract. The invariant and one turn of the loop are in `proofs/SquareRoot/Numbers.antt`.
-use Rattle.std.proofs.Common.{◌-◌, ◌^◌, ◌<◌, arith}
+use Rattle.std.proofs.Common.{◌<◌, arith}
 use Rattle.value.proofs.SquareRoot.Numbers.{starts, room_53, turn_one, turn_zero, ends_up, ends_down}
 use Rattle.value.proofs.square_root.root_by_digits.Goals as goal
 use Rattle.value.proofs.square_root.root_by_digits.Goals.{then-want-have, else-want-have}

@@ -1,5 +1,5 @@
 -- `value::root_by_digits` meets its contract. The invariant and one turn of the loop are in `proofs/SquareRoot/Numbers.antt`.
-use Rattle.std.proofs.Common.{◌-◌, ◌^◌, ◌<◌}
+use Rattle.std.proofs.Common.{◌-◌}
 use Rattle.value.proofs.SquareRoot.Numbers.{Run}
 use Rattle.value.proofs.square_root.root_by_digits.Given as goal
 

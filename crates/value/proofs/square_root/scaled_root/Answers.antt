@@ -1,5 +1,5 @@
 -- `value::scaled_root` meets its contract.
-use Rattle.std.proofs.Common.{◌≡◌, ℕ, ◌+◌, ◌-◌, ◌*◌, ◌/◌, ◌^◌, ◌<◌, ◌≤◌, ap, ◌∙◌, ⊎_elim, arith, rules}
+use Rattle.std.proofs.Common.{◌≡◌, ℕ, ◌+◌, ◌-◌, ◌*◌, ◌/◌, ◌^◌, ◌<◌, ◌≤◌, ap, ◌∙◌, arith}
 use lib.Ieee.{binary64, of_bits}
 use Rattle.value.specs.Root.{closest_root}
 use Rattle.value.proofs.SquareRoot.Packing.{closest_high, even_root, odd_root}

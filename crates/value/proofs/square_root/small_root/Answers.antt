@@ -1,5 +1,5 @@
 -- `value::small_root` meets its contract.
-use Rattle.std.proofs.Common.{◌-◌, ◌^◌, ◌<◌, ap, ◌∙◌, arith}
+use Rattle.std.proofs.Common.{ap, ◌∙◌, arith}
 use Rattle.value.specs.Root.{root_of}
 use Rattle.value.proofs.SquareRoot.Numbers.{doubled_start, doubled_turn, doubled_few, doubled_back}
 use Rattle.value.proofs.square_root.small_root.Goals as goal

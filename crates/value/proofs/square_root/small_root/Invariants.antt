@@ -1,5 +1,5 @@
 -- `value::small_root` meets its contract.
-use Rattle.std.proofs.Common.{◌-◌, ◌^◌, ◌<◌, ◌∙◌}
+use Rattle.std.proofs.Common.{◌-◌, ◌^◌}
 use Rattle.value.proofs.SquareRoot.Numbers.{Doubled}
 use Rattle.value.proofs.square_root.small_root.Given as goal
 

@@ -1,5 +1,5 @@
 -- `value::sqrt` meets its contract.
-use Rattle.std.proofs.Common.{◌%◌, ◌^◌, ◌≤◌, T, sym, refl, ◌∙◌, subst, arith, rules}
+use Rattle.std.proofs.Common.{T, sym, refl, ◌∙◌, subst, arith, rules}
 use lib.Ieee.{binary64, to_bits}
 use Rattle.value.specs.Nan.{some, made_nan, bits_some}
 use Rattle.value.proofs.SquareRoot.Reading.{nan_root, zero_stands, minus_zero_stands, infinity_stands, below_zero, small_value, large_value, finite_pattern}
