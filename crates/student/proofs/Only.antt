@@ -6,7 +6,7 @@ use Rattle.statistics.specs.Table.{thousandths, table_entry, all_below}
 use Rattle.statistics.specs.TableLaws.{all_cells}
 use Rattle.student.specs.Quantile.{Rounded, one_in, half_place, IsQuantile, EveryEntry, IsEntry}
 use Rattle.student.specs.ByArea.{by_area}
-use Rattle.student.specs.AreaLaws.{one_rounded_by_area}
+use Rattle.student.proofs.AreaLaws.{one_rounded_by_area}
 use Rattle.student.specs.AreaCheck.{every_entry_by_area}
 use Rattle.student.specs.BySeries.{by_series}
 use Rattle.student.specs.Laws.{one_rounded_by_series}
