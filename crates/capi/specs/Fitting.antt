@@ -1,6 +1,6 @@
 -- What the calls can answer fits the fields that it is packed into: a count of at most 4,096, a degree of at most 15, at most 16 solved degrees and
 -- pruned terms, at most 4,096 outliers, and refusals 1 to 18.
-use Rattle.std.specs.Prelude.{◌≡◌, Bool, true, false, cond, not, ◌&&◌, List, [], ◌∷◌, map, ℕ, zero, suc, ◌+◌, ◌-◌, ◌≤◌, max, ltb, eqb, length, get_or, take, Float}
+use Rattle.std.specs.Prelude.{◌≡◌, Bool, true, false, cond, not, ◌&&◌, List, [], ◌∷◌, map, ℕ, zero, suc, ◌+◌, ◌-◌, ◌≤◌, ltb, eqb, length, get_or, take, Float}
 use Rattle.std.proofs.Math.Path.{refl}
 use Rattle.std.proofs.Common.{ap, ◌∙◌, add-one}
 use native.Mathlib.Omega.{arith}
@@ -32,7 +32,6 @@ use Rattle.basis.specs.declared.Basis.TheVariants.{Curve, Surface}
 use Rattle.fit.specs.Solved.{is_solved}
 use Rattle.fit.specs.Chosen.{tried, choice_of, counts_of}
 use Rattle.folds.specs.Folds.{validated, validated_choice}
-use Rattle.solve.specs.Solve.{solve}
 use Rattle.covariance.specs.declared.Band.{Band}
 use Rattle.covariance.specs.declared.PruningRule.{PruningRule}
 use Rattle.covariance.specs.Covariance.{errors_of}
@@ -53,7 +52,7 @@ use Rattle.book.specs.Calls.{Out, State, state_of, state_after, book_after, refu
 use Rattle.book.specs.Window.{window_refusal, with_place, window_out}
 use Rattle.book.specs.WindowLaws.{window_numbers, window_room}
 use Rattle.measure.specs.Places.{term_places}
-use Rattle.measure.specs.Measures.{inverse_fails, measure_refusal, covariance_at}
+use Rattle.measure.specs.Measures.{inverse_fails, measure_refusal}
 use Rattle.query.specs.Refusals.{fit_refusal, validate_refusal, band_refusal}
 use Rattle.query.specs.RefusalLaws.{fit_numbers, validate_numbers, band_numbers_lem, fit_room, validate_room}
 use Rattle.measure.specs.declared.BandAnswer.TheVariants as bands
@@ -61,7 +60,6 @@ use Rattle.measure.specs.Fits.{FitOut, fit_refused, fit_past}
 use Rattle.query.specs.Fits.{fit_on, fit_out, validate_past, validate_on, validate_out}
 use Rattle.measure.specs.Bands.{BandOut, band_refused, band_past}
 use Rattle.query.specs.Bands.{band_for, band_out}
-use Rattle.reporting.specs.declared.ReportAnswer.TheVariants as reports
 use Rattle.settings.specs.declared.Settings.{Settings}
 use Rattle.reporting.specs.declared.Places.{Places}
 use Rattle.report.specs.Refusals.{report_refusal}

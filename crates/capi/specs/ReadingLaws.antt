@@ -42,7 +42,7 @@ use Rattle.capi.specs.LossFitting.{loss_fits}
 use Rattle.capi.specs.Fitting.{open_fits, add_fits, correct_fits, withdraw_fits, frame_fits, lines_fits, window_fits, fit_fits, validate_fits, band_fits, report_fits}
 use Rattle.capi.specs.PairFitting as pair
 use Rattle.capi.specs.ReplayFitting.{replay_fits}
-use Rattle.capi.specs.Reading.{number_in, degree_in, solved_in, pruned_in, outliers_in, count_in, BookRead, FitRead, BandRead, ReportRead, LossRead, OpenedRead, ReadRead}
+use Rattle.capi.specs.Reading.{number_in, count_in, BookRead, FitRead, BandRead, ReportRead, LossRead, OpenedRead, ReadRead}
 
 -- a number of a low part below m and a high part
 module _ (m low high : ℕ) (below : low < m) where

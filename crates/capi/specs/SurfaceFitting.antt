@@ -1,5 +1,5 @@
 -- What a surface's calls answer fits its fields, as a curve's does, and reading it gives the answer back.
-use Rattle.std.specs.Prelude.{◌≡◌, refl, ℕ, ◌≤◌, List, length, Float}
+use Rattle.std.specs.Prelude.{refl, ℕ, List, length, Float}
 use Rattle.std.proofs.Common.{arith}
 use Rattle.std.proofs.Math.ListN.{length-map}
 use Rattle.basis.specs.Counts.{count_of}

@@ -1,6 +1,7 @@
 // The C interface: the book's calls over numbers and slices. Each is promised, for every input, to answer the book's own answer, packed into one
 // u64, and to leave every lent place as the book's own call leaves it. A slice is a pointer and a length in C.
 #![tactic(auto)]
+
 mod packed;
 mod stake_changes;
 mod stake_reads;
