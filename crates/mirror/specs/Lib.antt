@@ -7,7 +7,6 @@ pub mod SumLaws
 pub mod SolveLaws
 pub mod FitLaws
 pub mod CovarianceLaws
-pub mod BandLaws
 pub mod PruningLaws
 pub mod FoldLaws
 pub mod SplitLaws

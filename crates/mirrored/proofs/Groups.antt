@@ -29,9 +29,9 @@ use Rattle.mirror.specs.FitLaws.{scored_mirror}
 use Rattle.mirrored.specs.Samples.{MirrorSamples}
 use Rattle.mirrored.specs.SampleLaws.{rows_mirror, book_sums_mirror}
 use Rattle.mirrored.specs.Calls.{ByCall}
-use Rattle.mirrored.specs.CallLaws.{related_by_call}
+use Rattle.mirrored.proofs.CallLaws.{related_by_call}
 use Rattle.mirrored.specs.Groups.{MirrorShared, MirrorFed, MirrorGroupReply, MirrorLedger, held_by, GroupImage, SameTable, AnyGroupMirror}
-use Rattle.mirrored.specs.GroupLaws.{only_mirror, surface_scores_mirror, group_next_mirror, group_reply_mirror}
+use Rattle.mirrored.proofs.GroupLaws.{only_mirror, surface_scores_mirror, group_next_mirror, group_reply_mirror}
 use Rattle.mirrored.specs.Flipped.{flip_shared, SharedInBytes}
 use Rattle.mirrored.specs.FlippedLaws.{flip_shared_calls}
 use Rattle.mirrored.proofs.Strays.{strays}

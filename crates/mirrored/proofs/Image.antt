@@ -19,7 +19,7 @@ use Rattle.mirror.specs.FitLaws.{scored_mirror}
 use Rattle.mirrored.specs.Samples.{MirrorSamples}
 use Rattle.mirrored.specs.SampleLaws.{rows_mirror, book_sums_mirror}
 use Rattle.mirrored.specs.Calls.{MirrorCall, MirrorCalls, MirrorReply, ByCall}
-use Rattle.mirrored.specs.CallLaws.{next_mirror, reply_mirror, related_by_call}
+use Rattle.mirrored.proofs.CallLaws.{next_mirror, reply_mirror, related_by_call}
 use Rattle.mirrored.specs.Flipped.{flip_call, InBytes}
 use Rattle.mirrored.specs.FlippedLaws.{flip_calls}
 use Rattle.mirrored.specs.Image.{Image, AnyMirror}

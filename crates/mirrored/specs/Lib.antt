@@ -2,16 +2,11 @@
 pub mod Samples
 pub mod SampleLaws
 pub mod Replies
-pub mod ReplyLaws
-pub mod ReadLaws
-pub mod SurfaceLaws
 pub mod Frames
 pub mod FrameLaws
 pub mod Calls
-pub mod CallLaws
 pub mod Image
 pub mod Groups
-pub mod GroupLaws
 pub mod Carried
 pub mod Flipped
 pub mod TextLaws

@@ -1,5 +1,6 @@
 -- `carried::carry` meets its contract: refused, nothing changes; else there is room, and it leaves what `fill` does.
 use mathlib.Core.Path.{refl, sym, ◌∙◌}
+use native.Mathlib.Omega.{arith}
 use Rattle.samples.specs.Columns.{columns_of}
 use Rattle.samples.specs.ColumnLaws.{columns_are}
 use Rattle.book.specs.CallLaws.{is_refused, is_done}
@@ -12,7 +13,7 @@ unfolding carry_out
 returns-then-refusal-ne0 c = is_refused _ _ _ _ _ c.carry_refusal-refusal.ensures c.if-refusal-ne0.true
 
 pub fill-requires : goal.fill-requires
-fill-requires c = (carry_room _ _ _ (sym c.carry_refusal-refusal.ensures ∙ c.if-refusal-ne0.false)).within.1.1.0
+fill-requires c = omega (arith, (carry_room _ _ _ (sym c.carry_refusal-refusal.ensures ∙ c.if-refusal-ne0.false)).within.1.1.0)
 
 pub returns : goal.returns
 unfolding carry_out

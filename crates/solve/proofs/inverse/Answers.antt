@@ -8,11 +8,8 @@ use Rattle.solve.specs.Solve.{inverse_columns, ridge}
 use Rattle.solve.proofs.Steps.{inverse_is, length_ridged, column_is, holds_is}
 use Rattle.solve.proofs.inverse.Goals as goal
 
-pub slice_bounds-eliminate-end : goal.slice_bounds-eliminate-end
-slice_bounds-eliminate-end c = sym (length_ridged c.args.sums.now c.args.k.0 _ _ (search rules) c.matrix_of-a.ensures c.ridge.ensures)
-
 pub eliminate-requires : goal.eliminate-requires
-eliminate-requires c = (omega (arith, length_ridged c.args.sums.now c.args.k.0 _ _ (search rules) c.matrix_of-a.ensures c.ridge.ensures), search rules)
+eliminate-requires c = (omega arith, search rules)
 
 pub columns-preserved : goal.columns-preserved
 columns-preserved c = rw (c.put_column.ensures, c.back_substitution.ensures, column_is c.args.k.0 c.ridge.new.m c.columns.j c.columns.v _ c.eliminate.ensures)

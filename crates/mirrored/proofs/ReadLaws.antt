@@ -36,7 +36,7 @@ use Rattle.mirror.specs.FoldLaws.{validation_mirror}
 use Rattle.mirrored.specs.Samples.{MirrorSamples}
 use Rattle.mirrored.specs.SampleLaws.{rows_mirror, weights_mirror, xs_mirror, all_finite_mirror}
 use Rattle.mirrored.specs.Replies.{MirrorFit, MirrorBandOut, MirrorReport, MirrorSplit, MirrorTold, fit, band, report, split, loss, score, BySize, PrunesBySize}
-use Rattle.mirrored.specs.ReplyLaws.{settle_mirror, fit_refused_lem, band_refused_lem, report_refused, split_refused_lem, chosen_mirror, fit_past_mirror, band_past_mirror, report_of_mirror, split_past_mirror}
+use Rattle.mirrored.proofs.ReplyLaws.{settle_mirror, fit_refused_lem, band_refused_lem, report_refused, split_refused_lem, chosen_mirror, fit_past_mirror, band_past_mirror, report_of_mirror, split_past_mirror}
 
 module _ {s t : List Float} (h : MirrorSums s t) {ps qs : List Sample} (p : MirrorSamples ps qs) (n : ℕ) (columns : List ℕ) (places : ℕ) where
   -- ---- the asked degree

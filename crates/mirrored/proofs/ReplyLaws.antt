@@ -38,7 +38,7 @@ use Rattle.mirror.specs.Mirror.{MirrorRows, MirrorWeights, Opposites, MirrorSums
 use Rattle.mirror.specs.SolveLaws.{coefficients_mirror}
 use Rattle.mirror.specs.FitLaws.{solved_mirror}
 use Rattle.mirror.specs.CovarianceLaws.{fails_mirror, measure_mirror, covariance_mirror}
-use Rattle.mirror.specs.BandLaws.{rows_deviation_mirror, band_mirror, lowers_mirror, uppers_mirror, outliers_mirror}
+use Rattle.mirror.proofs.BandLaws.{rows_deviation_mirror, band_mirror, lowers_mirror, uppers_mirror, outliers_mirror}
 use Rattle.mirror.specs.PruningLaws.{pruned_mirror}
 use Rattle.mirror.specs.SplitLaws.{side_fit_mirror, best_mirror, search_mirror}
 use Rattle.mirrored.specs.Replies.{MirrorFit, MirrorBandAnswer, band, refused, MirrorBandOut, MirrorReport, MirrorAnswer, report, MirrorSplit, BySize}

@@ -26,10 +26,10 @@ use Rattle.mirror.specs.SplitLaws.{search_mirror}
 use Rattle.mirrored.specs.Samples.{MirrorSamples, MirrorPoints}
 use Rattle.mirrored.specs.SampleLaws.{rows_mirror, weights_mirror, book_sums_mirror, all_finite_mirror, point_rows_mirror, surface_sums_mirror, points_finite_mirror}
 use Rattle.mirrored.specs.Replies.{MirrorTold, MirrorReport, MirrorSplit, fit, band, report, split, BySize}
-use Rattle.mirrored.specs.ReplyLaws.{settle_mirror, report_refused, split_refused_lem, split_past_mirror, limited_mirror}
-use Rattle.mirrored.specs.ReadLaws.{report_choice_mirror}
-use Rattle.mirrored.specs.SurfaceLaws.{surface_fit_mirror, surface_report_mirror, surface_band_mirror, surface_choice_mirror}
-use Rattle.mirrored.specs.CallLaws.{next_mirror, reply_mirror}
+use Rattle.mirrored.proofs.ReplyLaws.{settle_mirror, report_refused, split_refused_lem, split_past_mirror, limited_mirror}
+use Rattle.mirrored.proofs.ReadLaws.{report_choice_mirror}
+use Rattle.mirrored.proofs.SurfaceLaws.{surface_fit_mirror, surface_report_mirror, surface_band_mirror, surface_choice_mirror}
+use Rattle.mirrored.proofs.CallLaws.{next_mirror, reply_mirror}
 use Rattle.mirrored.specs.Groups.{MirrorSurface, surface_fitting, surface_reporting, surface_banding, MirrorCost, group_reporting, group_surfacing, group_splitting, of_book, of_surface, of_cost, MirrorShared, starting_all, renewing_all, made, MirrorFed, starting, renewing, calling, SurfaceBySize, CostBySize, MirrorGroupReply, start_reply, renew_reply, book_reply, surface_reply, charged_reply, MirrorLedger, surface_reported, surface_scored, SameScores}
 
 -- ---- what a group is fed

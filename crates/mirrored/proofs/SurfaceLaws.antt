@@ -13,7 +13,7 @@ use Rattle.mirror.specs.FitLaws.{choice_mirror}
 use Rattle.mirrored.specs.Samples.{MirrorPoints}
 use Rattle.mirrored.specs.SampleLaws.{point_rows_mirror, surface_sums_mirror, xs_in_mirror, zs_in_mirror, points_finite_mirror}
 use Rattle.mirrored.specs.Replies.{MirrorFit, MirrorBandOut, MirrorReport, BySize}
-use Rattle.mirrored.specs.ReplyLaws.{settle_mirror, fit_refused_lem, band_refused_lem, report_refused, fit_past_mirror, band_past_mirror, report_of_mirror}
+use Rattle.mirrored.proofs.ReplyLaws.{settle_mirror, fit_refused_lem, band_refused_lem, report_refused, fit_past_mirror, band_past_mirror, report_of_mirror}
 
 module _ {ps qs : List Point} (p : MirrorPoints ps qs) (n : ℕ) (columns : List ℕ) where
   pub surface_fit_mirror : (degree scratch coefficients : ℕ)

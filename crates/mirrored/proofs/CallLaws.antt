@@ -18,8 +18,8 @@ use Rattle.mirror.specs.PairLaws.{pairs_length, pairs_append, pairs_take, pairs_
 use Rattle.mirrored.specs.Samples.{MirrorSamples}
 use Rattle.mirrored.specs.SampleLaws.{book_sums_mirror, sample_finite_mirror, weight_above_mirror, all_finite_mirror, all_above_mirror}
 use Rattle.mirrored.specs.Replies.{MirrorTold, PrunesBySize}
-use Rattle.mirrored.specs.ReplyLaws.{settle_mirror}
-use Rattle.mirrored.specs.ReadLaws.{read_on_mirror}
+use Rattle.mirrored.proofs.ReplyLaws.{settle_mirror}
+use Rattle.mirrored.proofs.ReadLaws.{read_on_mirror}
 use Rattle.mirrored.specs.Calls.{MirrorChange, adding, correcting, withdrawing, framing, writing, windowing, MirrorCall, changing, reading, MirrorReply, answer, reply, ByCall, no_call, next_call}
 
 -- ---- a call that changes a book
