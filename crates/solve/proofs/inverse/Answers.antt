@@ -5,7 +5,7 @@ use borrow.Author.Tests.{le-leb, lt-leb}
 use native.Mathlib.Omega.{arith}
 use Rattle.loops.specs.LoopLaws.{while_again, while_fails, while_done}
 use Rattle.solve.specs.Solve.{inverse_columns, ridge}
-use Rattle.solve.proofs.Steps.{inverse_is, length_ridged, column_is, holds_is}
+use Rattle.solve.proofs.Steps.{inverse_is, column_is, holds_is}
 use Rattle.solve.proofs.inverse.Goals as goal
 
 pub eliminate-requires : goal.eliminate-requires
