@@ -1,6 +1,6 @@
 #!/usr/bin/env python3
 """The words of the refusals stand once, in include/refusals.txt: a line for each, NUMBER<TAB>words, in the checking order, 255 last. This writes them into the
-header's table; with --check it writes nothing, and fails where header and file differ. Run in the repository's root.
+header's table and into Python's copy; with --check it writes nothing, and fails where either differs from the file. Run in the repository's root.
 
 The file is judged too: its numbers must be those of `checking_order` (crates/refusal/specs/Refusals.antt), in that order, which every call is proved to keep.
 A line of the table that begins with no number is a note: it is the header's own and stays behind the refusal that it stands behind."""
@@ -10,6 +10,8 @@ from pathlib import Path
 
 WORDS = Path('include/refusals.txt')
 HEADER = Path('include/stakebook.h')
+# the repository has no links, so Python's package has a copy
+COPY = Path('python/stakebook/refusals.txt')
 ORDER = Path('crates/refusal/specs/Refusals.antt')
 MALFORMED = 255
 LONGEST = 165  # of a line in the header
@@ -85,9 +87,13 @@ def main():
                 fail(f'{HEADER}:{line} is not as {WORDS} has it; `python3 tools/refusal_words.py` writes it:\n{should_be}')
         if header != right:
             fail(f'{HEADER} has more or fewer refusals than {WORDS}; `python3 tools/refusal_words.py` writes them')
-    elif header != right:
-        HEADER.write_text(right, encoding='utf-8')
-    print(f'refusal words: {len(words)} in the checking order, and the header has them')
+        if COPY.read_bytes() != WORDS.read_bytes():
+            fail(f'{COPY} is not as {WORDS}; `python3 tools/refusal_words.py` writes it')
+    else:
+        if header != right:
+            HEADER.write_text(right, encoding='utf-8')
+        COPY.write_bytes(WORDS.read_bytes())
+    print(f'refusal words: {len(words)} in the checking order, and the header and Python have them')
 
 
 main()
