@@ -68,11 +68,12 @@ $(LIB)/$(SHARED): $(LIB)/stakebook.o $(LIB)/stakebook.map
 	$(CC) -shared -nostartfiles -o $@ $< -Wl,-soname,$(SONAME) -Wl,--version-script=$(LIB)/stakebook.map -Wl,-z,defs -Wl,-z,relro -Wl,-z,now \
 	    -Wl,-z,noexecstack -Wl,--as-needed -Wl,--hash-style=gnu -Wl,--build-id=sha1 -Wl,--strip-all $(LDFLAGS)
 
+# Copies here, and links where it is installed: `rt ci` takes no link in the checkout.
 $(LIB)/$(SONAME): $(LIB)/$(SHARED)
-	ln -sf $(SHARED) $@
+	cp $(LIB)/$(SHARED) $@
 
 $(LIB)/libstakebook.so: $(LIB)/$(SONAME)
-	ln -sf $(SONAME) $@
+	cp $(LIB)/$(SONAME) $@
 
 # ---- manual pages: the version, the functions and the words of the refusals are filled in
 

@@ -54,4 +54,6 @@ install -m 644 packaging/debian/triggers "$root/DEBIAN"
 find "$root" -exec touch -h -d "@$SOURCE_DATE_EPOCH" {} +
 # one thread, so that the compressed bytes are those of any machine
 dpkg-deb --root-owner-group -Zxz -z6 --threads-max=1 --build "$root" "target/stakebook_${version}_$architecture.deb" >/dev/null
+# its links would stop `rt ci`
+rm -rf "$work"
 echo "target/stakebook_${version}_$architecture.deb"
