@@ -21,7 +21,10 @@ program() {
 }
 
 case ${1:-all} in
-all) library && program ;;
+all)
+    library
+    program
+    ;;
 capi) library ;;
 stakebook) program ;;
 *) sed -n '2,6s/^# \{0,1\}//p' "$0" >&2 && exit 2 ;;

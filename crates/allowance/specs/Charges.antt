@@ -18,7 +18,7 @@ use Rattle.surface.specs.Limited.{surface_within_past}
 use Rattle.split.specs.declared.Places.{Places as SplitPlaces}
 use Rattle.split.specs.declared.SplitAnswer.{SplitAnswer}
 use Rattle.split.specs.Search.{search_tests}
-use Rattle.split.specs.Splits.{SplitOut, LentSplit, split_refused, split_past, taken_of, places_of as splitPlacesOf, Does as SplitDoes}
+use Rattle.split.specs.Splits.{SplitOut, LentSplit, split_refused, split_past, taken_of, places_of as split_places_of, Does as SplitDoes}
 use Rattle.allowance.specs.Table.{counter_of, taken_from}
 use Rattle.allowance.specs.Refusals.{group_report_refusal, group_surface_refusal, group_split_refusal}
 
@@ -76,4 +76,4 @@ pub record SplitCharged (o : Charged SplitOut) (r : SplitAnswer) (w : LentSplit)
 
 abbrev pub GroupSplitIs : ℕ → ℕ → Settings → Columns → List Float → SplitAnswer → LentSplit → Contents ℕ → Type 0
 GroupSplitIs group n settings columns sums r w table =
-    SplitCharged (group_split_on group table.found n settings (samples_of n columns) (lengths columns) (length sums) (splitPlacesOf w)) r w table.left
+    SplitCharged (group_split_on group table.found n settings (samples_of n columns) (lengths columns) (length sums) (split_places_of w)) r w table.left

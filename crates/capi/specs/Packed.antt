@@ -29,7 +29,7 @@ use Rattle.split.specs.declared.Places.{Places as SplitPlaces}
 use Rattle.split.specs.declared.SplitAnswer.{SplitAnswer}
 use Rattle.split.specs.declared.SplitAnswer.TheVariants as splits
 use Rattle.split.specs.Rooms.{most_tests}
-use Rattle.split.specs.Splits.{SplitOut, LentSplit, split_refused, split_out, places_of as splitPlaces, Does as SplitDoes}
+use Rattle.split.specs.Splits.{SplitOut, LentSplit, split_refused, split_out, places_of as split_places, Does as SplitDoes}
 use Rattle.allowance.specs.declared.TableAnswer.{TableAnswer}
 use Rattle.allowance.specs.declared.TableAnswer.TheVariants as tables
 use Rattle.allowance.specs.Table.{TableOut}
@@ -199,10 +199,10 @@ ScoresFits (scores.Refused k) = RefusalFits k
 -- ---- what each call promises: the packed answer of the book's own call, and every lent list as that call leaves it
 
 -- of a call that changes a book, with weights or without: a, c and s are its answer, the columns and the sums that it leaves
-pub record ChangePacked {C : Type 0} (a : Answer) (c : C) (s : List Float) (r : ℕ) (left : C) (leftSums : List Float) : Type 0 where
+pub record ChangePacked {C : Type 0} (a : Answer) (c : C) (s : List Float) (r : ℕ) (left : C) (left_sums : List Float) : Type 0 where
   pub answer : r ≡ packed_book a
   pub columns : left ≡ c
-  pub sums : leftSums ≡ s
+  pub sums : left_sums ≡ s
 
 abbrev pub BookPacked : Out → ℕ → Columns → List Float → Type 0
 BookPacked o r columns sums = ChangePacked o.answer o.columns o.sums r columns sums
@@ -243,7 +243,7 @@ pub record SplitPacked (o : SplitOut) (r : ℕ) (w : LentSplit) (v : Slice Float
 -- of a split of these columns
 abbrev pub SplitPackedIs : ℕ → Settings → ℕ → Columns → List Float → ℕ → LentSplit → Slice Float → Type 0
 SplitPackedIs n settings limit columns sums r w v =
-    SplitPacked (split_into (length (before v)) (split_out n settings limit columns (length sums) (splitPlaces w))) r w v
+    SplitPacked (split_into (length (before v)) (split_out n settings limit columns (length sums) (split_places w))) r w v
 
 -- t: the table
 pub record TablePacked (o : TableOut) (r : ℕ) (t : Slice ℕ) : Type 0 where
@@ -283,7 +283,7 @@ group_split_out group table n settings columns sums places = group_split_on grou
 abbrev pub GroupSplitPackedIs : ℕ → ℕ → Settings → Columns → List Float → ℕ → LentSplit → Slice Float → Slice ℕ → Type 0
 GroupSplitPackedIs group n settings columns sums r w v t =
     SplitChargedPacked
-    (charged_into (length (before v)) (before t) (group_split_out group (before t) n settings columns (length sums) (splitPlaces w))) r w v t
+    (charged_into (length (before v)) (before t) (group_split_out group (before t) n settings columns (length sums) (split_places w))) r w v t
 
 -- s, l and v: scratch, the losses, and the lent places for their total and score
 pub record LossPacked (o : LossOut) (r : ℕ) (s l v : Slice Float) : Type 0 where

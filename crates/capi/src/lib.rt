@@ -24,8 +24,8 @@ ghost use Rattle.scores.specs.Scores.{scores_out};
 ghost use Rattle.carried.specs.Carry.{carry_out};
 ghost use Rattle.split.specs.Splits.{lent_split};
 ghost use Rattle.allowance.specs.Table.{start_out, renew_out};
-ghost use Rattle.two_column.specs.Pairs.{columns as pairColumns};
-ghost use Rattle.two_column.specs.Calls.{open_out as pairOpenOut, add_out as pairAddOut, correct_out as pairCorrectOut, withdraw_out as pairWithdrawOut, add_frame_out as pairFrameOut};
+ghost use Rattle.two_column.specs.Pairs.{columns as pair_columns};
+ghost use Rattle.two_column.specs.Calls.{open_out as pair_open_out, add_out as pair_add_out, correct_out as pair_correct_out, withdraw_out as pair_withdraw_out, add_frame_out as pair_frame_out};
 ghost use Rattle.replay.specs.Replay.{memory};
 ghost use Rattle.settings.specs.Numbers.{bound_of, criterion_of, confidence_of, tolerance_of, settings_of, settings_in};
 ghost use Rattle.capi.specs.Packed.{packed_fields, packed_report, ReportFits, packed_band, band_numbers, BookPacked, PairPacked, FitPacked, BandPacked, band_into, ReportPackedIs, SurfacePackedIs, packed_split, split_total, SplitFits, SplitPackedIs, TablePacked, GroupReportPackedIs, GroupSurfacePackedIs, GroupSplitPackedIs, packed_losses, loss_numbers, LossPacked, loss_into, packed_scores, least_number, ScoresFits, ScoresPacked, scores_into, packed_opened, packed_read, read_numbers, ReadPacked, ReplayPacked};
@@ -270,7 +270,7 @@ pub extern "C" fn stakebook_add_lines(
 // The calls that change a two-column book, whose samples have no weight. An empty one.
 #[unsafe(no_mangle)]
 pub extern "C" fn stakebook_two_column_open(sums: &mut [f64]) -> u64
-    ensures { PairPacked (pairOpenOut (before sums)) result (pairColumns [] []) (after sums) }
+    ensures { PairPacked (pair_open_out (before sums)) result (pair_columns [] []) (after sums) }
 {
     packed::book(two_column::open(sums))
 }
@@ -285,7 +285,7 @@ pub extern "C" fn stakebook_two_column_add(
     ys: &mut [f64],
     sums: &mut [f64],
 ) -> u64
-    ensures { PairPacked (pairAddOut count (record { x = x; y = y }) (pairColumns (before xs) (before ys)) (before sums)) result (pairColumns (after xs) (after ys)) (after sums) }
+    ensures { PairPacked (pair_add_out count (record { x = x; y = y }) (pair_columns (before xs) (before ys)) (before sums)) result (pair_columns (after xs) (after ys)) (after sums) }
 {
     packed::book(two_column::add(Book { count }, x, y, xs, ys, sums))
 }
@@ -300,7 +300,7 @@ pub extern "C" fn stakebook_two_column_correct(
     ys: &mut [f64],
     sums: &mut [f64],
 ) -> u64
-    ensures { PairPacked (pairCorrectOut count i y (pairColumns xs.now (before ys)) (before sums)) result (pairColumns xs.now (after ys)) (after sums) }
+    ensures { PairPacked (pair_correct_out count i y (pair_columns xs.now (before ys)) (before sums)) result (pair_columns xs.now (after ys)) (after sums) }
 {
     packed::book(two_column::correct(Book { count }, i, y, xs, ys, sums))
 }
@@ -314,7 +314,7 @@ pub extern "C" fn stakebook_two_column_withdraw(
     ys: &mut [f64],
     sums: &mut [f64],
 ) -> u64
-    ensures { PairPacked (pairWithdrawOut count i (pairColumns (before xs) (before ys)) (before sums)) result (pairColumns (after xs) (after ys)) (after sums) }
+    ensures { PairPacked (pair_withdraw_out count i (pair_columns (before xs) (before ys)) (before sums)) result (pair_columns (after xs) (after ys)) (after sums) }
 {
     packed::book(two_column::withdraw(Book { count }, i, xs, ys, sums))
 }
@@ -328,7 +328,7 @@ pub extern "C" fn stakebook_two_column_add_frame(
     ys: &mut [f64],
     sums: &mut [f64],
 ) -> u64
-    ensures { PairPacked (pairFrameOut count frame.now (pairColumns (before xs) (before ys)) (before sums)) result (pairColumns (after xs) (after ys)) (after sums) }
+    ensures { PairPacked (pair_frame_out count frame.now (pair_columns (before xs) (before ys)) (before sums)) result (pair_columns (after xs) (after ys)) (after sums) }
 {
     packed::book(two_column::add_frame(Book { count }, frame, xs, ys, sums))
 }

@@ -11,11 +11,11 @@ ghost use Rattle.statistics.specs.Variances.{stddev_and_mean};
 ghost use Rattle.monomial.specs.Terms.{terms_at};
 ghost use Rattle.monomial.specs.Rows.{fitted, rows_at};
 ghost use Rattle.covariance.specs.Covariance.{covariance_of, errors_of, column_of, prediction_variance};
-ghost use Rattle.covariance.specs.Marks.{mark as markF, ones};
+ghost use Rattle.covariance.specs.Marks.{mark as mark_f, ones};
 ghost use Rattle.covariance.specs.BandsFrom.{band_from, outlier_from};
-ghost use Rattle.covariance.specs.Bands.{widened, width_of, band_of, band_at, outlies as outliesF, lowers_of, uppers_of, outliers_of};
+ghost use Rattle.covariance.specs.Bands.{widened, width_of, band_of, band_at, outlies as outlies_f, lowers_of, uppers_of, outliers_of};
 ghost use Rattle.covariance.specs.Spread.{DoesFor};
-ghost use Rattle.covariance.specs.Pruning.{tested as testedF, prunes as prunesF, pruned_bytes};
+ghost use Rattle.covariance.specs.Pruning.{tested as tested_f, prunes as prunes_f, pruned_bytes};
 
 use basis::{Basis, CoefficientCount, MATRIX, TERMS};
 use statistics::Tolerance;
@@ -157,7 +157,7 @@ pub fn band_at(
 
 // Whether y is below the band or above it.
 pub fn outlies(band: Band, y: f64) -> bool
-    ensures { result ≡ outliesF band y }
+    ensures { result ≡ outlies_f band y }
 {
     (y < band.lower) | (y > band.upper)
 }
@@ -172,7 +172,7 @@ pub enum PruningRule {
 // What a rule holds against 2⁻⁵²: the coefficient c itself, or its size.
 fn tested(rule: PruningRule, c: f64, size: f64) -> f64
     requires { size ≡ abs_f c }
-    ensures { result ≡ testedF rule c }
+    ensures { result ≡ tested_f rule c }
 {
     match rule {
         PruningRule::Positive => c,
@@ -182,7 +182,7 @@ fn tested(rule: PruningRule, c: f64, size: f64) -> f64
 
 // Whether a coefficient c is pruned, t the t score.
 pub fn prunes(rule: PruningRule, t: f64, c: f64, error: f64) -> bool
-    ensures { result ≡ prunesF rule t c error }
+    ensures { result ≡ prunes_f rule t c error }
 {
     let size = value::abs(c);
     (tested(rule, c, size) > EPSILON) & (size / error < t)
@@ -190,7 +190,7 @@ pub fn prunes(rule: PruningRule, t: f64, c: f64, error: f64) -> bool
 
 // 1 where a test passes, else 0.
 fn mark(b: bool) -> u8
-    ensures { (result ≡ markF b) × (result ≤ 1) }
+    ensures { (result ≡ mark_f b) × (result ≤ 1) }
 {
     if b { 1 } else { 0 }
 }

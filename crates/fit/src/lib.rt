@@ -14,7 +14,7 @@ ghost use Rattle.monomial.specs.Terms.{terms_at};
 ghost use Rattle.monomial.specs.Rows.{rows_at};
 ghost use Rattle.solve.specs.Solve.{solve};
 ghost use Rattle.score.specs.Score.{score_of};
-ghost use Rattle.fit.specs.Residuals.{residual as residualF, residuals};
+ghost use Rattle.fit.specs.Residuals.{residual as residual_f, residuals};
 ghost use Rattle.fit.specs.Solved.{scored_by, pivot_tests};
 ghost use Rattle.fit.specs.Chosen.{counts_of, choice_of};
 ghost use Rattle.fit.specs.Promises.{Attempted};
@@ -25,7 +25,7 @@ use score::Criterion;
 // y less the fitted value at x and z.
 fn residual(basis: Basis, k: CoefficientCount, c: &[f64; TERMS], x: f64, z: f64, y: f64) -> f64
     requires { k.0 ≤ max_terms }
-    ensures { result ≡ residualF k.0 c.now (record { terms = terms_at basis x z; y = y }) }
+    ensures { result ≡ residual_f k.0 c.now (record { terms = terms_at basis x z; y = y }) }
 {
     y - monomial::fitted_at(basis, k, c, x, z)
 }

@@ -13,7 +13,7 @@ ghost use Rattle.monomial.specs.Corner.{SameCorner};
 ghost use Rattle.choice.specs.Choice.{chosen_of};
 ghost use Rattle.fit.specs.Solved.{scored_by};
 ghost use Rattle.folds.specs.Folds.{start_of, end_of, own_of, degree_scored, mean_of, validated_choice};
-ghost use Rattle.folds.specs.Tallies.{plus as plusF, more as more_f, Tallied};
+ghost use Rattle.folds.specs.Tallies.{plus as plus_f, more as more_f, Tallied};
 
 use basis::{Basis, CoefficientCount, Degree, OptionDegree, SUMS, TERMS};
 use choice::Scored;
@@ -113,7 +113,7 @@ fn score_fold(
 
 // A solved fold's score is added to the total,
 fn plus(s: Scored, total: f64) -> f64
-    ensures { result ≡ plusF s total }
+    ensures { result ≡ plus_f s total }
 {
     if s.solved {
         return total + s.score;

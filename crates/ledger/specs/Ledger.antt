@@ -4,7 +4,7 @@ use Rattle.std.specs.Prelude.{◌≡◌, List, [], ◌∷◌, ◌++◌, map, ℕ
 use Rattle.std.specs.Float.{nan}
 use Rattle.basis.specs.Sizes.{sum_places}
 use Rattle.loops.specs.Fold.{fold}
-use Rattle.runs.specs.Runs.{Machine, replies as repliesOf, history}
+use Rattle.runs.specs.Runs.{Machine, replies as replies_of, history}
 use Rattle.samples.specs.Samples.{Sample}
 use Rattle.monomial.specs.Rows.{weighted_rows}
 use Rattle.monomial.specs.Sums.{sums_of}
@@ -83,7 +83,7 @@ abbrev pub final : {R : Type 0} → State → List (Call R) → State
 final s cs = fold next s cs
 
 abbrev pub program_replies : {R W : Type 0} → Reading R W → State → List (Call R) → List (Reply W)
-program_replies read_on s cs = repliesOf (program read_on) s cs
+program_replies read_on s cs = replies_of (program read_on) s cs
 
 -- a book just opened, over columns that hold anything
 abbrev pub opened : Columns → List Float → State
@@ -138,7 +138,7 @@ abbrev pub ledger_end : {R : Type 0} → Lent → List Sample → List (Call R) 
 ledger_end m l cs = fold (ledger_next m) l cs
 
 abbrev pub ledger_replies : {R W : Type 0} → Reading R W → Lent → List Sample → List (Call R) → List (Reply W)
-ledger_replies read_on m l cs = repliesOf (ledger read_on m) l cs
+ledger_replies read_on m l cs = replies_of (ledger read_on m) l cs
 
 -- what a place of a column holds while the values of the ledger's samples are vs, if it held v before: theirs where it is below the count, else v
 abbrev pub seen : Float → List Float → ℕ → Float

@@ -6,7 +6,7 @@ mod refusals;
 
 ghost use Rattle.std.specs.Prelude.{◌≡◌, ◌++◌, ◌≤◌, length, take, drop};
 ghost use Rattle.value.specs.Total.{total_f};
-ghost use Rattle.statistics.specs.Losses.{losses as lossesF};
+ghost use Rattle.statistics.specs.Losses.{losses as losses_f};
 ghost use Rattle.samples.specs.Columns.{columns_of};
 ghost use Rattle.lent.specs.Slices.{before, after, contents};
 ghost use Rattle.losses.specs.Losses.{LossIs, loss_out};
@@ -29,8 +29,8 @@ pub enum LossAnswer {
 // The first n places become the losses of the first n numbers, residuals or their sizes. Answers the total, in index order from +0.
 fn put_losses(a: &[f64], n: usize, out: &mut [f64]) -> f64
     requires { (n ≤ length a.now) × (n ≤ length out.old) }
-    ensures total { result ≡ total_f (lossesF (take n a.now)) }
-    ensures written { after out ≡ lossesF (take n a.now) ++ drop n (before out) }
+    ensures total { result ≡ total_f (losses_f (take n a.now)) }
+    ensures written { after out ≡ losses_f (take n a.now) ++ drop n (before out) }
 {
     let mad = statistics::median_absolute_deviation(a, n);
     let constant = statistics::huber_const();

@@ -37,7 +37,7 @@ use Rattle.mirrored.specs.FlippedLaws.{flip_shared_calls}
 use Rattle.mirrored.proofs.Strays.{strays}
 
 -- What the program replies and holds of a number is what its ledger does, from a book that holds the ledger's samples and a table that has its quota and, of
--- a group, its counter. Such is a book just opened (`opened_now`), a book in use (`IsWhole-from` of crate `ledger`) and one that was carried over (`carried_holds`
+-- a group, its counter. Such is a book just opened (`opened_now`), a book in use (`whole_from` of crate `ledger`) and one that was carried over (`carried_holds`
 -- of crate `carried`).
 module _ (group : ℕ) (m : Lent) (rest : List Float) (s : Shared) (g : GroupLedger) where
   pub record Begins : Type 0 where

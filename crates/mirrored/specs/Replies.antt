@@ -8,11 +8,11 @@ use Rattle.settings.specs.declared.Settings.{Settings}
 use Rattle.measure.specs.Fits.{FitOut}
 use Rattle.measure.specs.Bands.{BandOut}
 use Rattle.measure.specs.declared.BandAnswer.{BandAnswer}
-use Rattle.measure.specs.declared.BandAnswer.TheVariants as bandAnswers
+use Rattle.measure.specs.declared.BandAnswer.TheVariants as band_answers
 use Rattle.reporting.specs.Outputs.{Outputs}
 use Rattle.reporting.specs.Reports.{ReportOut}
 use Rattle.reporting.specs.declared.ReportAnswer.{ReportAnswer}
-use Rattle.reporting.specs.declared.ReportAnswer.TheVariants as reportAnswers
+use Rattle.reporting.specs.declared.ReportAnswer.TheVariants as report_answers
 use Rattle.split.specs.Splits.{SplitOut}
 use Rattle.losses.specs.Losses.{LossOut}
 use Rattle.scores.specs.Scores.{ScoresOut}
@@ -27,8 +27,8 @@ pub record MirrorFit (a b : FitOut) : Type 0 where
 
 -- a band: value, lower and upper change sign, lower and upper change places; refusals agree by number
 pub data MirrorBandAnswer : BandAnswer → BandAnswer → Type 0 where
-  band : {a b : Band} → MirrorBand a b → MirrorBandAnswer (bandAnswers.Band a) (bandAnswers.Band b)
-  refused : (k : ℕ) → MirrorBandAnswer (bandAnswers.Refused k) (bandAnswers.Refused k)
+  band : {a b : Band} → MirrorBand a b → MirrorBandAnswer (band_answers.Band a) (band_answers.Band b)
+  refused : (k : ℕ) → MirrorBandAnswer (band_answers.Refused k) (band_answers.Refused k)
 
 pub record MirrorBandOut (a b : BandOut) : Type 0 where
   pub answer : MirrorBandAnswer a.answer b.answer
@@ -37,8 +37,8 @@ pub record MirrorBandOut (a b : BandOut) : Type 0 where
 -- What a report answers: the degree, the number of solved degrees and that of outliers are equal, and refusals agree by number. The number of pruned
 -- terms is equal where pruning is by size, which is `sized`.
 pub data MirrorAnswer (sized : Type 0) : ReportAnswer → ReportAnswer → Type 0 where
-  report : (d : Degree) (solved outliers : ℕ) {p q : ℕ} → (sized → p ≡ q) → MirrorAnswer sized (reportAnswers.Report d solved outliers p) (reportAnswers.Report d solved outliers q)
-  refused : (k : ℕ) → MirrorAnswer sized (reportAnswers.Refused k) (reportAnswers.Refused k)
+  report : (d : Degree) (solved outliers : ℕ) {p q : ℕ} → (sized → p ≡ q) → MirrorAnswer sized (report_answers.Report d solved outliers p) (report_answers.Report d solved outliers q)
+  refused : (k : ℕ) → MirrorAnswer sized (report_answers.Refused k) (report_answers.Refused k)
 
 -- what it writes: coefficients change sign, errors are equal, lower and upper change places and sign, the outlier marks are equal, and so are the
 -- pruning bytes where pruning is by size

@@ -10,7 +10,7 @@ ghost use Rattle.loops.specs.Places.{each, table};
 ghost use Rattle.value.specs.Numbers.{zero_f};
 ghost use Rattle.value.specs.Power.{power_f};
 ghost use Rattle.monomial.specs.Terms.{surface_terms, terms_at};
-ghost use Rattle.monomial.specs.Rows.{weighted_row, weighted_of, weight_at, weighted_rows_at, fitted as fittedF};
+ghost use Rattle.monomial.specs.Rows.{weighted_row, weighted_of, weight_at, weighted_rows_at, fitted as fitted_f};
 ghost use Rattle.monomial.specs.Sums.{weighted_product, add_row, add_rows, sums_of};
 ghost use Rattle.monomial.specs.Corner.{CornerSet};
 ghost use Rattle.monomial.specs.Upper.{SameUpper, Symmetric};
@@ -20,7 +20,7 @@ use basis::{Basis, CoefficientCount, SUMS, TERMS};
 // Coefficient × term value, ascending, for the k coefficients.
 pub fn fitted(k: CoefficientCount, c: &[f64; TERMS], terms: &[f64; TERMS]) -> f64
     requires { k.0 ≤ max_terms }
-    ensures { result ≡ fittedF k.0 c.now terms.now }
+    ensures { result ≡ fitted_f k.0 c.now terms.now }
 {
     let n = k.0;
     let mut v = 0.0;
@@ -33,7 +33,7 @@ pub fn fitted(k: CoefficientCount, c: &[f64; TERMS], terms: &[f64; TERMS]) -> f6
 // The fitted value of up to four coefficients at x, for which few powers are worked out.
 fn fitted_low(k: CoefficientCount, c: &[f64; TERMS], x: f64) -> f64
     requires { k.0 ≤ 4 }
-    ensures { result ≡ fittedF k.0 c.now (table (power_f x) 16) }
+    ensures { result ≡ fitted_f k.0 c.now (table (power_f x) 16) }
 {
     let n = k.0;
     if n == 0 {
@@ -58,7 +58,7 @@ fn fitted_low(k: CoefficientCount, c: &[f64; TERMS], x: f64) -> f64
 // The fitted value of a curve at x.
 pub fn curve_at(k: CoefficientCount, c: &[f64; TERMS], x: f64) -> f64
     requires { k.0 ≤ max_terms }
-    ensures { result ≡ fittedF k.0 c.now (table (power_f x) 16) }
+    ensures { result ≡ fitted_f k.0 c.now (table (power_f x) 16) }
 {
     if k.0 <= 4 {
         return fitted_low(k, c, x);
@@ -110,7 +110,7 @@ pub fn terms_at(basis: Basis, x: f64, z: f64) -> [f64; TERMS]
 // The fitted value of a surface at x and z.
 pub fn surface_at(k: CoefficientCount, c: &[f64; TERMS], x: f64, z: f64) -> f64
     requires { k.0 ≤ max_terms }
-    ensures { result ≡ fittedF k.0 c.now (surface_terms x z) }
+    ensures { result ≡ fitted_f k.0 c.now (surface_terms x z) }
 {
     let terms = surface_terms(x, z);
     fitted(k, c, &terms)
@@ -119,7 +119,7 @@ pub fn surface_at(k: CoefficientCount, c: &[f64; TERMS], x: f64, z: f64) -> f64
 // The fitted value at x and z.
 pub fn fitted_at(basis: Basis, k: CoefficientCount, c: &[f64; TERMS], x: f64, z: f64) -> f64
     requires { k.0 ≤ max_terms }
-    ensures { result ≡ fittedF k.0 c.now (terms_at basis x z) }
+    ensures { result ≡ fitted_f k.0 c.now (terms_at basis x z) }
 {
     match basis {
         Basis::Curve => curve_at(k, c, x),

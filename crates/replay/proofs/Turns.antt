@@ -12,7 +12,7 @@ use Rattle.loops.specs.Fold.{fold}
 use Rattle.loops.specs.FoldLaws.{fold_table}
 use Rattle.loops.specs.Places.{table}
 use Rattle.loops.specs.PlaceLaws.{length_table}
-use Rattle.runs.specs.Runs.{replies as repliesOf}
+use Rattle.runs.specs.Runs.{replies as replies_of}
 use Rattle.runs.specs.RunLaws.{length_replies, replies_table}
 use Rattle.lent.specs.Written.{over}
 use Rattle.book.specs.declared.Answer.{Answer}
@@ -123,7 +123,7 @@ pub record Upto (kinds words : List ℕ) (numbers : List Float) (width : ℕ) (s
 
 module _ (kinds words : List ℕ) (numbers : List Float) (width : ℕ) where
   pub none : (n : ℕ) (m : Memory) → Upto kinds words numbers width (state_of n m.columns m.sums) m n m 0
-  unfolding table fold repliesOf write_all
+  unfolding table fold replies_of write_all
   none n m =
       record { upto = omega arith; same = record { columns = λ k. refl; sums = refl; results = refl; outputs = refl }; state = refl; results = refl; outputs = refl }
 

@@ -6,7 +6,7 @@ ghost use Rattle.samples.specs.Columns.{columns_of};
 ghost use Rattle.lent.specs.Slices.{before};
 ghost use Rattle.reporting.specs.Outputs.{outputs};
 ghost use Rattle.stakes.specs.Season.{season_of};
-ghost use Rattle.season_report.specs.Reports.{StakeReports, passes as passesF, SeasonReports};
+ghost use Rattle.season_report.specs.Reports.{StakeReports, passes as passes_f, SeasonReports};
 
 use book::Book;
 use reporting::ReportAnswer;
@@ -90,7 +90,7 @@ pub fn report(
 
 // 1 where a report is not refused, else 0.
 fn passes(answer: ReportAnswer) -> usize
-    ensures { (result ≡ passesF answer) × (result ≤ 1) }
+    ensures { (result ≡ passes_f answer) × (result ≤ 1) }
 {
     match answer {
         ReportAnswer::Report {

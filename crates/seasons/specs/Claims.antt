@@ -1,7 +1,7 @@
 -- What is claimed of a season book. The theorems are in proofs/. Definitions only.
 use Rattle.std.specs.Prelude.{◌≡◌, List, map, ℕ, ◌*◌, ◌≤◌, ◌<◌, length, get_or, drop, Float}
 use Rattle.loops.specs.Fold.{fold}
-use Rattle.runs.specs.Runs.{replies as repliesOf, only, pick}
+use Rattle.runs.specs.Runs.{replies as replies_of, only, pick}
 use Rattle.samples.specs.Columns.{Columns}
 use Rattle.statistics.specs.declared.Confidence.{Confidence}
 use Rattle.statistics.specs.declared.DegreeBound.{DegreeBound}
@@ -89,7 +89,7 @@ pub record EachReports (settings : Settings) (S : SeasonState) (w : Outputs) : T
 
 -- stake t's replies, and its part of each season report's, are those of a book of its own given its own calls, which it then is
 pub record OnItsOwn (S : SeasonState) (t : ℕ) (cs : List SeasonCall) : Type 0 where
-  pub replies : map (own_reply t) (pick (own_call t) cs (repliesOf season_book S cs)) ≡ repliesOf own_book (stake_state t S) (only (own_call t) cs)
+  pub replies : map (own_reply t) (pick (own_call t) cs (replies_of season_book S cs)) ≡ replies_of own_book (stake_state t S) (only (own_call t) cs)
   pub book : stake_state t (fold season_next S cs) ≡ fold book_next (stake_state t S) (only (own_call t) cs)
 
 -- from any season of 32 counts
@@ -98,7 +98,7 @@ StakeByStake = (S : SeasonState) → stakes ≤ length S.counts → (t : ℕ) �
 
 -- demand 3, stake by stake: from a season just opened, of any list in which the calls of stake t are calls of the ledger's lists
 pub record StakeWhole (columns : Columns) (sums : List Float) (S : SeasonState) (t : ℕ) (cs : List SeasonCall) (ds : List (Call ReadCall)) : Type 0 where
-  pub replies : map (own_reply t) (pick (own_call t) cs (repliesOf season_book S cs)) ≡ program_replies read_on (opened columns sums) ds
+  pub replies : map (own_reply t) (pick (own_call t) cs (replies_of season_book S cs)) ≡ program_replies read_on (opened columns sums) ds
   pub book : stake_state t (fold season_next S cs) ≡ final (opened columns sums) ds
   pub whole : WholeBook columns sums ds
 

@@ -4,9 +4,9 @@
 
 ghost use Rattle.std.specs.Prelude.{◌≡◌, ◌≤◌, ◌<◌, length};
 ghost use Rattle.basis.specs.Sizes.{matrix_places, max_terms, sum_places};
-ghost use Rattle.solve.specs.Solve.{eliminate as eliminateF, back, matrix_of, right_of, solve as solveF, ridge as ridgeF, put_column, inverse as inverseF};
+ghost use Rattle.solve.specs.Solve.{eliminate as eliminate_f, back, matrix_of, right_of, solve as solve_f, ridge as ridge_f, put_column, inverse as inverse_f};
 ghost use Rattle.solve.specs.Corner.{first_rows};
-ghost use Rattle.solve.specs.Nested.{stopped, elimination, front as frontF, solution_of};
+ghost use Rattle.solve.specs.Nested.{stopped, elimination, front as front_f, solution_of};
 
 use basis::{CoefficientCount, MATRIX, TERMS};
 
@@ -25,7 +25,7 @@ pub fn eliminate(
     b: &mut [f64; TERMS],
 ) -> usize
     requires { (matrix_places ≤ length start.now) × (k.0 ≤ max_terms) }
-    ensures { record { at = result; state = record { m = m.new; b = b.new } } ≡ eliminateF start.now k.0 (record { m = m.old; b = b.old }) }
+    ensures { record { at = result; state = record { m = m.new; b = b.new } } ≡ eliminate_f start.now k.0 (record { m = m.old; b = b.old }) }
 {
     let n = k.0;
     let mut p = 0;
@@ -112,7 +112,7 @@ pub struct Solved {
 // The k coefficients, from the corner of A and from g.
 pub fn solve(sums: &[f64], k: CoefficientCount) -> Solved
     requires { (sum_places ≤ length sums.now) × (k.0 ≤ max_terms) }
-    ensures { result ≡ solveF sums.now k.0 }
+    ensures { result ≡ solve_f sums.now k.0 }
 {
     let mut m = first_rows(sums, k);
     let mut b = right_of(sums, k);
@@ -149,7 +149,7 @@ pub fn eliminated(sums: &[f64], k: CoefficientCount) -> Elimination
 // The first k places of b, then +0.
 fn front(k: CoefficientCount, b: &[f64; TERMS]) -> [f64; TERMS]
     requires { k.0 ≤ max_terms }
-    ensures { result ≡ frontF k.0 b.now }
+    ensures { result ≡ front_f k.0 b.now }
 {
     let n = k.0;
     let mut c = [0.0; TERMS];
@@ -178,7 +178,7 @@ pub fn solution(held: usize, m: &[f64; MATRIX], b: &[f64; TERMS], k: Coefficient
 // Adds 2⁻⁵² to each diagonal place of the corner.
 fn ridge(k: CoefficientCount, m: &mut [f64; MATRIX])
     requires { k.0 ≤ max_terms }
-    ensures { m.new ≡ ridgeF k.0 m.old }
+    ensures { m.new ≡ ridge_f k.0 m.old }
 {
     let n = k.0;
     for i in 0..n {
@@ -208,7 +208,7 @@ pub struct Inverted {
 // The inverse of the corner of A with 2⁻⁵² first added to each diagonal place, one unit column after the other.
 pub fn inverse(sums: &[f64], k: CoefficientCount) -> Inverted
     requires { (matrix_places ≤ length sums.now) × (k.0 ≤ max_terms) }
-    ensures { result ≡ inverseF sums.now k.0 }
+    ensures { result ≡ inverse_f sums.now k.0 }
 {
     let n = k.0;
     let a = matrix_of(sums);

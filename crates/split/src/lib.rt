@@ -16,7 +16,7 @@ ghost use Rattle.monomial.specs.Sums.{sums_of};
 ghost use Rattle.monomial.specs.Corner.{SameCorner};
 ghost use Rattle.fit.specs.Chosen.{choice_of, counts_of};
 ghost use Rattle.lent.specs.Slices.{before, after};
-ghost use Rattle.split.specs.Search.{side_fit, better as betterF, left_of, right_of};
+ghost use Rattle.split.specs.Search.{side_fit, better as better_f, left_of, right_of};
 ghost use Rattle.split.specs.Splits.{Searches, SplitIs, SplitWithinIs, lent_split};
 
 use basis::{Basis, CoefficientCount, Degree, OptionDegree, SUMS, TERMS};
@@ -61,7 +61,7 @@ pub enum SplitAnswer {
 
 // A break with both sides chosen takes the place of none, and of one whose total is greater.
 fn better(b: usize, left: Choice, right: Choice, best: Best) -> Best
-    ensures { result ≡ betterF b left right best }
+    ensures { result ≡ better_f b left right best }
 {
     let l = left.chosen;
     let r = right.chosen;

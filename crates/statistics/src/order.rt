@@ -5,8 +5,8 @@ ghost use Rattle.std.specs.Float.{binary64};
 ghost use Rattle.std.specs.Float.Ieee.{sub};
 ghost use Rattle.loops.specs.All.{All};
 ghost use Rattle.value.specs.Absolute.{abs_f};
-ghost use Rattle.statistics.specs.Medians.{any_nan, midpoint as midpointF, median_of};
-ghost use Rattle.statistics.specs.Counting.{Plain, distances, one, count, upto, under, between, keep, Middles, Narrowed, nearer as nearerF, farther as fartherF, least_from, greatest_under};
+ghost use Rattle.statistics.specs.Medians.{any_nan, midpoint as midpoint_f, median_of};
+ghost use Rattle.statistics.specs.Counting.{Plain, distances, one, count, upto, under, between, keep, Middles, Narrowed, nearer as nearer_f, farther as farther_f, least_from, greatest_under};
 
 // The bits of ||x| − d|.
 fn key(x: f64, d: f64) -> u64
@@ -45,7 +45,7 @@ fn count_upto(a: &[f64], n: usize, d: f64, b: u64) -> usize
 
 // Of k and v: k where it is b or above, and below v.
 fn nearer(b: u64, k: u64, v: u64) -> u64
-    ensures { result ≡ nearerF b k v }
+    ensures { result ≡ nearer_f b k v }
 {
     if (b <= k) & (k < v) {
         return k;
@@ -55,7 +55,7 @@ fn nearer(b: u64, k: u64, v: u64) -> u64
 
 // Of k and v: k where it is under b, and above v.
 fn farther(b: u64, k: u64, v: u64) -> u64
-    ensures { result ≡ fartherF b k v }
+    ensures { result ≡ farther_f b k v }
 {
     if (k < b) & (v < k) {
         return k;
@@ -295,7 +295,7 @@ fn middles_from(a: &[f64], n: usize, d: f64, m: usize) -> Pair
 
 // The midpoint of the two middle values. Halves are added only where the sum is infinite, since those of the least doubles are lost.
 fn midpoint(low: f64, high: f64) -> f64
-    ensures { result ≡ midpointF low high }
+    ensures { result ≡ midpoint_f low high }
 {
     let sum = low + high;
     if value::abs(sum) == f64::from_bits(0x7FF0_0000_0000_0000) {

@@ -15,8 +15,8 @@
 --    step 4 lie under 1/y² too (`TangentLaws`).
 -- 8. Sums. Areas are in units of 10^−20. What lies under the curve is rounded down, and what lies over it is rounded up; a mean below 0 counts as 0. An area is at
 --    least the sum of what lies under the curve, and at most the sum of what lies over it and of the tail.
--- Proved besides: no bound from below exceeds a bound from above, whatever partitions they are shown with (`AreaLaws`); each of the 180 entries passes (`AreaCheck`),
--- and no other number with as many places does (`Only`).
+-- Proved besides: no bound from below exceeds a bound from above, whatever partitions they are shown with (`AreaLaws` in proofs/); each of the 180 entries passes (`AreaCheck`),
+-- and no other number with as many places does (`Only` in proofs/).
 --
 -- Looked for: what else could show a bound that is none. In this logic n / 0 is 0, a difference below 0 is 0, and what stands past the end of a list is its default.
 -- - The last point is 0, as in the empty partition: `tail_bound` divides by 0. Ruled out by `Tailed`.

@@ -11,7 +11,7 @@
 --    are N² (r/d)^(ν+1) [ν+1, ν+2; r/d]² and r / 2^(ν+1) (ν [ν+1, 3; 1/2] + [ν+1, ν+2; 1/2])².
 -- 5. A series of positive terms is at least each of its partial sums, and at most what none of them exceeds.
 -- Proved: that no partial sum exceeds what is used as a bound (`SeriesLaws`), that bounds from below never exceed bounds from above (`Laws`), that each of the 180
--- entries passes (`SeriesCheck`), and that no other number from 1 on with as many places does (`Only`).
+-- entries passes (`SeriesCheck`), and that no other number from 1 on with as many places does (`Only` in proofs/).
 --
 -- Looked for: what else could show a bound that is none.
 -- - Bounds of the series with the denominator 0: no partial sum exceeds u/0, but then the area's bound has the denominator 0 too, and shows nothing (`Ratio`).

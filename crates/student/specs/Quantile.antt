@@ -12,8 +12,8 @@
 -- places, and all definitions of this file are the same for both, and so is the meaning of "below 1/k" (`Ratio`); the theorems of the 180 entries,
 -- `every_entry_by_series` and `every_entry_by_area`, are one statement at two measures. What does not: no law says that a bound of an area by the one measure
 -- agrees with a bound by the other. That would need the area itself, as a limit, which neither measure speaks of. Each measure is to be believed on its own, and
--- a reader who believes either has the table. Neither lets another number pass: no bound from below exceeds one from above (`Laws`, `AreaLaws`), so that the entries
--- are the only ones (`Only`).
+-- a reader who believes either has the table. Neither lets another number pass: no bound from below exceeds one from above (`Laws`, and `AreaLaws` in proofs/), so that the entries
+-- are the only ones (`Only` in proofs/).
 use Rattle.std.specs.Prelude.{ℕ, zero, suc, ◌+◌, ◌-◌, ◌*◌, ◌<◌, [], ◌∷◌, get_or}
 use Rattle.statistics.specs.Table.{table_entry}
 use Rattle.student.specs.Ratio.{Fraction, RatioBelow, RatioAbove}

@@ -5,7 +5,7 @@ use Prim.Native.Nat.{ℕ, zero, suc}
 use native.Mathlib.Omega.{arith}
 use lib.ListN.{length, get_or, take, drop, length-map, length-replicate}
 use lib.Ieee.{Float, nan}
-use Rattle.runs.specs.Runs.{replies as repliesOf}
+use Rattle.runs.specs.Runs.{replies as replies_of}
 use Rattle.runs.specs.RunLaws.{agree, remembered}
 use Rattle.value.specs.Numbers.{one_f}
 use Rattle.samples.specs.Columns.{Column, of_x, of_y, value}
@@ -71,7 +71,7 @@ module _ (xs ys sums : ℕ) (rest : List Float) where
 
   -- any list of calls
   pub pairs_from : (s : State) (l : List Pair) → HoldsPairs s l → (cs : List Change)
-      → (repliesOf program s cs ≡ repliesOf (ledger two) l cs) × HoldsPairs (final s cs) (ledger_end two l cs)
+      → (replies_of program s cs ≡ replies_of (ledger two) l cs) × HoldsPairs (final s cs) (ledger_end two l cs)
   pairs_from s l h cs = agree program (ledger two) HoldsPairs (λ t k c g. let w = step_pairs t k c g in (w.same, w.leaves.holds)) s l h cs
 
   -- a place of a column, where f is a pair's value for it

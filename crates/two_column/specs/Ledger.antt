@@ -4,7 +4,7 @@ use Rattle.std.specs.Prelude.{◌≡◌, List, [], ◌∷◌, ◌++◌, map, ℕ
 use Rattle.std.specs.Float.{nan}
 use Rattle.basis.specs.Sizes.{sum_places}
 use Rattle.loops.specs.Fold.{fold}
-use Rattle.runs.specs.Runs.{Machine, replies as repliesOf, history}
+use Rattle.runs.specs.Runs.{Machine, replies as replies_of, history}
 use Rattle.monomial.specs.Plain.{plain_sums}
 use Rattle.refusal.specs.Refusals.{settle}
 use Rattle.book.specs.declared.Answer.{Answer}
@@ -44,7 +44,7 @@ abbrev pub final : State → List Change → State
 final s cs = fold next s cs
 
 abbrev pub program_answers : State → List Change → List Answer
-program_answers s cs = repliesOf program s cs
+program_answers s cs = replies_of program s cs
 
 -- a book just opened, over columns that hold anything
 abbrev pub opened : Columns → List Float → State
@@ -88,7 +88,7 @@ abbrev pub ledger_end : Lent → List Pair → List Change → List Pair
 ledger_end m l cs = fold (ledger_next m) l cs
 
 abbrev pub ledger_answers : Lent → List Pair → List Change → List Answer
-ledger_answers m l cs = repliesOf (ledger m) l cs
+ledger_answers m l cs = replies_of (ledger m) l cs
 
 -- what a place holds after the calls, if it held v at first and f takes a sample's value for this column: what it held when it was last below the
 -- count, or else v

@@ -17,7 +17,7 @@ k-requires c = omega (arith, c.max_degree-most.ensures, right_most c.args.bound 
 
 pub side_sums-own-requires : goal.side_sums-own-requires
 side_sums-own-requires c = let most = right_most c.args.bound c.args.criterion c.args.n c.args.b c.args.xs.now c.args.ys.now c.args.ws.now c.requires.n_in_bounds.3 c.requires.n_in_bounds.4 in
-    (c.requires.n_in_bounds.3, c.requires.n_in_bounds.0, c.requires.n_in_bounds.1, omega (arith, c.k.ensures ∙ curve_count c.max_degree-most.result.0, c.max_degree-most.ensures, most))
+    (omega (arith, c.requires.n_in_bounds.3), c.requires.n_in_bounds.0, c.requires.n_in_bounds.1, omega (arith, c.k.ensures ∙ curve_count c.max_degree-most.result.0, c.max_degree-most.ensures, most))
 
 pub offset_bounds-xs-b : goal.offset_bounds-xs-b
 offset_bounds-xs-b c = record { fits = omega (arith, c.requires.n_in_bounds.3, c.requires.n_in_bounds.5) }
