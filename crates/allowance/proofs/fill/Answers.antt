@@ -14,5 +14,6 @@ pub loop-i-preserved : goal.loop-i-preserved
 loop-i-preserved c = (search rules, simp length-set c.loop-i.invariant.1, rw c.loop-i.invariant.2 (each_again _ _ _ 0 (search rules)))
 
 pub returns : goal.returns
-returns c = let z : c.loop-i.i ≡ c.args.n = omega arith in
+returns c =
+    let z : c.loop-i.i ≡ c.args.n = omega arith in
     (rw z at c.loop-i.invariant.2) ∙ each_fill c.args.value c.args.n c.args.table.now (search rules)

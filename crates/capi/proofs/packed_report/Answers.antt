@@ -5,7 +5,8 @@ use Rattle.capi.proofs.packed_report.Goals as goal
 
 pub fields-requires : goal.fields-requires
 unfolding ReportFits
-fields-requires c = let fits = rw c.in-Report.is at c.requires in
+fields-requires c =
+    let fits = rw c.in-Report.is at c.requires in
     (omega (arith, fits.0), omega (arith, fits.1), omega (arith, fits.3), omega (arith, fits.2))
 
 pub returns-in-Report : goal.returns-in-Report

@@ -7,7 +7,8 @@ use Rattle.capi.proofs.packed_scores.Goals as goal
 
 pub fields-requires : goal.fields-requires
 unfolding ScoresFits
-fields-requires c = let given = c.requires.scores_fits in
+fields-requires c =
+    let given = c.requires.scores_fits in
     let fits = rw c.in-Scores.is at given in
     (omega (arith, fits.0), omega (arith, fits.1), omega (arith, fits.2), omega (arith, fits.3))
 

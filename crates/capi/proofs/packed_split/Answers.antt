@@ -7,7 +7,8 @@ use Rattle.capi.proofs.packed_split.Goals as goal
 
 pub fields-requires : goal.fields-requires
 unfolding SplitFits
-fields-requires c = let given = c.requires.split_fits in
+fields-requires c =
+    let given = c.requires.split_fits in
     let fits = rw c.in-Split.is at given in
     (omega (arith, fits.0), omega (arith, fits.1), omega (arith, fits.2), omega (arith, fits.3))
 

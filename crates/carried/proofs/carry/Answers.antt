@@ -17,5 +17,6 @@ fill-requires c = omega (arith, (carry_room _ _ _ (sym c.carry_refusal-refusal.e
 
 pub returns : goal.returns
 unfolding carry_out
-returns c = let now = columns_are {c = carried_columns c.args.book.count (columns_of c.args.xs.now c.args.ys.now c.args.ws.now)} refl refl c.fill.ensures in
+returns c =
+    let now = columns_are {c = carried_columns c.args.book.count (columns_of c.args.xs.now c.args.ys.now c.args.ws.now)} refl refl c.fill.ensures in
     is_done _ _ _ _ _ c.carry_refusal-refusal.ensures c.if-refusal-ne0.false _ _ _ (record { answer = refl; columns = now; sums = refl })

@@ -14,7 +14,8 @@ pub loop-d-init : goal.loop-d-init
 loop-d-init c = (search rules, refl)
 
 pub loop-d-preserved : goal.loop-d-preserved
-loop-d-preserved c = let g = again (λ j v. cond (get_or c.args.solved.now j false) (v + 1) v) c.loop-d.d c.args.b c.loop-d.m c.loop-d-test.true ∙ c.loop-d.invariant.1 in
+loop-d-preserved c =
+    let g = again (λ j v. cond (get_or c.args.solved.now j false) (v + 1) v) c.loop-d.d c.args.b c.loop-d.m c.loop-d-test.true ∙ c.loop-d.invariant.1 in
     elim c.if-solved-d.branch [ then-solved-d w ↦ rw w.m-is (omega arith, rw w.if-solved-d.true at g) | else-solved-d w ↦ rw w.m-is (omega arith, rw w.if-solved-d.false at g) ]
 
 pub returns : goal.returns

@@ -17,5 +17,6 @@ unfolding column_of
 loop-i-preserved c = (search rules, rw c.loop-i.invariant.1 (sym (total_again _ c.loop-i.i)))
 
 pub returns : goal.returns
-returns c = let z : c.loop-i.i ≡ c.args.k.0 = omega arith in
+returns c =
+    let z : c.loop-i.i ≡ c.args.k.0 = omega arith in
     rw z at c.loop-i.invariant.1

@@ -17,5 +17,6 @@ loop-t-preserved c = (search rules, rw c.loop-t.invariant.1 (each_again _ _ _ na
 
 pub returns : goal.returns
 unfolding covariance_of
-returns c = let z : c.loop-t.t ≡ 256 = omega arith in
+returns c =
+    let z : c.loop-t.t ≡ 256 = omega arith in
     (rw z at c.loop-t.invariant.1) ∙ each_table _ 256 _ refl

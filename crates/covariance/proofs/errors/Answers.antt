@@ -17,5 +17,6 @@ loop-i-preserved c = (search rules, rw (c.loop-i.invariant.1, c.sqrt.ensures) (e
 
 pub returns : goal.returns
 unfolding errors_of
-returns c = let z : c.loop-i.i ≡ c.args.k.0 = omega arith in
+returns c =
+    let z : c.loop-i.i ≡ c.args.k.0 = omega arith in
     rw z at c.loop-i.invariant.1

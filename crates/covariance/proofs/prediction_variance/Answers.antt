@@ -19,5 +19,6 @@ loop-j-preserved c = (search rules, rw (c.column.ensures, c.loop-j.invariant.1) 
 
 pub returns : goal.returns
 unfolding prediction_variance
-returns c = let z : c.loop-j.j ≡ c.args.k.0 = omega arith in
+returns c =
+    let z : c.loop-j.j ≡ c.args.k.0 = omega arith in
     rw z at c.loop-j.invariant.1

@@ -28,7 +28,8 @@ overflow_add-count c = omega (arith, c.mark-b.ensures.1, c.loop-i.invariant.1)
 
 pub loop-i-preserved : goal.loop-i-preserved
 unfolding band_from outlier_from
-loop-i-preserved c = let l = c.loop-i-test.true in
+loop-i-preserved c =
+    let l = c.loop-i-test.true in
     let i = c.loop-i.i in
     let band : c.confidence_band-band.result ≡ band_from c.args.tolerance c.args.z c.args.sd c.args.lower.now c.args.upper.now i = c.confidence_band-band.ensures ∙ ap₂ (band_of c.args.tolerance c.args.z c.args.sd) (written_past _ i _ _ nan c.loop-i.invariant.4) (written_past _ i _ _ nan c.loop-i.invariant.6) in
     let o : c.mark-b.result ≡ outlier_from c.args.tolerance c.args.z c.args.sd c.args.lower.now c.args.upper.now c.args.ys.now i = c.mark-b.ensures.0 ∙ rw (c.outlies.ensures, band) in (
@@ -45,4 +46,5 @@ loop-i-preserved c = let l = c.loop-i-test.true in
 
 pub returns : goal.returns
 unfolding written
-returns c = let z : c.loop-i.i ≡ c.args.n = omega arith in record { value = rw z at c.loop-i.invariant.2; lower_after = rw z at c.loop-i.invariant.4; upper_after = rw z at c.loop-i.invariant.6; outlier_after = rw z at c.loop-i.invariant.8 }
+returns c =
+    let z : c.loop-i.i ≡ c.args.n = omega arith in record { value = rw z at c.loop-i.invariant.2; lower_after = rw z at c.loop-i.invariant.4; upper_after = rw z at c.loop-i.invariant.6; outlier_after = rw z at c.loop-i.invariant.8 }

@@ -23,13 +23,15 @@ overflow_add-count c = omega (arith, c.mark-b.ensures.1, c.loop-i.invariant.3)
 
 pub loop-i-preserved : goal.loop-i-preserved
 unfolding pruned_at
-loop-i-preserved c = let b : c.mark-b.result ≡ pruned_at c.args.rule c.args.k.0 c.args.c.now c.args.errors.now c.args.t c.loop-i.i = c.mark-b.ensures.0 ∙ (rw c.prunes.ensures) in (
-  search rules,
-  simp length-set c.loop-i.invariant.1,
-  rw (b, c.loop-i.invariant.2) (each_again (λ j _. pruned_at c.args.rule c.args.k.0 c.args.c.now c.args.errors.now c.args.t j) c.loop-i.i _ 0 (search rules)),
-  omega (arith, c.mark-b.ensures.1, c.loop-i.invariant.3),
-  rw (b, c.loop-i.invariant.4) (sym (ones_again (pruned_at c.args.rule c.args.k.0 c.args.c.now c.args.errors.now c.args.t) c.loop-i.i)),
-)
+loop-i-preserved c =
+    let b : c.mark-b.result ≡ pruned_at c.args.rule c.args.k.0 c.args.c.now c.args.errors.now c.args.t c.loop-i.i = c.mark-b.ensures.0 ∙ (rw c.prunes.ensures) in (
+      search rules,
+      simp length-set c.loop-i.invariant.1,
+      rw (b, c.loop-i.invariant.2) (each_again (λ j _. pruned_at c.args.rule c.args.k.0 c.args.c.now c.args.errors.now c.args.t j) c.loop-i.i _ 0 (search rules)),
+      omega (arith, c.mark-b.ensures.1, c.loop-i.invariant.3),
+      rw (b, c.loop-i.invariant.4) (sym (ones_again (pruned_at c.args.rule c.args.k.0 c.args.c.now c.args.errors.now c.args.t) c.loop-i.i)),
+    )
 
 pub returns : goal.returns
-returns c = let z : c.loop-i.i ≡ c.args.m = omega arith in record { counted = rw z at c.loop-i.invariant.4; written = (rw z at c.loop-i.invariant.2) ∙ each_write (pruned_at c.args.rule c.args.k.0 c.args.c.now c.args.errors.now c.args.t) c.args.m _ (search rules) }
+returns c =
+    let z : c.loop-i.i ≡ c.args.m = omega arith in record { counted = rw z at c.loop-i.invariant.4; written = (rw z at c.loop-i.invariant.2) ∙ each_write (pruned_at c.args.rule c.args.k.0 c.args.c.now c.args.errors.now c.args.t) c.args.m _ (search rules) }

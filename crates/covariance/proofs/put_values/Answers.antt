@@ -12,7 +12,8 @@ unfolding written each
 loop-i-init c = (search rules, refl, refl, refl, refl)
 
 pub loop-i-preserved : goal.loop-i-preserved
-loop-i-preserved c = let l = c.loop-i-test.true in
+loop-i-preserved c =
+    let l = c.loop-i-test.true in
     let terms = c.terms_at-terms.ensures in
     let i = c.loop-i.i in (
       search rules,
@@ -24,4 +25,5 @@ loop-i-preserved c = let l = c.loop-i-test.true in
 
 pub returns : goal.returns
 unfolding written
-returns c = let z : c.loop-i.i ≡ c.args.n = omega arith in record { values_after = rw z at c.loop-i.invariant.2; variances_after = rw z at c.loop-i.invariant.4 }
+returns c =
+    let z : c.loop-i.i ≡ c.args.n = omega arith in record { values_after = rw z at c.loop-i.invariant.2; variances_after = rw z at c.loop-i.invariant.4 }

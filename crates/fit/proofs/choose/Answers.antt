@@ -35,7 +35,8 @@ pub solution-s-requires : goal.solution-s-requires
 solution-s-requires c = omega (arith, c.k-k.ensures, count_mono c.args.basis c.loop-d.d c.args.bound.0 (omega (arith, c.loop-d-test.true)), c.requires.6)
 
 pub trial-t-requires : goal.trial-t-requires
-trial-t-requires c = let m = count_mono c.args.basis c.loop-d.d c.args.bound.0 (omega (arith, c.loop-d-test.true)) in
+trial-t-requires c =
+    let m = count_mono c.args.basis c.loop-d.d c.args.bound.0 (omega (arith, c.loop-d-test.true)) in
     let within = solve_nested c.args.sums.now c.k-k.result.0 c.k-most.result.0 (omega (arith, c.k-most.ensures, c.k-k.ensures, m)) (omega (arith, c.k-most.ensures, c.requires.6)) (omega (arith, c.requires.4)) in
     (search rules, search rules, search rules, search rules, omega (arith, c.k-k.ensures, m, c.requires.6), c.solution-s.ensures ∙ ap (solution_of c.k-k.result.0) c.eliminated-e.ensures ∙ sym within)
 
@@ -43,26 +44,30 @@ pub bounds-solved-d : goal.bounds-solved-d
 bounds-solved-d c = omega (arith, c.loop-d-test.true, c.requires.5)
 
 pub offset_bounds-score-d : goal.offset_bounds-score-d
-offset_bounds-score-d c = let small : c.loop-d.d < 16 = omega (arith, c.loop-d-test.true, c.requires.5) in
+offset_bounds-score-d c =
+    let small : c.loop-d.d < 16 = omega (arith, c.loop-d-test.true, c.requires.5) in
     search (rules, small)
 
 pub bounds-score-d : goal.bounds-score-d
 bounds-score-d c = omega (arith, c.loop-d-test.true, c.requires.5)
 
 pub overflow_add-tests : goal.overflow_add-tests
-overflow_add-tests c = let m = count_mono c.args.basis c.loop-d.d c.args.bound.0 (omega (arith, c.loop-d-test.true)) in
+overflow_add-tests c =
+    let m = count_mono c.args.basis c.loop-d.d c.args.bound.0 (omega (arith, c.loop-d-test.true)) in
     let t = c.trial-t.ensures.tests ∙ ap (pivot_tests c.args.sums.now) c.k-k.ensures in
     omega (arith, c.loop-d.invariant.1, c.requires.6, m, t, tests_at_most c.args.sums.now (count_of c.args.basis c.loop-d.d))
 
 pub overflow_step-d : goal.overflow_step-d
-overflow_step-d c = let small : c.loop-d.d < 16 = omega (arith, c.loop-d-test.true, c.requires.5) in
+overflow_step-d c =
+    let small : c.loop-d.d < 16 = omega (arith, c.loop-d-test.true, c.requires.5) in
     search (rules, small)
 
 pub loop-d-smaller : goal.loop-d-smaller
 loop-d-smaller c = omega (arith, c.loop-d-test.true)
 
 pub loop-d-preserved : goal.loop-d-preserved
-loop-d-preserved c = let rows = rows_at c.args.basis c.args.n c.args.xs.now c.args.zs.now c.args.ys.now in
+loop-d-preserved c =
+    let rows = rows_at c.args.basis c.args.n c.args.xs.now c.args.zs.now c.args.ys.now in
     let m = count_mono c.args.basis c.loop-d.d c.args.bound.0 (omega (arith, c.loop-d-test.true)) in
     let e = c.trial-t.ensures.scored ∙ ap (scored_by c.args.criterion c.args.sums.now rows rows) c.k-k.ensures in
     let t = c.trial-t.ensures.tests ∙ ap (pivot_tests c.args.sums.now) c.k-k.ensures in (
@@ -78,4 +83,5 @@ pub score_of-requires : goal.score_of-requires
 score_of-requires c = chosen_below _ _ 16 _ (search rules) c.lowest-chosen.ensures
 
 pub returns : goal.returns
-returns c = let z : c.loop-d.d ≡ c.args.bound.0 + 1 = omega arith in record { is = choice_is c.args.basis c.args.criterion c.args.sums.now (rows_at c.args.basis c.args.n c.args.xs.now c.args.zs.now c.args.ys.now) c.args.bound.0 c.loop-d.solved c.loop-d.score (omega (arith, c.requires.5)) (rw z at c.loop-d.invariant.3) (rw z at c.loop-d.invariant.4) _ _ _ _ _ c.lowest-chosen.ensures c.score_of.ensures c.least-least.ensures c.solved_of-number.ensures (rw z at c.loop-d.invariant.5); within = c.loop-d.invariant.2 }
+returns c =
+    let z : c.loop-d.d ≡ c.args.bound.0 + 1 = omega arith in record { is = choice_is c.args.basis c.args.criterion c.args.sums.now (rows_at c.args.basis c.args.n c.args.xs.now c.args.zs.now c.args.ys.now) c.args.bound.0 c.loop-d.solved c.loop-d.score (omega (arith, c.requires.5)) (rw z at c.loop-d.invariant.3) (rw z at c.loop-d.invariant.4) _ _ _ _ _ c.lowest-chosen.ensures c.score_of.ensures c.least-least.ensures c.solved_of-number.ensures (rw z at c.loop-d.invariant.5); within = c.loop-d.invariant.2 }

@@ -30,4 +30,5 @@ loop-i-preserved c = (
 )
 
 pub returns : goal.returns
-returns c = let z : c.loop-i.i ≡ c.args.n = omega arith in record { is = (rw z at c.loop-i.invariant.3) ∙ every_residual finite c.args.k.0 c.args.c.now (rows_at c.args.basis c.args.n c.args.xs.now c.args.zs.now c.args.ys.now); written = (rw z at c.loop-i.invariant.2) ∙ sizes_written c.args.k.0 c.args.c.now c.args.basis c.args.n c.args.xs.now c.args.zs.now c.args.ys.now _ (search rules) }
+returns c =
+    let z : c.loop-i.i ≡ c.args.n = omega arith in record { is = (rw z at c.loop-i.invariant.3) ∙ every_residual finite c.args.k.0 c.args.c.now (rows_at c.args.basis c.args.n c.args.xs.now c.args.zs.now c.args.ys.now); written = (rw z at c.loop-i.invariant.2) ∙ sizes_written c.args.k.0 c.args.c.now c.args.basis c.args.n c.args.xs.now c.args.zs.now c.args.ys.now _ (search rules) }

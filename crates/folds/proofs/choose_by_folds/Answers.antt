@@ -21,4 +21,5 @@ pub loop-f-preserved : goal.loop-f-preserved
 loop-f-preserved c = (search rules, within_then c.loop-f.invariant.1 c.add_fold.ensures.within, c.add_fold.ensures.tallied, c.pass_fold.ensures.long, λ h. next_begun _ c.args.n c.args.folds c.loop-f.f c.args.xs.now c.args.ys.now c.args.ws.now _ c.pass_fold.ensures.same h)
 
 pub returns : goal.returns
-returns c = let z : c.loop-f.f ≡ c.args.folds = omega arith in record { is = validated_is c.args.criterion (weighted_rows_at Curve c.args.n c.args.xs.now c.args.xs.now c.args.ys.now c.args.ws.now) c.args.folds c.args.bound.0 _ _ _ (rw z at c.loop-f.invariant.2) c.choose_by_means.ensures; within = c.loop-f.invariant.1 }
+returns c =
+    let z : c.loop-f.f ≡ c.args.folds = omega arith in record { is = validated_is c.args.criterion (weighted_rows_at Curve c.args.n c.args.xs.now c.args.xs.now c.args.ys.now c.args.ws.now) c.args.folds c.args.bound.0 _ _ _ (rw z at c.loop-f.invariant.2) c.choose_by_means.ensures; within = c.loop-f.invariant.1 }

@@ -5,7 +5,8 @@ use Rattle.folds.proofs.Others.{passed_same}
 use Rattle.folds.proofs.pass_fold.Goals as goal
 
 pub add_corner-requires : goal.add_corner-requires
-add_corner-requires c = let l = start_end c.args.n c.args.folds c.args.f (search rules) in
+add_corner-requires c =
+    let l = start_end c.args.n c.args.folds c.args.f (search rules) in
     let g = end_below c.args.n c.args.folds c.args.f (search rules) in
     (omega (arith, l, c.start_of-start.ensures, c.end_of-end.ensures), omega (arith, g, c.end_of-end.ensures, c.requires.n_in_bounds), omega (arith, g, c.end_of-end.ensures, c.requires.n_in_bounds), omega (arith, g, c.end_of-end.ensures, c.requires.n_in_bounds), search rules, omega (arith, c.requires.n_in_bounds))
 

@@ -16,10 +16,12 @@ pub attempt-a-requires : goal.attempt-a-requires
 attempt-a-requires c = (search rules, search rules, search rules, search rules, search rules, omega (arith, c.k-k.ensures, curve_count c.args.degree.0))
 
 pub returns-then-not-a : goal.returns-then-not-a
-returns-then-not-a c = let e = ap (λ (m : ℕ). scored_by c.args.criterion c.args.sums.now (rows_at Curve c.args.n c.args.xs.now c.args.xs.now c.args.ys.now) (own_of c.args.start c.args.end (rows_at Curve c.args.n c.args.xs.now c.args.xs.now c.args.ys.now)) m) c.k-k.ensures in record { scored = scored_not c.args.criterion c.args.sums.now _ _ c.k-k.result.0 (sym c.attempt-a.ensures.is_solved_lem ∙ not-true _ c.if-not-a.true) ∙ e; within = c.attempt-a.ensures.within }
+returns-then-not-a c =
+    let e = ap (λ (m : ℕ). scored_by c.args.criterion c.args.sums.now (rows_at Curve c.args.n c.args.xs.now c.args.xs.now c.args.ys.now) (own_of c.args.start c.args.end (rows_at Curve c.args.n c.args.xs.now c.args.xs.now c.args.ys.now)) m) c.k-k.ensures in record { scored = scored_not c.args.criterion c.args.sums.now _ _ c.k-k.result.0 (sym c.attempt-a.ensures.is_solved_lem ∙ not-true _ c.if-not-a.true) ∙ e; within = c.attempt-a.ensures.within }
 
 pub returns : goal.returns
-returns c = let rows = rows_at Curve c.args.n c.args.xs.now c.args.xs.now c.args.ys.now in
+returns c =
+    let rows = rows_at Curve c.args.n c.args.xs.now c.args.xs.now c.args.ys.now in
     let yes : c.attempt-a.result.solved ≡ true = not-false _ c.if-not-a.false in
     let sized = length_rows_at Curve c.args.xs.now c.args.xs.now c.args.ys.now c.args.n in
     let e = ap (λ (m : ℕ). scored_by c.args.criterion c.args.sums.now rows (own_of c.args.start c.args.end rows) m) c.k-k.ensures in record { scored = scored_is c.args.criterion c.args.sums.now rows (own_of c.args.start c.args.end rows) c.k-k.result.0 (sym c.attempt-a.ensures.is_solved_lem ∙ yes) (c.args.end - c.args.start) _ _ (length_own c.args.start c.args.end rows (omega (arith, sized, c.requires))) (own_sizes c.args.start c.args.end c.args.n _ c.requires.3 c.requires.4 c.k-k.result.0 (solve c.args.sums.now c.k-k.result.0).c rows (c.attempt-a.ensures.sizes yes)) c.score_on-score.ensures ∙ e; within = c.attempt-a.ensures.within }

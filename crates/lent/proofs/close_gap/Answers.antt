@@ -10,7 +10,8 @@ pub loop-j-init : goal.loop-j-init
 loop-j-init c = (search rules, search rules, refl, moved_none c.args.i c.args.column.now)
 
 pub loop-j-preserved : goal.loop-j-preserved
-loop-j-preserved c = let at-args = c.args in
+loop-j-preserved c =
+    let at-args = c.args in
     (search rules, search rules, simp length-set c.loop-j.invariant.2, moved_again at-args.i c.loop-j.j at-args.column.now c.loop-j.column (search rules) (search rules) c.loop-j.invariant.3)
 
 pub returns : goal.returns

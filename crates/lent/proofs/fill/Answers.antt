@@ -16,5 +16,6 @@ pub loop-i-preserved : goal.loop-i-preserved
 loop-i-preserved c = (search rules, simp length-set c.loop-i.invariant.1, rw c.loop-i.invariant.2 (each_again _ _ _ nan (search rules)))
 
 pub returns : goal.returns
-returns c = let z : c.loop-i.i ≡ c.args.n = omega arith in
+returns c =
+    let z : c.loop-i.i ≡ c.args.n = omega arith in
     (rw z at c.loop-i.invariant.2) ∙ each_fill c.args.v c.args.n c.args.s.now (search rules)

@@ -16,6 +16,7 @@ pub loop-i-preserved : goal.loop-i-preserved
 loop-i-preserved c = (search rules, simp length-set c.loop-i.invariant.1, rw c.loop-i.invariant.2 (each_again _ _ _ nan (search rules)))
 
 pub returns : goal.returns
-returns c = let a = c.args in
+returns c =
+    let a = c.args in
     let z : c.loop-i.i ≡ a.m = omega arith in
     (rw z at c.loop-i.invariant.2) ∙ each_copy nan a.m a.values a.out.now (search rules) (search rules)

@@ -10,7 +10,8 @@ pub loop-i-init : goal.loop-i-init
 loop-i-init c = (omega arith, refl, wrote_same (loss_none c.args.losses.now) (wrote_none c.args.out.now c.args.at (omega arith)))
 
 pub loop-i-preserved : goal.loop-i-preserved
-loop-i-preserved c = let w = then (omega arith) c.loop-i.invariant.2 (λ _. c.put_loss_line-here.ensures) in
+loop-i-preserved c =
+    let w = then (omega arith) c.loop-i.invariant.2 (λ _. c.put_loss_line-here.ensures) in
     (omega arith, length_wrote w, wrote_same (loss_again c.loop-i.i c.args.losses.now) w)
 
 pub returns : goal.returns

@@ -13,6 +13,7 @@ put_c_lines-c-requires c = (omega (arith, c.smaller-given.ensures, c.c_count-k.e
 
 pub returns : goal.returns
 unfolding listing ascii
-returns c = let k = c.c_count-k.ensures ∙ ap₂ min (sym (curve_count c.args.degree.0)) c.smaller-given.ensures in
+returns c =
+    let k = c.c_count-k.ensures ∙ ap₂ min (sym (curve_count c.args.degree.0)) c.smaller-given.ensures in
     let cl = wrote_same (ap (λ z. c_lines z c.args.coefficients.now c.args.errors.now) k) c.put_c_lines-c.ensures in
     then (omega (arith, c.well_formed)) c.put_line-a.ensures (λ h. then h c.put_line-b.ensures (λ l. then l cl (λ m. then m c.put_line-e.ensures (λ _. c.put_line.ensures))))

@@ -10,5 +10,6 @@ put_loss_lines-a-requires c = omega (arith, c.smaller-k.ensures)
 
 pub returns : goal.returns
 unfolding loss_listing
-returns c = let l = wrote_same (ap (λ z. loss_lines z c.args.losses.now) c.smaller-k.ensures) c.put_loss_lines-a.ensures in
+returns c =
+    let l = wrote_same (ap (λ z. loss_lines z c.args.losses.now) c.smaller-k.ensures) c.put_loss_lines-a.ensures in
     then (omega (arith, c.well_formed)) l (λ _. c.put_total.ensures)

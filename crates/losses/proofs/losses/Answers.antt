@@ -17,15 +17,18 @@ unfolding loss_on
 returns-then-refusal-ne0 c = refused_early_lem _ _ _ c.args.scratch.now c.args.losses.now c.loss_refusal-refusal.ensures c.if-refusal-ne0.true
 
 pub slice_bounds-choose-end : goal.slice_bounds-choose-end
-slice_bounds-choose-end c = let w = loss_room _ _ _ _ _ _ _ (sym c.loss_refusal-refusal.ensures ∙ c.if-refusal-ne0.false) in
+slice_bounds-choose-end c =
+    let w = loss_room _ _ _ _ _ _ _ (sym c.loss_refusal-refusal.ensures ∙ c.if-refusal-ne0.false) in
     sym (length-take-le 272 c.args.sums.now w.0.enough.0)
 
 pub choose-m-requires : goal.choose-m-requires
-choose-m-requires c = let w = loss_room _ _ _ _ _ _ _ (sym c.loss_refusal-refusal.ensures ∙ c.if-refusal-ne0.false) in
+choose-m-requires c =
+    let w = loss_room _ _ _ _ _ _ _ (sym c.loss_refusal-refusal.ensures ∙ c.if-refusal-ne0.false) in
     (w.0.within.0, w.0.within.0, w.0.within.1.0, w.0.enough.1.0, omega (arith, length-take-le 272 c.args.sums.now w.0.enough.0), omega (arith, c.max_degree-last.ensures, w.2), omega (arith, c.max_degree-last.ensures, w.2, curve_count c.max_degree-last.result.0))
 
 pub clear-requires : goal.clear-requires
-clear-requires c = let w = loss_room _ _ _ _ _ _ _ (sym c.loss_refusal-refusal.ensures ∙ c.if-refusal-ne0.false) in
+clear-requires c =
+    let w = loss_room _ _ _ _ _ _ _ (sym c.loss_refusal-refusal.ensures ∙ c.if-refusal-ne0.false) in
     omega (arith, w.0.enough.1.0, c.choose-m.ensures.within.long)
 
 pub returns-then-m-ne0 : goal.returns-then-m-ne0
@@ -35,18 +38,21 @@ returns-then-m-ne0 c = let_through _ c.args.book.count c.args.settings _ _ (take
 
 pub k-k-requires : goal.k-k-requires
 unfolding report_choice
-k-k-requires c = let w = loss_room _ _ _ _ _ _ _ (sym c.loss_refusal-refusal.ensures ∙ c.if-refusal-ne0.false) in
+k-k-requires c =
+    let w = loss_room _ _ _ _ _ _ _ (sym c.loss_refusal-refusal.ensures ∙ c.if-refusal-ne0.false) in
     few_terms c.args.book.count c.args.settings _ (take 272 c.args.sums.now) _ _ c.choose-m.result (rw c.max_degree-last.ensures at c.choose-m.ensures) c.if-m-ne0.false w.2
 
 pub sizes-requires : goal.sizes-requires
 unfolding report_choice
-sizes-requires c = let w = loss_room _ _ _ _ _ _ _ (sym c.loss_refusal-refusal.ensures ∙ c.if-refusal-ne0.false) in
+sizes-requires c =
+    let w = loss_room _ _ _ _ _ _ _ (sym c.loss_refusal-refusal.ensures ∙ c.if-refusal-ne0.false) in
     let d = few_terms c.args.book.count c.args.settings _ (take 272 c.args.sums.now) _ _ c.choose-m.result (rw c.max_degree-last.ensures at c.choose-m.ensures) c.if-m-ne0.false w.2 in
     (w.0.within.0, w.0.within.0, w.0.within.1.0, omega (arith, w.0.enough.1.0, c.choose-m.ensures.within.long), omega (arith, d, c.k-k.ensures ∙ curve_count c.choose-m.result.degree.0))
 
 pub put_losses-total-requires : goal.put_losses-total-requires
 unfolding report_choice
-put_losses-total-requires c = let n = c.args.book.count in
+put_losses-total-requires c =
+    let n = c.args.book.count in
     let w = loss_room _ _ _ _ _ _ _ (sym c.loss_refusal-refusal.ensures ∙ c.if-refusal-ne0.false) in
     let long = c.choose-m.ensures.within.long in
     let v = sizes_within n c.args.settings _ (take 272 c.args.sums.now) _ _ c.choose-m.result (rw c.max_degree-last.ensures at c.choose-m.ensures) c.if-m-ne0.false c.k-k.result.0 c.k-k.ensures (length_rows_at Curve c.args.xs.now c.args.xs.now c.args.ys.now n) _ c.sizes.ensures.written (omega (arith, w.0.enough.1.0, long)) in
@@ -54,7 +60,8 @@ put_losses-total-requires c = let n = c.args.book.count in
 
 pub clear-requires-2 : goal.clear-requires-2
 unfolding report_choice
-clear-requires-2 c = let n = c.args.book.count in
+clear-requires-2 c =
+    let n = c.args.book.count in
     let w = loss_room _ _ _ _ _ _ _ (sym c.loss_refusal-refusal.ensures ∙ c.if-refusal-ne0.false) in
     let long = c.choose-m.ensures.within.long in
     let v = sizes_within n c.args.settings _ (take 272 c.args.sums.now) _ _ c.choose-m.result (rw c.max_degree-last.ensures at c.choose-m.ensures) c.if-m-ne0.false c.k-k.result.0 c.k-k.ensures (length_rows_at Curve c.args.xs.now c.args.xs.now c.args.ys.now n) _ c.sizes.ensures.written (omega (arith, w.0.enough.1.0, long)) in
@@ -62,7 +69,8 @@ clear-requires-2 c = let n = c.args.book.count in
 
 pub returns : goal.returns
 unfolding loss_on report_choice
-returns c = let n = c.args.book.count in
+returns c =
+    let n = c.args.book.count in
     let w = loss_room _ _ _ _ _ _ _ (sym c.loss_refusal-refusal.ensures ∙ c.if-refusal-ne0.false) in
     let_through _ n c.args.settings _ _ (take 272 c.args.sums.now) _ _ _ _ _ (sym c.loss_refusal-refusal.ensures ∙ c.if-refusal-ne0.false) (curve_rows n c.args.xs.now c.args.xs.now c.args.ys.now c.args.ws.now)
     (told_whole n c.args.settings _ (take 272 c.args.sums.now) _ _ c.choose-m.result (rw c.max_degree-last.ensures at c.choose-m.ensures) c.if-m-ne0.false c.k-k.result.0 c.k-k.ensures (length_rows_at Curve c.args.xs.now c.args.xs.now c.args.ys.now n) _ c.sizes.ensures.written

@@ -14,7 +14,8 @@ pub returns-then-i-k : goal.returns-then-i-k
 returns-then-i-k c = record { number = measure_failed _ _ _ (sym c.attempt-s.ensures.is_solved_lem ∙ not-false _ c.if-not-s.false) (ap (λ (v : Inverted). ltb v.columns c.args.k.0) (sym c.inverse-i.ensures) ∙ lt-ltb _ _ c.if-i-k.true); coefficients = c.attempt-s.ensures.coefficients; covariance = λ h. absurd (omega arith); within = c.attempt-s.ensures.within }
 
 pub returns : goal.returns
-returns c = let solved = sym c.attempt-s.ensures.is_solved_lem ∙ not-false _ c.if-not-s.false in
+returns c =
+    let solved = sym c.attempt-s.ensures.is_solved_lem ∙ not-false _ c.if-not-s.false in
     record {
       number = measure_whole _ _ _ solved (ap (λ (v : Inverted). ltb v.columns c.args.k.0) (sym c.inverse-i.ensures) ∙ le-ltb _ _ c.if-i-k.false);
       coefficients = c.attempt-s.ensures.coefficients;

@@ -19,9 +19,11 @@ pub loop-j-preserved : goal.loop-j-preserved
 loop-j-preserved c = (search rules, simp length-set c.loop-j.invariant.1, cells_again (gains (weighted_row c.args.terms.now c.args.y c.args.w)) c.loop-i.i c.loop-j.j _ _ _ (search rules) c.loop-j.invariant.2 (ap (add binary64 _) (sym (weighted_matrix c.args.terms.now c.args.y c.args.w c.loop-i.i c.loop-j.j (search rules) (search rules)))))
 
 pub loop-i-preserved : goal.loop-i-preserved
-loop-i-preserved c = let z : c.loop-j.j ≡ c.args.k.0 = omega arith in
+loop-i-preserved c =
+    let z : c.loop-j.j ≡ c.args.k.0 = omega arith in
     (search rules, simp length-set (c.loop-j.invariant.1 ∙ c.loop-i.invariant.1), lines_again (gains (weighted_row c.args.terms.now c.args.y c.args.w)) c.args.k.0 c.loop-i.i c.args.sums.now c.loop-i.sums c.loop-j.sums _ (search rules) (search rules) (search rules) c.loop-i.invariant.2 (rw z at c.loop-j.invariant.2) (ap (add binary64 _) (sym (weighted_right c.args.terms.now c.args.y c.args.w c.loop-i.i))))
 
 pub returns : goal.returns
-returns c = let z : c.loop-i.i ≡ c.args.k.0 = omega arith in
+returns c =
+    let z : c.loop-i.i ≡ c.args.k.0 = omega arith in
     lines_done c.args.k.0 c.args.sums.now _ (weighted_row c.args.terms.now c.args.y c.args.w) (search rules) (search rules) (rw z at c.loop-i.invariant.2)

@@ -17,5 +17,6 @@ pub loop-i-preserved : goal.loop-i-preserved
 loop-i-preserved c = (search rules, simp length-set c.loop-i.invariant.1, rw (c.loop-i.invariant.2, sym (weighted_right c.args.terms.now c.args.y c.args.w c.loop-i.i)) (each_again _ _ _ nan (search rules)))
 
 pub returns : goal.returns
-returns c = let z : c.loop-i.i ≡ 16 = omega arith in
+returns c =
+    let z : c.loop-i.i ≡ 16 = omega arith in
     rw z at c.loop-i.invariant.2

@@ -12,5 +12,6 @@ pub loop-t-preserved : goal.loop-t-preserved
 loop-t-preserved c = (search rules, search rules, c.add_row_corner.ensures.long ∙ c.loop-t.invariant.2, rows_more c.args.k.0 c.loop-t.t c.args.start c.args.basis c.args.xs.now c.args.zs.now c.args.ys.now c.args.ws.now c.args.sums.now c.loop-t.sums _ _ _ (search rules) c.loop-t.invariant.0 (search rules) c.loop-t.invariant.3 c.terms_at-terms.ensures c.weight_at.ensures c.add_row_corner.ensures)
 
 pub returns : goal.returns
-returns c = let z : c.loop-t.t ≡ c.args.end = omega arith in
+returns c =
+    let z : c.loop-t.t ≡ c.args.end = omega arith in
     rw z at c.loop-t.invariant.3

@@ -18,13 +18,16 @@ pub loop-j-init : goal.loop-j-init
 loop-j-init c = (omega arith, refl, λ s. passed_left _ c.loop-i.i _ s _ (omega arith))
 
 pub loop-j-preserved : goal.loop-j-preserved
-loop-j-preserved c = let e : 16 * c.loop-i.i + (c.loop-j.j + 1) ≡ 16 * c.loop-i.i + c.loop-j.j + 1 = omega arith in
+loop-j-preserved c =
+    let e : 16 * c.loop-i.i + (c.loop-j.j + 1) ≡ 16 * c.loop-i.i + c.loop-j.j + 1 = omega arith in
     (search rules, simp length-set c.loop-j.invariant.1, λ s h. rw e (passed_again (twice c.args.terms.now c.args.w c.args.later.now c.args.v) (16 * c.loop-i.i + c.loop-j.j) s _ _ (search rules) (c.loop-j.invariant.2 s h) (rw (weighted_matrix c.args.terms.now zero_f c.args.w c.loop-i.i c.loop-j.j (search rules) (search rules), weighted_matrix c.args.later.now zero_f c.args.v c.loop-i.i c.loop-j.j (search rules) (search rules)))))
 
 pub loop-i-preserved : goal.loop-i-preserved
-loop-i-preserved c = let z : 16 * (c.loop-i.i + 1) ≡ 16 * c.loop-i.i + c.loop-j.j = omega arith in
+loop-i-preserved c =
+    let z : 16 * (c.loop-i.i + 1) ≡ 16 * c.loop-i.i + c.loop-j.j = omega arith in
     (search rules, c.loop-j.invariant.1 ∙ c.loop-i.invariant.1, rw z (c.loop-j.invariant.2 _ c.loop-i.invariant.2))
 
 pub returns : goal.returns
-returns c = let z : 16 * c.loop-i.i ≡ 256 = omega arith in
+returns c =
+    let z : 16 * c.loop-i.i ≡ 256 = omega arith in
     passed_done _ _ _ (search rules) (rw z at c.loop-i.invariant.2)

@@ -17,5 +17,6 @@ unfolding fitted
 loop-j-preserved c = (search rules, rw c.loop-j.invariant.1 (sym (total_again _ c.loop-j.j)))
 
 pub returns : goal.returns
-returns c = let z : c.loop-j.j ≡ c.args.k.0 = omega arith in
+returns c =
+    let z : c.loop-j.j ≡ c.args.k.0 = omega arith in
     rw z at c.loop-j.invariant.1

@@ -33,6 +33,7 @@ unfolding weighted_at row_at terms_at add_one
 loop-t-preserved c = (search rules, ap length c.add_right.ensures ∙ length_add_one right_product 16 _ (weighted_row _ _ _) ∙ c.loop-t.invariant.1, c.add_right.ensures ∙ (rw (c.powers-terms.ensures, c.weight_at.ensures, c.loop-t.invariant.2) (sym (fold_rows_again (add_one right_product 16) _ Curve c.loop-t.t c.args.xs.now c.args.xs.now c.args.ys.now c.args.ws.now))))
 
 pub returns : goal.returns
-returns c = let all : c.loop-k.k ≡ 16 = omega arith in
+returns c =
+    let all : c.loop-k.k ≡ 16 = omega arith in
     let last : c.loop-t.t ≡ c.args.n = omega arith in
     (rw last at c.loop-t.invariant.2) ∙ (rw (rw all at c.loop-k.invariant.2, right_is) (sums_afresh right_product 16 _ _ (search rules)))

@@ -31,7 +31,8 @@ unfolding fold weighted_rows_at table
 loop-p-init c = (search rules, search rules, refl, upper_itself _)
 
 pub loop-p-preserved : goal.loop-p-preserved
-loop-p-preserved c = let next : 2 * (c.loop-p.p + 1) ≡ 2 * c.loop-p.p + 1 + 1 = omega arith in
+loop-p-preserved c =
+    let next : 2 * (c.loop-p.p + 1) ≡ 2 * c.loop-p.p + 1 + 1 = omega arith in
     let more = two_more (2 * c.loop-p.p) c.args.xs.now c.args.ys.now c.args.ws.now c.loop-k.sums c.loop-p.sums _ _ _ c.loop-p.invariant.1 c.loop-p.invariant.3 c.weight_at.ensures c.weight_at-in-loop-p.ensures c.add_two.ensures in
     let long = more.long ∙ length_add_rows _ _ in
     (search rules, omega (arith, long, c.loop-p.invariant), long, rw next more)
@@ -40,11 +41,13 @@ pub loop-t-init : goal.loop-t-init
 loop-t-init c = (omega arith, c.loop-p.invariant.1, refl, λ s h. h)
 
 pub loop-t-preserved : goal.loop-t-preserved
-loop-t-preserved c = let long = ap length c.add_sample.ensures ∙ length_add_row _ _ ∙ c.loop-t.invariant.2 in
+loop-t-preserved c =
+    let long = ap length c.add_sample.ensures ∙ length_add_row _ _ ∙ c.loop-t.invariant.2 in
     (search rules, omega (arith, long, c.loop-t.invariant.1, c.loop-t.invariant.2), long, λ s h. rw c.add_sample.ensures (one_more c.loop-t.t c.args.xs.now c.args.ys.now c.args.ws.now s c.loop-t.sums _ c.loop-t.invariant.1 (c.loop-t.invariant.3 s h) c.weight_at-in-loop-t.ensures))
 
 pub returns : goal.returns
-returns c = let all : c.loop-k.k ≡ 272 = omega arith in
+returns c =
+    let all : c.loop-k.k ≡ 272 = omega arith in
     let pairs : c.loop-p.p ≡ c.args.n / 2 = omega arith in
     let last : c.loop-t.t ≡ c.args.n = omega arith in
     let rows = weighted_rows_at Curve c.args.n c.args.xs.now c.args.xs.now c.args.ys.now c.args.ws.now in

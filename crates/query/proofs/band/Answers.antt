@@ -14,11 +14,13 @@ unfolding band_for
 returns-then-refusal-ne0 c = band_early _ _ _ c.args.scratch.now c.band_refusal-refusal.ensures c.if-refusal-ne0.true
 
 pub slice_bounds-band_of-end : goal.slice_bounds-band_of-end
-slice_bounds-band_of-end c = let w = band_room _ _ _ _ _ c.args.x c.args.degree.0 c.args.confidence c.args.tolerance (sym c.band_refusal-refusal.ensures ∙ c.if-refusal-ne0.false) in
+slice_bounds-band_of-end c =
+    let w = band_room _ _ _ _ _ c.args.x c.args.degree.0 c.args.confidence c.args.tolerance (sym c.band_refusal-refusal.ensures ∙ c.if-refusal-ne0.false) in
     sym (length-take-le 272 c.args.sums.now w.0.enough.0)
 
 pub band_of-requires : goal.band_of-requires
-band_of-requires c = let w = band_room _ _ _ _ _ c.args.x c.args.degree.0 c.args.confidence c.args.tolerance (sym c.band_refusal-refusal.ensures ∙ c.if-refusal-ne0.false) in record { n_in_bounds = (w.0.within.0, w.0.within.0, w.0.within.1.0, w.0.enough.1.0, omega (arith, length-take-le 272 c.args.sums.now w.0.enough.0)); degree_le_highest_degree = (w.1, omega (arith, curve_count c.args.degree.0, w.1)) }
+band_of-requires c =
+    let w = band_room _ _ _ _ _ c.args.x c.args.degree.0 c.args.confidence c.args.tolerance (sym c.band_refusal-refusal.ensures ∙ c.if-refusal-ne0.false) in record { n_in_bounds = (w.0.within.0, w.0.within.0, w.0.within.1.0, w.0.enough.1.0, omega (arith, length-take-le 272 c.args.sums.now w.0.enough.0)); degree_le_highest_degree = (w.1, omega (arith, curve_count c.args.degree.0, w.1)) }
 
 pub returns : goal.returns
 unfolding band_for

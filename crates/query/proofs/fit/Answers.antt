@@ -14,11 +14,13 @@ unfolding fit_on
 returns-then-refusal-ne0 c = refused_early_lem _ _ _ c.args.scratch.now c.args.coefficients.now c.fit_refusal-refusal.ensures c.if-refusal-ne0.true
 
 pub slice_bounds-solve_at-end : goal.slice_bounds-solve_at-end
-slice_bounds-solve_at-end c = let w = fit_room _ _ _ _ _ c.args.degree.0 _ (sym c.fit_refusal-refusal.ensures ∙ c.if-refusal-ne0.false) in
+slice_bounds-solve_at-end c =
+    let w = fit_room _ _ _ _ _ c.args.degree.0 _ (sym c.fit_refusal-refusal.ensures ∙ c.if-refusal-ne0.false) in
     sym (length-take-le 272 c.args.sums.now w.0.enough.0)
 
 pub solve_at-requires : goal.solve_at-requires
-solve_at-requires c = let w = fit_room _ _ _ _ _ c.args.degree.0 _ (sym c.fit_refusal-refusal.ensures ∙ c.if-refusal-ne0.false) in record { n_in_bounds = (w.0.within.0, w.0.within.0, w.0.within.1.0, w.0.enough.1.0, omega (arith, length-take-le 272 c.args.sums.now w.0.enough.0), w.0.enough.1.1.0); degree_le_highest_degree = (w.1, omega (arith, curve_count c.args.degree.0, w.1)) }
+solve_at-requires c =
+    let w = fit_room _ _ _ _ _ c.args.degree.0 _ (sym c.fit_refusal-refusal.ensures ∙ c.if-refusal-ne0.false) in record { n_in_bounds = (w.0.within.0, w.0.within.0, w.0.within.1.0, w.0.enough.1.0, omega (arith, length-take-le 272 c.args.sums.now w.0.enough.0), w.0.enough.1.1.0); degree_le_highest_degree = (w.1, omega (arith, curve_count c.args.degree.0, w.1)) }
 
 pub returns : goal.returns
 unfolding fit_on

@@ -24,34 +24,40 @@ unfolding validate_on
 returns-then-refusal-ne0 c = refused_early_lem _ _ _ c.args.scratch.now c.args.coefficients.now c.validate_refusal-refusal.ensures c.if-refusal-ne0.true
 
 pub choose_by_folds-chosen-requires : goal.choose_by_folds-chosen-requires
-choose_by_folds-chosen-requires c = let w = validate_room _ _ _ _ _ c.args.folds c.args.bound _ (sym c.validate_refusal-refusal.ensures ∙ c.if-refusal-ne0.false) in
+choose_by_folds-chosen-requires c =
+    let w = validate_room _ _ _ _ _ c.args.folds c.args.bound _ (sym c.validate_refusal-refusal.ensures ∙ c.if-refusal-ne0.false) in
     (w.0.within.0, w.0.within.1.0, w.0.enough.1.0, omega (arith, w.1, c.max_degree-most.ensures))
 
 pub clear-requires : goal.clear-requires
-clear-requires c = let w = validate_room _ _ _ _ _ c.args.folds c.args.bound _ (sym c.validate_refusal-refusal.ensures ∙ c.if-refusal-ne0.false) in
+clear-requires c =
+    let w = validate_room _ _ _ _ _ c.args.folds c.args.bound _ (sym c.validate_refusal-refusal.ensures ∙ c.if-refusal-ne0.false) in
     omega (arith, w.0.enough.1.0, c.choose_by_folds-chosen.ensures.within.long)
 
 pub returns-in_default : goal.returns-in_default
 unfolding validate_on
-returns-in_default c = let w = validate_room _ _ _ _ _ c.args.folds c.args.bound _ (sym c.validate_refusal-refusal.ensures ∙ c.if-refusal-ne0.false) in
+returns-in_default c =
+    let w = validate_room _ _ _ _ _ c.args.folds c.args.bound _ (sym c.validate_refusal-refusal.ensures ∙ c.if-refusal-ne0.false) in
     let found = c.choose_by_folds-chosen.ensures.is ∙ ap (λ (rows : List WeightedRow). validated_choice c.args.criterion rows c.args.folds c.max_degree-most.result.0) (curve_weighted c.args.book.count c.args.xs.now c.args.xs.now c.args.ys.now c.args.ws.now w.0.within.1.1.0) in
     let same = ap (λ b. validated_choice c.args.criterion (weighted_rows (samples_of c.args.book.count (columns_of c.args.xs.now c.args.ys.now c.args.ws.now))) c.args.folds b) c.max_degree-most.ensures in
     let_through _ _ _ _ _ _ _ (sym c.validate_refusal-refusal.ensures ∙ c.if-refusal-ne0.false)
     (none_validated _ _ _ _ _ _ (sym same ∙ sym found ∙ c.in_default.is) _ (over_cleared _ _ _ _ c.choose_by_folds-chosen.ensures.within c.clear.ensures))
 
 pub slice_bounds-solve_at-end : goal.slice_bounds-solve_at-end
-slice_bounds-solve_at-end c = let w = validate_room _ _ _ _ _ c.args.folds c.args.bound _ (sym c.validate_refusal-refusal.ensures ∙ c.if-refusal-ne0.false) in
+slice_bounds-solve_at-end c =
+    let w = validate_room _ _ _ _ _ c.args.folds c.args.bound _ (sym c.validate_refusal-refusal.ensures ∙ c.if-refusal-ne0.false) in
     sym (length-take-le 272 c.args.sums.now w.0.enough.0)
 
 pub solve_at-requires : goal.solve_at-requires
 unfolding validated_choice
-solve_at-requires c = let w = validate_room _ _ _ _ _ c.args.folds c.args.bound _ (sym c.validate_refusal-refusal.ensures ∙ c.if-refusal-ne0.false) in
+solve_at-requires c =
+    let w = validate_room _ _ _ _ _ c.args.folds c.args.bound _ (sym c.validate_refusal-refusal.ensures ∙ c.if-refusal-ne0.false) in
     let found = c.choose_by_folds-chosen.ensures.is ∙ ap (λ (rows : List WeightedRow). validated_choice c.args.criterion rows c.args.folds c.max_degree-most.result.0) (curve_weighted c.args.book.count c.args.xs.now c.args.xs.now c.args.ys.now c.args.ws.now w.0.within.1.1.0) in
     let d = chosen (λ d. validated c.args.criterion (weighted_rows (samples_of c.args.book.count (columns_of c.args.xs.now c.args.ys.now c.args.ws.now))) c.args.folds (count_of Curve d)) (c.max_degree-most.result.0 + 1) _ (sym found ∙ c.in-Some.is) in record { n_in_bounds = (w.0.within.0, w.0.within.0, w.0.within.1.0, omega (arith, w.0.enough.1.0, c.choose_by_folds-chosen.ensures.within.long), omega (arith, length-take-le 272 c.args.sums.now w.0.enough.0), w.0.enough.1.1.0); degree_le_highest_degree = (omega (arith, w.1, c.max_degree-most.ensures, d.within), omega (arith, curve_count c.in-Some.degree.0, w.1, c.max_degree-most.ensures, d.within)) }
 
 pub returns : goal.returns
 unfolding validate_on
-returns c = let w = validate_room _ _ _ _ _ c.args.folds c.args.bound _ (sym c.validate_refusal-refusal.ensures ∙ c.if-refusal-ne0.false) in
+returns c =
+    let w = validate_room _ _ _ _ _ c.args.folds c.args.bound _ (sym c.validate_refusal-refusal.ensures ∙ c.if-refusal-ne0.false) in
     let found = c.choose_by_folds-chosen.ensures.is ∙ ap (λ (rows : List WeightedRow). validated_choice c.args.criterion rows c.args.folds c.max_degree-most.result.0) (curve_weighted c.args.book.count c.args.xs.now c.args.xs.now c.args.ys.now c.args.ws.now w.0.within.1.1.0) in
     let same = ap (λ b. validated_choice c.args.criterion (weighted_rows (samples_of c.args.book.count (columns_of c.args.xs.now c.args.ys.now c.args.ws.now))) c.args.folds b) c.max_degree-most.ensures in
     let_through _ _ _ _ _ _ _ (sym c.validate_refusal-refusal.ensures ∙ c.if-refusal-ne0.false)

@@ -20,5 +20,6 @@ unfolding all_fit
 loop-k-preserved c = (omega arith, ap (λ t. t && c.fits_in-fit.result) c.loop-k.invariant.1 ∙ ap (λ t. all_fit c.args.words.now c.args.width c.loop-k.k && t) (c.fits_in-fit.ensures ∙ ap (fits_in c.args.width) c.places_at-p.ensures) ∙ sym (fold_table (λ b p. b && fits_in c.args.width p) true (places_at c.args.words.now) c.loop-k.k))
 
 pub returns : goal.returns
-returns c = let e : c.loop-k.k ≡ c.args.m = omega (arith, c.loop-k.invariant.0, c.loop-k-test.false) in
+returns c =
+    let e : c.loop-k.k ≡ c.args.m = omega (arith, c.loop-k.invariant.0, c.loop-k-test.false) in
     c.loop-k.invariant.1 ∙ ap (all_fit c.args.words.now c.args.width) e

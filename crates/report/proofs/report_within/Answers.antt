@@ -13,11 +13,13 @@ pub returns-then-refusal-ne0 : goal.returns-then-refusal-ne0
 returns-then-refusal-ne0 c = within_refused c.args.book.count c.args.settings c.args.limit (columns_of c.args.xs.now c.args.ys.now c.args.ws.now) c.args.sums.now (record { scratch = c.args.scratch.now; coefficients = c.args.coefficients.now; errors = c.args.errors.now; pruned = c.args.pruned.now; lower = c.args.lower.now; upper = c.args.upper.now; outliers = c.args.outliers.now }) c.report_refusal-refusal.result c.report_refusal-refusal.ensures (omega arith)
 
 pub slice_bounds-report_rows-end : goal.slice_bounds-report_rows-end
-slice_bounds-report_rows-end c = let w = has_room c.args.book.count c.args.settings c.args.limit (columns_of c.args.xs.now c.args.ys.now c.args.ws.now) c.args.sums.now (record { scratch = c.args.scratch.now; coefficients = c.args.coefficients.now; errors = c.args.errors.now; pruned = c.args.pruned.now; lower = c.args.lower.now; upper = c.args.upper.now; outliers = c.args.outliers.now }) c.report_refusal-refusal.result c.report_refusal-refusal.ensures (omega arith) in
+slice_bounds-report_rows-end c =
+    let w = has_room c.args.book.count c.args.settings c.args.limit (columns_of c.args.xs.now c.args.ys.now c.args.ws.now) c.args.sums.now (record { scratch = c.args.scratch.now; coefficients = c.args.coefficients.now; errors = c.args.errors.now; pruned = c.args.pruned.now; lower = c.args.lower.now; upper = c.args.upper.now; outliers = c.args.outliers.now }) c.report_refusal-refusal.result c.report_refusal-refusal.ensures (omega arith) in
     sym (length-take-le 272 c.args.sums.now w.room.enough.0)
 
 pub report_rows-requires : goal.report_rows-requires
-report_rows-requires c = let w = has_room c.args.book.count c.args.settings c.args.limit (columns_of c.args.xs.now c.args.ys.now c.args.ws.now) c.args.sums.now (record { scratch = c.args.scratch.now; coefficients = c.args.coefficients.now; errors = c.args.errors.now; pruned = c.args.pruned.now; lower = c.args.lower.now; upper = c.args.upper.now; outliers = c.args.outliers.now }) c.report_refusal-refusal.result c.report_refusal-refusal.ensures (omega arith) in
+report_rows-requires c =
+    let w = has_room c.args.book.count c.args.settings c.args.limit (columns_of c.args.xs.now c.args.ys.now c.args.ws.now) c.args.sums.now (record { scratch = c.args.scratch.now; coefficients = c.args.coefficients.now; errors = c.args.errors.now; pruned = c.args.pruned.now; lower = c.args.lower.now; upper = c.args.upper.now; outliers = c.args.outliers.now }) c.report_refusal-refusal.result c.report_refusal-refusal.ensures (omega arith) in
     let b = max_degree_below c.args.settings.bound c.args.book.count w.some in
     let k = curve_count c.max_degree-last.result.0 in
     let e = w.room.enough.1 in record { n_in_bounds = (w.room.within.0, w.room.within.0, w.room.within.1.0, omega (arith, length-take-le 272 c.args.sums.now w.room.enough.0), omega (arith, c.max_degree-last.ensures, w.most), omega (arith, c.max_degree-last.ensures, k, b), omega (arith, c.max_degree-last.ensures, w.most, k)); outputs_fit = (e.0, e.1.0, e.1.1.0, e.1.1.1.0, e.1.1.1.1.0, e.1.1.1.1.1.0, e.1.1.1.1.1.1.0) }

@@ -20,7 +20,8 @@ pub shape_of-scratch : goal.shape_of-scratch
 shape_of-scratch c = c.clear.auto.s
 
 pub returns : goal.returns
-returns c = let n = c.args.n in
+returns c =
+    let n = c.args.n in
     let rows = rows_at c.args.basis n c.args.xs.now c.args.zs.now c.args.ys.now in
     let sized : length c.args.c ≡ 16 = omega arith in
     writes_is c.args.basis n c.args.settings rows c.args.degree.0 c.args.solved c.args.c c.args.v sized

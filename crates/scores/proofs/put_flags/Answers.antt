@@ -17,5 +17,6 @@ pub loop-i-preserved : goal.loop-i-preserved
 loop-i-preserved c = (search rules, simp length-set c.loop-i.invariant.1, rw (c.loop-i.invariant.2, byte_is (get_or c.args.flags c.loop-i.i false)) (each_again _ _ _ 0 (search rules)))
 
 pub returns : goal.returns
-returns c = let z : c.loop-i.i ≡ 16 = omega arith in
+returns c =
+    let z : c.loop-i.i ≡ 16 = omega arith in
     (rw z at c.loop-i.invariant.2) ∙ marks_written c.args.flags c.args.out.now (search rules) (search rules)

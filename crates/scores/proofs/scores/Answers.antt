@@ -16,15 +16,18 @@ unfolding scores_on
 returns-then-refusal-ne0 c = refused_early_lem _ _ _ c.args.scratch.now c.args.solved.now c.args.scores.now c.scores_refusal-refusal.ensures c.if-refusal-ne0.true
 
 pub slice_bounds-choose-end : goal.slice_bounds-choose-end
-slice_bounds-choose-end c = let w = scores_room _ _ _ _ _ _ _ _ (sym c.scores_refusal-refusal.ensures ∙ c.if-refusal-ne0.false) in
+slice_bounds-choose-end c =
+    let w = scores_room _ _ _ _ _ _ _ _ (sym c.scores_refusal-refusal.ensures ∙ c.if-refusal-ne0.false) in
     sym (length-take-le 272 c.args.sums.now w.0.enough.0)
 
 pub choose-m-requires : goal.choose-m-requires
-choose-m-requires c = let w = scores_room _ _ _ _ _ _ _ _ (sym c.scores_refusal-refusal.ensures ∙ c.if-refusal-ne0.false) in
+choose-m-requires c =
+    let w = scores_room _ _ _ _ _ _ _ _ (sym c.scores_refusal-refusal.ensures ∙ c.if-refusal-ne0.false) in
     (w.0.within.0, w.0.within.0, w.0.within.1.0, w.0.enough.1.0, omega (arith, length-take-le 272 c.args.sums.now w.0.enough.0), omega (arith, c.max_degree-last.ensures, w.2), omega (arith, c.max_degree-last.ensures, w.2, curve_count c.max_degree-last.result.0))
 
 pub clear-requires : goal.clear-requires
-clear-requires c = let w = scores_room _ _ _ _ _ _ _ _ (sym c.scores_refusal-refusal.ensures ∙ c.if-refusal-ne0.false) in
+clear-requires c =
+    let w = scores_room _ _ _ _ _ _ _ _ (sym c.scores_refusal-refusal.ensures ∙ c.if-refusal-ne0.false) in
     omega (arith, w.0.enough.1.0, c.choose-m.ensures.within.long)
 
 pub returns-then-m-ne0 : goal.returns-then-m-ne0
@@ -33,11 +36,13 @@ returns-then-m-ne0 c = let_through _ c.args.book.count c.args.settings _ _ (take
     (refused_late_lem c.args.book.count c.args.settings _ (take 272 c.args.sums.now) _ _ c.choose-m.result (rw c.max_degree-last.ensures at c.choose-m.ensures) _ c.clear.ensures c.if-m-ne0.true _ _)
 
 pub put_flags-requires : goal.put_flags-requires
-put_flags-requires c = let w = scores_room _ _ _ _ _ _ _ _ (sym c.scores_refusal-refusal.ensures ∙ c.if-refusal-ne0.false) in
+put_flags-requires c =
+    let w = scores_room _ _ _ _ _ _ _ _ (sym c.scores_refusal-refusal.ensures ∙ c.if-refusal-ne0.false) in
     w.0.enough.1.1.0
 
 pub put_terms-requires : goal.put_terms-requires
-put_terms-requires c = let w = scores_room _ _ _ _ _ _ _ _ (sym c.scores_refusal-refusal.ensures ∙ c.if-refusal-ne0.false) in
+put_terms-requires c =
+    let w = scores_room _ _ _ _ _ _ _ _ (sym c.scores_refusal-refusal.ensures ∙ c.if-refusal-ne0.false) in
     w.0.enough.1.1.1.0
 
 pub returns : goal.returns

@@ -18,23 +18,25 @@ pub loop-stake-init : goal.loop-stake-init
 loop-stake-init c = (refl, refl, refl, refl, refl, refl, refl, refl, search rules, refl)
 
 pub loop-stake-preserved : goal.loop-stake-preserved
-loop-stake-preserved c = let S = season_of c.args.counts.now (columns_of c.args.xs.now c.args.ys.now c.args.ws.now) c.args.sums.now in (
-  search rules,
-  search rules,
-  search rules,
-  search rules,
-  search rules,
-  search rules,
-  search rules,
-  simp length-set c.loop-stake.invariant.7,
-  omega (arith, c.loop-stake.invariant.8, c.passes-passed.ensures.1),
-  ap (λ (t : Reported). from (report_turn c.args.settings S) (c.loop-stake.stake + 1) stakes t)
-      (turn_is c.args.settings S c.loop-stake.stake (record { reports = c.loop-stake.reports; passed = c.loop-stake.passed; lent = record { scratch = c.loop-stake.scratch; coefficients = c.loop-stake.coefficients; errors = c.loop-stake.errors; pruned = c.loop-stake.pruned; lower = c.loop-stake.lower; upper = c.loop-stake.upper; outliers = c.loop-stake.outliers } }) c.report-answer.ensures c.passes-passed.ensures.0)
-      ∙ again (report_turn c.args.settings S) c.loop-stake.stake stakes _ c.loop-stake-test.true ∙ c.loop-stake.invariant.9,
-)
+loop-stake-preserved c =
+    let S = season_of c.args.counts.now (columns_of c.args.xs.now c.args.ys.now c.args.ws.now) c.args.sums.now in (
+      search rules,
+      search rules,
+      search rules,
+      search rules,
+      search rules,
+      search rules,
+      search rules,
+      simp length-set c.loop-stake.invariant.7,
+      omega (arith, c.loop-stake.invariant.8, c.passes-passed.ensures.1),
+      ap (λ (t : Reported). from (report_turn c.args.settings S) (c.loop-stake.stake + 1) stakes t)
+          (turn_is c.args.settings S c.loop-stake.stake (record { reports = c.loop-stake.reports; passed = c.loop-stake.passed; lent = record { scratch = c.loop-stake.scratch; coefficients = c.loop-stake.coefficients; errors = c.loop-stake.errors; pruned = c.loop-stake.pruned; lower = c.loop-stake.lower; upper = c.loop-stake.upper; outliers = c.loop-stake.outliers } }) c.report-answer.ensures c.passes-passed.ensures.0)
+          ∙ again (report_turn c.args.settings S) c.loop-stake.stake stakes _ c.loop-stake-test.true ∙ c.loop-stake.invariant.9,
+    )
 
 pub returns : goal.returns
 unfolding season_report
-returns c = let S = season_of c.args.counts.now (columns_of c.args.xs.now c.args.ys.now c.args.ws.now) c.args.sums.now in
+returns c =
+    let S = season_of c.args.counts.now (columns_of c.args.xs.now c.args.ys.now c.args.ws.now) c.args.sums.now in
     let q = sym (done (report_turn c.args.settings S) c.loop-stake.stake stakes _ c.loop-stake-test.false) ∙ c.loop-stake.invariant.9 in
     record { reports = ap (λ (t : Reported). t.reports) q; passed = ap (λ (t : Reported). t.passed) q; outputs = ap (λ (t : Reported). t.lent) q }

@@ -18,5 +18,6 @@ loop-i-preserved c = (search rules, rw c.loop-i.invariant.1 (each_again _ _ _ na
 
 pub returns : goal.returns
 unfolding first_rows
-returns c = let z : c.loop-i.i ≡ 16 * c.args.k.0 = omega arith in
+returns c =
+    let z : c.loop-i.i ≡ 16 * c.args.k.0 = omega arith in
     rw z at c.loop-i.invariant.1

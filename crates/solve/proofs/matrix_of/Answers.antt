@@ -19,5 +19,6 @@ pub loop-i-preserved : goal.loop-i-preserved
 loop-i-preserved c = (search rules, rw c.loop-i.invariant.1 (each_again _ _ _ nan (search rules)))
 
 pub returns : goal.returns
-returns c = let z : c.loop-i.i ≡ 256 = omega arith in
+returns c =
+    let z : c.loop-i.i ≡ 256 = omega arith in
     (rw z at c.loop-i.invariant.1) ∙ each_copy nan 256 c.args.sums.now (replicate 256 zero_f) c.requires (lit≤ tt) ∙ append-nil _

@@ -8,10 +8,12 @@ use Rattle.solve.proofs.solution.Goals as goal
 
 pub returns-then-held-k : goal.returns-then-held-k
 unfolding solution_of
-returns-then-held-k c = let least : min c.args.k.0 c.args.held ≡ c.args.held = omega (arith, c.if-held-k.true) in
+returns-then-held-k c =
+    let least : min c.args.k.0 c.args.held ≡ c.args.held = omega (arith, c.if-held-k.true) in
     rw (lt-ltb _ _ c.if-held-k.true, least) refl
 
 pub returns : goal.returns
 unfolding solution_of
-returns c = let least : min c.args.k.0 c.args.held ≡ c.args.k.0 = omega (arith, c.if-held-k.false) in
+returns c =
+    let least : min c.args.k.0 c.args.held ≡ c.args.k.0 = omega (arith, c.if-held-k.false) in
     rw (le-ltb _ _ c.if-held-k.false, least, c.back_substitution.ensures, c.front-c.ensures) refl

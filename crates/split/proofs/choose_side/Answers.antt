@@ -9,7 +9,8 @@ use Rattle.fit.specs.Chosen.{choice_of, counts_of}
 use Rattle.split.proofs.choose_side.Goals as goal
 
 pub choose-requires : goal.choose-requires
-choose-requires c = let few : c.max_degree-most.result.0 ≤ 15 = omega (arith, c.max_degree-most.ensures, c.requires.4) in
+choose-requires c =
+    let few : c.max_degree-most.result.0 ≤ 15 = omega (arith, c.max_degree-most.ensures, c.requires.4) in
     (c.requires.0, c.requires.0, c.requires.1, c.requires.2, c.requires.3, few, omega (arith, curve_count c.max_degree-most.result.0, few))
 
 pub returns : goal.returns

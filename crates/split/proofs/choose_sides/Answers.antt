@@ -16,7 +16,8 @@ pub k-requires : goal.k-requires
 k-requires c = omega (arith, c.max_degree-most.ensures, right_most c.args.bound c.args.criterion c.args.n c.args.b c.args.xs.now c.args.ys.now c.args.ws.now c.requires.n_in_bounds.3 c.requires.n_in_bounds.4)
 
 pub side_sums-own-requires : goal.side_sums-own-requires
-side_sums-own-requires c = let most = right_most c.args.bound c.args.criterion c.args.n c.args.b c.args.xs.now c.args.ys.now c.args.ws.now c.requires.n_in_bounds.3 c.requires.n_in_bounds.4 in
+side_sums-own-requires c =
+    let most = right_most c.args.bound c.args.criterion c.args.n c.args.b c.args.xs.now c.args.ys.now c.args.ws.now c.requires.n_in_bounds.3 c.requires.n_in_bounds.4 in
     (omega (arith, c.requires.n_in_bounds.3), c.requires.n_in_bounds.0, c.requires.n_in_bounds.1, omega (arith, c.k.ensures ∙ curve_count c.max_degree-most.result.0, c.max_degree-most.ensures, most))
 
 pub offset_bounds-xs-b : goal.offset_bounds-xs-b
@@ -26,7 +27,8 @@ pub offset_bounds-ys-b : goal.offset_bounds-ys-b
 offset_bounds-ys-b c = record { fits = omega (arith, c.requires.n_in_bounds.3, c.requires.n_in_bounds.5) }
 
 pub choose_side-right-requires : goal.choose_side-right-requires
-choose_side-right-requires c = let most = right_most c.args.bound c.args.criterion c.args.n c.args.b c.args.xs.now c.args.ys.now c.args.ws.now c.requires.n_in_bounds.3 c.requires.n_in_bounds.4 in
+choose_side-right-requires c =
+    let most = right_most c.args.bound c.args.criterion c.args.n c.args.b c.args.xs.now c.args.ys.now c.args.ws.now c.requires.n_in_bounds.3 c.requires.n_in_bounds.4 in
     (omega (arith, slice_long c.args.b c.args.xs.now, c.requires.n_in_bounds.0), omega (arith, slice_long c.args.b c.args.ys.now, c.requires.n_in_bounds.1), omega (arith, c.choose_side-left.ensures.within.long, c.requires.n_in_bounds.2), omega (arith, c.side_sums-own.ensures.long), most)
 
 pub returns : goal.returns

@@ -24,7 +24,8 @@ pub side_sums-sums-requires : goal.side_sums-sums-requires
 side_sums-sums-requires c = (omega arith, omega (arith, c.requires.0, c.requires.3), omega (arith, c.requires.1, c.requires.3), omega (arith, c.k-k.ensures ∙ curve_count c.max_degree-most.result.0, c.max_degree-most.ensures, c.requires.5))
 
 pub loop-b-init : goal.loop-b-init
-loop-b-init c = let rows = weighted_rows_at Curve c.args.n c.args.xs.now c.args.xs.now c.args.ys.now c.args.ws.now in
+loop-b-init c =
+    let rows = weighted_rows_at Curve c.args.n c.args.xs.now c.args.xs.now c.args.ys.now c.args.ws.now in
     let long = length_weighted_at Curve c.args.xs.now c.args.xs.now c.args.ys.now c.args.ws.now c.args.n in
     (search rules, omega (arith, c.requires.3), search rules, search rules, within_itself _ _, c.side_sums-sums.ensures.long, c.side_sums-sums.ensures.same, best_whole c.args.bound c.args.criterion rows c.args.n long, tests_whole c.args.bound c.args.criterion rows c.args.n long)
 
@@ -32,18 +33,21 @@ pub choose_sides-s-requires : goal.choose_sides-s-requires
 choose_sides-s-requires c = record { n_in_bounds = (c.requires.0, c.requires.1, omega (arith, c.requires.2, c.loop-b.invariant.4.long), omega (arith, c.loop-b.invariant.1, c.requires.3), c.requires.5, c.requires.4); left_sums = (c.loop-b.invariant.5, subst (λ (m : ℕ). SameCorner m c.loop-b.sums (sums_of (weighted_rows_at Curve c.loop-b.b c.args.xs.now c.args.xs.now c.args.ys.now c.args.ws.now))) (c.k-k.ensures ∙ ap (count_of Curve) c.max_degree-most.ensures) c.loop-b.invariant.6) }
 
 pub tests_of-tests-requires : goal.tests_of-tests-requires
-tests_of-tests-requires c = let rows = weighted_rows_at Curve c.args.n c.args.xs.now c.args.xs.now c.args.ys.now c.args.ws.now in
+tests_of-tests-requires c =
+    let rows = weighted_rows_at Curve c.args.n c.args.xs.now c.args.xs.now c.args.ys.now c.args.ws.now in
     let fits = rows_bound c.args.bound c.args.n c.args.xs.now c.args.ys.now c.args.ws.now c.requires.5 in
     tests_few c.args.bound c.args.criterion rows c.loop-b.b (c.args.n - 1) c.choose_sides-s.result.left c.choose_sides-s.result.right c.choose_sides-s.ensures.left c.choose_sides-s.ensures.right fits
 
 pub overflow_add-tests : goal.overflow_add-tests
-overflow_add-tests c = let rows = weighted_rows_at Curve c.args.n c.args.xs.now c.args.xs.now c.args.ys.now c.args.ws.now in
+overflow_add-tests c =
+    let rows = weighted_rows_at Curve c.args.n c.args.xs.now c.args.xs.now c.args.ys.now c.args.ws.now in
     let fits = rows_bound c.args.bound c.args.n c.args.xs.now c.args.ys.now c.args.ws.now c.requires.5 in
     let few = tests_few c.args.bound c.args.criterion rows c.loop-b.b (c.args.n - 1) c.choose_sides-s.result.left c.choose_sides-s.result.right c.choose_sides-s.ensures.left c.choose_sides-s.ensures.right fits in
     omega (arith, c.tests_of-tests.ensures, few, c.loop-b.invariant.3, c.loop-b.invariant.1, c.requires.4)
 
 pub returns-then-limit-tests : goal.returns-then-limit-tests
-returns-then-limit-tests c = let rows = weighted_rows_at Curve c.args.n c.args.xs.now c.args.xs.now c.args.ys.now c.args.ws.now in
+returns-then-limit-tests c =
+    let rows = weighted_rows_at Curve c.args.n c.args.xs.now c.args.xs.now c.args.ys.now c.args.ws.now in
     let fits = rows_bound c.args.bound c.args.n c.args.xs.now c.args.ys.now c.args.ws.now c.requires.5 in
     let grown = tests_grow c.args.bound c.args.criterion rows fits (c.loop-b.b + 1) (c.args.n - 1) (c.loop-b.tests + c.tests_of-tests.result) (omega (arith, c.loop-b-test.true)) in
     let e = ap (λ k. tests_from c.args.bound c.args.criterion rows (c.loop-b.b + 1) (c.args.n - 1) (c.loop-b.tests + k)) c.tests_of-tests.ensures
@@ -61,7 +65,8 @@ pub overflow_step-b : goal.overflow_step-b
 overflow_step-b c = omega (arith, c.loop-b-test.true, c.requires.4)
 
 pub loop-b-preserved : goal.loop-b-preserved
-loop-b-preserved c = let rows = weighted_rows_at Curve c.args.n c.args.xs.now c.args.xs.now c.args.ys.now c.args.ws.now in
+loop-b-preserved c =
+    let rows = weighted_rows_at Curve c.args.n c.args.xs.now c.args.xs.now c.args.ys.now c.args.ws.now in
     let fits = rows_bound c.args.bound c.args.n c.args.xs.now c.args.ys.now c.args.ws.now c.requires.5 in
     let few = tests_few c.args.bound c.args.criterion rows c.loop-b.b (c.args.n - 1) c.choose_sides-s.result.left c.choose_sides-s.result.right c.choose_sides-s.ensures.left c.choose_sides-s.ensures.right fits in
     let e = ap (λ k. tests_from c.args.bound c.args.criterion rows (c.loop-b.b + 1) (c.args.n - 1) (c.loop-b.tests + k)) c.tests_of-tests.ensures
@@ -79,13 +84,15 @@ loop-b-preserved c = let rows = weighted_rows_at Curve c.args.n c.args.xs.now c.
     )
 
 pub returns-then-not-best : goal.returns-then-not-best
-returns-then-not-best c = let rows = weighted_rows_at Curve c.args.n c.args.xs.now c.args.xs.now c.args.ys.now c.args.ws.now in
+returns-then-not-best c =
+    let rows = weighted_rows_at Curve c.args.n c.args.xs.now c.args.xs.now c.args.ys.now c.args.ws.now in
     let et = sym (tests_done c.args.bound c.args.criterion rows c.loop-b.b (c.args.n - 1) c.loop-b.tests c.loop-b-test.false) ∙ c.loop-b.invariant.8 in
     let eb = sym (best_done c.args.bound c.args.criterion rows c.loop-b.b (c.args.n - 1) c.loop-b.best c.loop-b-test.false) ∙ c.loop-b.invariant.7 in
     searches_none c.args.bound c.args.criterion rows c.args.limit c.args.n _ _ c.loop-b.invariant.4 c.loop-b.tests c.loop-b.best c.loop-b.invariant.2 et eb (not-true _ c.if-not-best.true)
 
 pub returns : goal.returns
-returns c = let rows = weighted_rows_at Curve c.args.n c.args.xs.now c.args.xs.now c.args.ys.now c.args.ws.now in
+returns c =
+    let rows = weighted_rows_at Curve c.args.n c.args.xs.now c.args.xs.now c.args.ys.now c.args.ws.now in
     let et = sym (tests_done c.args.bound c.args.criterion rows c.loop-b.b (c.args.n - 1) c.loop-b.tests c.loop-b-test.false) ∙ c.loop-b.invariant.8 in
     let eb = sym (best_done c.args.bound c.args.criterion rows c.loop-b.b (c.args.n - 1) c.loop-b.best c.loop-b-test.false) ∙ c.loop-b.invariant.7 in
     searches_found c.args.bound c.args.criterion rows c.args.limit c.args.n _ _ c.loop-b.invariant.4 c.loop-b.tests c.loop-b.best c.loop-b.invariant.2 et eb (not-false _ c.if-not-best.false)

@@ -16,5 +16,6 @@ loop-i-preserved c = (omega arith, rw (c.huber_loss-v.ensures, c.loop-i.invarian
 
 pub returns : goal.returns
 unfolding losses
-returns c = let z : c.loop-i.i ≡ c.args.n = omega arith in
+returns c =
+    let z : c.loop-i.i ≡ c.args.n = omega arith in
     rw (← c.median_absolute_deviation-mad.ensures, ← c.huber_const-constant.ensures) (rw z at c.loop-i.invariant.1)

@@ -12,5 +12,6 @@ pub loop-d-preserved : goal.loop-d-preserved
 loop-d-preserved c = (search rules, c.later-last.ensures ∙ (rw (c.k-k.ensures, c.loop-d.invariant.1) (sym (last_again _ _))))
 
 pub returns : goal.returns
-returns c = let z : c.loop-d.d ≡ c.args.bound.0 = omega arith in
+returns c =
+    let z : c.loop-d.d ≡ c.args.bound.0 = omega arith in
     rw z at c.loop-d.invariant.1

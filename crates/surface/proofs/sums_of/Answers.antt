@@ -20,8 +20,10 @@ loop-t-init c = (search rules, length-replicate 272 zero_f, refl)
 
 pub loop-t-preserved : goal.loop-t-preserved
 unfolding weighted_at row_at
-loop-t-preserved c = let more = ap sums_of (weighted_at_again Surface c.args.xs.now c.args.zs.now c.args.ys.now [] c.loop-t.t) ∙ sums_again (weighted_rows_at Surface c.loop-t.t c.args.xs.now c.args.zs.now c.args.ys.now []) (weighted_at Surface c.args.xs.now c.args.zs.now c.args.ys.now [] c.loop-t.t) in
+loop-t-preserved c =
+    let more = ap sums_of (weighted_at_again Surface c.args.xs.now c.args.zs.now c.args.ys.now [] c.loop-t.t) ∙ sums_again (weighted_rows_at Surface c.loop-t.t c.args.xs.now c.args.zs.now c.args.ys.now []) (weighted_at Surface c.args.xs.now c.args.zs.now c.args.ys.now [] c.loop-t.t) in
     (search rules, ap length c.add_row.ensures ∙ length_add_row _ _ ∙ c.loop-t.invariant.1, c.add_row.ensures ∙ (rw (c.terms_at-terms.ensures, c.loop-t.invariant.2) (sym more)))
 
 pub returns : goal.returns
-returns c = let last : c.loop-t.t ≡ c.args.n = omega arith in record { long = c.loop-t.invariant.1; is = rw last at c.loop-t.invariant.2 }
+returns c =
+    let last : c.loop-t.t ≡ c.args.n = omega arith in record { long = c.loop-t.invariant.1; is = rw last at c.loop-t.invariant.2 }

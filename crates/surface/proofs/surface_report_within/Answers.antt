@@ -14,13 +14,16 @@ pub returns-then-refusal-ne0 : goal.returns-then-refusal-ne0
 returns-then-refusal-ne0 c = within_refused c.args.count c.args.settings c.args.limit (point_columns c.args.xs.now c.args.zs.now c.args.ys.now) (record { scratch = c.args.scratch.now; coefficients = c.args.coefficients.now; errors = c.args.errors.now; pruned = c.args.pruned.now; lower = c.args.lower.now; upper = c.args.upper.now; outliers = c.args.outliers.now }) c.report_refusal-refusal.result c.report_refusal-refusal.ensures c.if-refusal-ne0.true
 
 pub last_tried-last-requires : goal.last_tried-last-requires
-last_tried-last-requires c = let w = has_room c.args.count c.args.settings c.args.limit (point_columns c.args.xs.now c.args.zs.now c.args.ys.now) (record { scratch = c.args.scratch.now; coefficients = c.args.coefficients.now; errors = c.args.errors.now; pruned = c.args.pruned.now; lower = c.args.lower.now; upper = c.args.upper.now; outliers = c.args.outliers.now }) c.report_refusal-refusal.result c.report_refusal-refusal.ensures c.if-refusal-ne0.false in omega (arith, w.1.1, c.max_degree-most.ensures)
+last_tried-last-requires c =
+    let w = has_room c.args.count c.args.settings c.args.limit (point_columns c.args.xs.now c.args.zs.now c.args.ys.now) (record { scratch = c.args.scratch.now; coefficients = c.args.coefficients.now; errors = c.args.errors.now; pruned = c.args.pruned.now; lower = c.args.lower.now; upper = c.args.upper.now; outliers = c.args.outliers.now }) c.report_refusal-refusal.result c.report_refusal-refusal.ensures c.if-refusal-ne0.false in omega (arith, w.1.1, c.max_degree-most.ensures)
 
 pub sums_of-sums-requires : goal.sums_of-sums-requires
-sums_of-sums-requires c = let w = has_room c.args.count c.args.settings c.args.limit (point_columns c.args.xs.now c.args.zs.now c.args.ys.now) (record { scratch = c.args.scratch.now; coefficients = c.args.coefficients.now; errors = c.args.errors.now; pruned = c.args.pruned.now; lower = c.args.lower.now; upper = c.args.upper.now; outliers = c.args.outliers.now }) c.report_refusal-refusal.result c.report_refusal-refusal.ensures c.if-refusal-ne0.false in (w.0.within.0, w.0.within.1.0, w.0.within.1.1.0)
+sums_of-sums-requires c =
+    let w = has_room c.args.count c.args.settings c.args.limit (point_columns c.args.xs.now c.args.zs.now c.args.ys.now) (record { scratch = c.args.scratch.now; coefficients = c.args.coefficients.now; errors = c.args.errors.now; pruned = c.args.pruned.now; lower = c.args.lower.now; upper = c.args.upper.now; outliers = c.args.outliers.now }) c.report_refusal-refusal.result c.report_refusal-refusal.ensures c.if-refusal-ne0.false in (w.0.within.0, w.0.within.1.0, w.0.within.1.1.0)
 
 pub report_rows-requires : goal.report_rows-requires
-report_rows-requires c = let w = has_room c.args.count c.args.settings c.args.limit (point_columns c.args.xs.now c.args.zs.now c.args.ys.now) (record { scratch = c.args.scratch.now; coefficients = c.args.coefficients.now; errors = c.args.errors.now; pruned = c.args.pruned.now; lower = c.args.lower.now; upper = c.args.upper.now; outliers = c.args.outliers.now }) c.report_refusal-refusal.result c.report_refusal-refusal.ensures c.if-refusal-ne0.false in
+report_rows-requires c =
+    let w = has_room c.args.count c.args.settings c.args.limit (point_columns c.args.xs.now c.args.zs.now c.args.ys.now) (record { scratch = c.args.scratch.now; coefficients = c.args.coefficients.now; errors = c.args.errors.now; pruned = c.args.pruned.now; lower = c.args.lower.now; upper = c.args.upper.now; outliers = c.args.outliers.now }) c.report_refusal-refusal.result c.report_refusal-refusal.ensures c.if-refusal-ne0.false in
     let e = w.0.enough in
     let within = last_within c.args.count c.max_degree-most.result.0 w.1.0 in
     let fits = last_fits c.args.count c.max_degree-most.result.0 w.1.0 in

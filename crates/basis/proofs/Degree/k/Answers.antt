@@ -6,7 +6,8 @@ use Rattle.basis.specs.Counts.{count_of}
 use Rattle.basis.proofs.Degree.k.Goals as goal
 
 pub overflow_mul-result : goal.overflow_mul-result
-overflow_mul-result c = let d = c.args.self.0 in
+overflow_mul-result c =
+    let d = c.args.self.0 in
     let p : d + 1 ≤ 16 = omega arith in
     let q : d + 2 ≤ 17 = omega arith in
     omega (arith, mul-le-mul p q)

@@ -15,19 +15,23 @@ unfolding window_out
 returns-then-refusal-ne0 c = is_refused _ _ _ _ _ c.window_refusal-refusal.ensures c.if-refusal-ne0.true
 
 pub make_place-less-requires : goal.make_place-less-requires
-make_place-less-requires c = let room = window_room _ _ _ _ (sym c.window_refusal-refusal.ensures ∙ c.if-refusal-ne0.false) in
+make_place-less-requires c =
+    let room = window_room _ _ _ _ (sym c.window_refusal-refusal.ensures ∙ c.if-refusal-ne0.false) in
     (room.0, room.3)
 
 pub put-requires : goal.put-requires
-put-requires c = let s = state_of c.args.book.count (columns_of c.args.xs.now c.args.ys.now c.args.ws.now) c.args.sums.now in
+put-requires c =
+    let s = state_of c.args.book.count (columns_of c.args.xs.now c.args.ys.now c.args.ws.now) c.args.sums.now in
     let room = window_free s _ (sym c.window_refusal-refusal.ensures ∙ c.if-refusal-ne0.false) _ _ _ c.make_place-less.ensures in
     (omega (arith, room.within.0), omega (arith, room.within.1.0), omega (arith, room.within.1.1.0), room.enough.0)
 
 pub overflow_add-more : goal.overflow_add-more
-overflow_add-more c = let s = state_of c.args.book.count (columns_of c.args.xs.now c.args.ys.now c.args.ws.now) c.args.sums.now in
+overflow_add-more c =
+    let s = state_of c.args.book.count (columns_of c.args.xs.now c.args.ys.now c.args.ws.now) c.args.sums.now in
     omega (arith, (window_free s _ (sym c.window_refusal-refusal.ensures ∙ c.if-refusal-ne0.false) _ _ _ c.make_place-less.ensures).most)
 
 pub returns : goal.returns
 unfolding window_out
-returns c = let s = state_of c.args.book.count (columns_of c.args.xs.now c.args.ys.now c.args.ws.now) c.args.sums.now in
+returns c =
+    let s = state_of c.args.book.count (columns_of c.args.xs.now c.args.ys.now c.args.ws.now) c.args.sums.now in
     is_done _ _ _ _ _ c.window_refusal-refusal.ensures c.if-refusal-ne0.false _ _ _ (window_put s _ (sym c.window_refusal-refusal.ensures ∙ c.if-refusal-ne0.false) _ _ _ c.make_place-less.ensures _ _ (columns_are c.put.ensures.0 c.put.ensures.1 c.put.ensures.2) c.put.ensures.3)

@@ -15,10 +15,12 @@ pub take_out-requires : goal.take_out-requires
 take_out-requires c = (omega (arith, c.requires.1, c.capacity.ensures, c.if-n-capacity.true), c.requires.0.within.0, c.requires.0.within.1.0, c.requires.0.within.1.1.0, c.requires.0.enough.0)
 
 pub returns-then-n-capacity : goal.returns-then-n-capacity
-returns-then-n-capacity c = let s = state_of c.args.n (columns_of c.args.xs.now c.args.ys.now c.args.ws.now) c.args.sums.now in
+returns-then-n-capacity c =
+    let s = state_of c.args.n (columns_of c.args.xs.now c.args.ys.now c.args.ws.now) c.args.sums.now in
     let full = eq-eqb _ _ (c.if-n-capacity.true ∙ c.capacity.ensures) in
     taken_out s c.requires.0 0 _ _ _ _ (omega (arith, c.requires.1, c.capacity.ensures, c.if-n-capacity.true)) c.take_out.ensures.0 c.take_out.ensures.1 c.take_out.ensures.2 c.take_out.ensures.3 ∙ sym (place_made s c.requires.0 c.requires.1 ∙ ap (λ (b : Bool). cond b (withdrawn s 0) s) full)
 
 pub returns : goal.returns
-returns c = let s = state_of c.args.n (columns_of c.args.xs.now c.args.ys.now c.args.ws.now) c.args.sums.now in
+returns c =
+    let s = state_of c.args.n (columns_of c.args.xs.now c.args.ys.now c.args.ws.now) c.args.sums.now in
     sym (place_made s c.requires.0 c.requires.1 ∙ ap (λ (b : Bool). cond b (withdrawn s 0) s) (ne_eqb _ _ (λ q. c.if-n-capacity.false (q ∙ sym c.capacity.ensures))))

@@ -20,12 +20,14 @@ pub packed_report-requires : goal.packed_report-requires
 packed_report-requires c = c.requires.stakes_fit.fits c.loop-stake.stake c.loop-stake-test.true past
 
 pub loop-stake-preserved : goal.loop-stake-preserved
-loop-stake-preserved c = let f : ℕ → ℕ → ℕ = λ k _. packed_report (get_or c.args.told.reports k past).answer in (
-  search rules,
-  simp length-set c.loop-stake.invariant.1,
-  rw (c.packed_report.ensures, c.loop-stake.invariant.2) (each_again f c.loop-stake.stake c.args.answers.now 0 (omega (arith, c.loop-stake-test.true, c.requires.stakes_in_bounds))),
-)
+loop-stake-preserved c =
+    let f : ℕ → ℕ → ℕ = λ k _. packed_report (get_or c.args.told.reports k past).answer in (
+      search rules,
+      simp length-set c.loop-stake.invariant.1,
+      rw (c.packed_report.ensures, c.loop-stake.invariant.2) (each_again f c.loop-stake.stake c.args.answers.now 0 (omega (arith, c.loop-stake-test.true, c.requires.stakes_in_bounds))),
+    )
 
 pub returns : goal.returns
-returns c = let z : c.loop-stake.stake ≡ stakes = omega (arith, c.loop-stake.invariant.0, c.loop-stake-test.false) in
+returns c =
+    let z : c.loop-stake.stake ≡ stakes = omega (arith, c.loop-stake.invariant.0, c.loop-stake-test.false) in
     (rw z at c.loop-stake.invariant.2) ∙ stakes_written past c.args.told.reports c.args.answers.now c.requires.stakes_fit.long c.requires.stakes_in_bounds

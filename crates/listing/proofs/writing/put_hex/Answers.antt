@@ -14,7 +14,8 @@ pub loop-i-init : goal.loop-i-init
 loop-i-init c = (omega arith, refl, wrote_none c.args.out.now c.args.at (omega arith))
 
 pub loop-i-preserved : goal.loop-i-preserved
-loop-i-preserved c = let n = c.args.n in
+loop-i-preserved c =
+    let n = c.args.n in
     let i = c.loop-i.i in
     let w = then (omega arith) c.loop-i.invariant.2 (λ _. c.put_byte-here.ensures) in
     let e = ap (λ z. take i (hexadecimal n) ++ (z ∷ [])) (c.glyph.ensures ∙ sym (hex_at n i (omega arith))) ∙ take_again (hexadecimal n) i (glyph 0) (omega (arith, length_hexadecimal n)) in

@@ -10,7 +10,8 @@ pub loop-i-init : goal.loop-i-init
 loop-i-init c = (omega arith, refl, wrote_none c.args.out.now c.args.at (omega arith))
 
 pub loop-i-preserved : goal.loop-i-preserved
-loop-i-preserved c = let w = then (omega arith) c.loop-i.invariant.2 (λ _. c.put_byte-here.ensures) in
+loop-i-preserved c =
+    let w = then (omega arith) c.loop-i.invariant.2 (λ _. c.put_byte-here.ensures) in
     (omega arith, length_wrote w, wrote_same (take_again c.args.text.now c.loop-i.i 0 (omega arith)) w)
 
 pub returns : goal.returns

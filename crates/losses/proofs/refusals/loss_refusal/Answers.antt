@@ -11,7 +11,8 @@ unfolding loss_refusal
 returns-then-too_short c = first_holds 1 _ (short_is _ _ _ c.too_short.ensures (short_of _ _ _ c.short-memory.ensures (short_of _ _ _ c.short-2.ensures (short_of _ _ _ c.short.ensures short_end)))) c.if-too_short.true
 
 pub settings_refusal-requires : goal.settings_refusal-requires
-settings_refusal-requires c = let t = short_is c.args.n (lengths (columns_of c.args.xs.now c.args.ys.now c.args.ws.now)) (loss_needs c.args.n c.args.sums c.args.scratch c.args.losses) c.too_short.ensures
+settings_refusal-requires c =
+    let t = short_is c.args.n (lengths (columns_of c.args.xs.now c.args.ys.now c.args.ws.now)) (loss_needs c.args.n c.args.sums c.args.scratch c.args.losses) c.too_short.ensures
     (short_of _ _ _ c.short-memory.ensures (short_of _ _ _ c.short-2.ensures (short_of _ _ _ c.short.ensures short_end))) in
     let r = room _ _ _ (sym t ∙ c.if-too_short.false) in
     (r.within.0, r.within.1.0, r.within.1.1.0)

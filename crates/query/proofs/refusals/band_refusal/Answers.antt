@@ -15,7 +15,8 @@ unfolding band_refusal
 returns-then-band_short c = first_holds 1 _ c.band_short.ensures c.if-band_short.true
 
 pub samples_finite-samples-requires : goal.samples_finite-samples-requires
-samples_finite-samples-requires c = let r = room _ _ _ (sym c.band_short.ensures ∙ c.if-band_short.false) in
+samples_finite-samples-requires c =
+    let r = room _ _ _ (sym c.band_short.ensures ∙ c.if-band_short.false) in
     (r.within.0, r.within.1.0, r.within.1.1.0)
 
 pub outside-outside-requires : goal.outside-outside-requires
@@ -23,7 +24,8 @@ outside-outside-requires c = (room _ _ _ (sym c.band_short.ensures ∙ c.if-band
 
 pub returns : goal.returns
 unfolding band_refusal
-returns c = let within = (room _ _ _ (sym c.band_short.ensures ∙ c.if-band_short.false)).within.0 in
+returns c =
+    let within = (room _ _ _ (sym c.band_short.ensures ∙ c.if-band_short.false)).within.0 in
     let beyond = c.outside-outside.ensures ∙ ap (outside c.args.x) (sym (column_of_samples c.args.n (columns_of c.args.xs.now c.args.ys.now c.args.ws.now) of_x within)) in
     first_fails 1 _ c.band_short.ensures c.if-band_short.false
     (first_of_lem 4 _ (ap not (ap₂ ◌&&◌ (ap₂ ◌&&◌ (ap₂ ◌&&◌ c.is_finite-given.ensures c.score_finite-score.ensures) c.tolerance_finite-width.ensures) c.samples_finite-samples.ensures))

@@ -11,7 +11,8 @@ unfolding validate_refusal
 returns-then-fit_short c = first_holds 1 _ c.fit_short.ensures c.if-fit_short.true
 
 pub samples_finite-wrong-requires : goal.samples_finite-wrong-requires
-samples_finite-wrong-requires c = let r = room _ _ _ (sym c.fit_short.ensures ∙ c.if-fit_short.false) in
+samples_finite-wrong-requires c =
+    let r = room _ _ _ (sym c.fit_short.ensures ∙ c.if-fit_short.false) in
     (r.within.0, r.within.1.0, r.within.1.1.0)
 
 pub returns : goal.returns

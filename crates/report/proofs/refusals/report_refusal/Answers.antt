@@ -10,7 +10,8 @@ unfolding report_refusal
 returns-then-report_short c = first_holds 1 _ c.report_short.ensures c.if-report_short.true
 
 pub settings_refusal-requires : goal.settings_refusal-requires
-settings_refusal-requires c = let r = room _ _ _ (sym c.report_short.ensures ∙ c.if-report_short.false) in
+settings_refusal-requires c =
+    let r = room _ _ _ (sym c.report_short.ensures ∙ c.if-report_short.false) in
     (r.within.0, r.within.1.0, r.within.1.1.0)
 
 pub returns : goal.returns

@@ -10,7 +10,8 @@ unfolding split_refusal
 returns-then-split_short c = first_holds 1 _ c.split_short.ensures c.if-split_short.true
 
 pub settings_refusal-requires : goal.settings_refusal-requires
-settings_refusal-requires c = let r = room _ _ _ (sym c.split_short.ensures ∙ c.if-split_short.false) in
+settings_refusal-requires c =
+    let r = room _ _ _ (sym c.split_short.ensures ∙ c.if-split_short.false) in
     (r.within.0, r.within.1.0, r.within.1.1.0)
 
 pub returns : goal.returns

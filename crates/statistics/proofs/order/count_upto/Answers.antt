@@ -18,4 +18,5 @@ pub loop-i-preserved : goal.loop-i-preserved
 loop-i-preserved c = (omega arith, omega arith, count_turn c.args.d c.args.a.now c.loop-i.i (omega arith) _ c.key.ensures.is c.args.b _ _ c.loop-i.invariant.2 c.tally-found.ensures.0)
 
 pub returns : goal.returns
-returns c = let z : c.loop-i.i ≡ c.args.n = omega arith in rw z at c.loop-i.invariant.2
+returns c =
+    let z : c.loop-i.i ≡ c.args.n = omega arith in rw z at c.loop-i.invariant.2

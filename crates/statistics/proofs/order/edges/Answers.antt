@@ -14,7 +14,8 @@ pub key-k-requires : goal.key-k-requires
 key-k-requires c = plain_at c.args.d c.args.n c.args.a.now c.loop-i.i c.requires.0 c.loop-i-test.true c.requires.1
 
 pub loop-i-preserved : goal.loop-i-preserved
-loop-i-preserved c = let l : c.loop-i.i < length c.args.a.now = omega arith in
+loop-i-preserved c =
+    let l : c.loop-i.i < length c.args.a.now = omega arith in
     let k = c.key-k.ensures.is in (
       omega arith,
       greatest_turn c.args.d c.args.a.now c.loop-i.i l _ k c.args.b _ _ c.loop-i.invariant.1 c.farther-low.ensures,
@@ -22,5 +23,6 @@ loop-i-preserved c = let l : c.loop-i.i < length c.args.a.now = omega arith in
     )
 
 pub returns : goal.returns
-returns c = let z : c.loop-i.i ≡ c.args.n = omega arith in
+returns c =
+    let z : c.loop-i.i ≡ c.args.n = omega arith in
     (rw z at c.loop-i.invariant.1, rw z at c.loop-i.invariant.2)

@@ -13,12 +13,14 @@ pub key-k-requires : goal.key-k-requires
 key-k-requires c = plain_at c.args.d c.args.n c.args.a.now c.loop-i.i c.requires.0 c.loop-i-test.true c.requires.1
 
 pub bounds-out-c : goal.bounds-out-c
-bounds-out-c c = let q = c.loop-i.invariant.3 in
+bounds-out-c c =
+    let q = c.loop-i.invariant.3 in
     let w = count_part (between c.args.lo c.args.hi) c.args.d c.args.a.now c.loop-i.i c.args.n c.loop-i.invariant.0 in
     omega (arith, q, w, c.requires.2)
 
 pub loop-i-preserved : goal.loop-i-preserved
-loop-i-preserved c = let i = c.loop-i.i in
+loop-i-preserved c =
+    let i = c.loop-i.i in
     let k = c.key-k.ensures.is in
     let t = c.lies-c.ensures.0 in
     let h : i < length c.args.a.now = omega arith in
@@ -33,7 +35,8 @@ loop-i-preserved c = let i = c.loop-i.i in
     )
 
 pub returns : goal.returns
-returns c = let z : c.loop-i.i ≡ c.args.n = omega arith in record { value = rw z at c.loop-i.invariant.3; out_after = rw z at c.loop-i.invariant.4 }
+returns c =
+    let z : c.loop-i.i ≡ c.args.n = omega arith in record { value = rw z at c.loop-i.invariant.3; out_after = rw z at c.loop-i.invariant.4 }
 
 pub float_from_bits-out : goal.float_from_bits-out
 float_from_bits-out c = bits_some _ c.key-k.ensures.small

@@ -16,4 +16,5 @@ unfolding any_nan
 loop-i-preserved c = (omega arith, rw (c.loop-i.invariant.1, nan_differs (get_or c.args.a.now c.loop-i.i nan)) (sym (fold_again (λ b x. b || is_nan x) false c.args.a.now nan c.loop-i.i (omega arith))))
 
 pub returns : goal.returns
-returns c = let z : c.loop-i.i ≡ c.args.n = omega arith in rw z at c.loop-i.invariant.1
+returns c =
+    let z : c.loop-i.i ≡ c.args.n = omega arith in rw z at c.loop-i.invariant.1

@@ -15,4 +15,5 @@ pub loop-i-preserved : goal.loop-i-preserved
 loop-i-preserved c = (omega arith, nan_turn c.args.d c.args.a.now c.loop-i.i (omega arith) _ _ c.loop-i.invariant.1 (ap (λ (v : Float). sub binary64 v c.args.d) c.abs.ensures))
 
 pub returns : goal.returns
-returns c = let z : c.loop-i.i ≡ c.args.n = omega arith in rw z at c.loop-i.invariant.1
+returns c =
+    let z : c.loop-i.i ≡ c.args.n = omega arith in rw z at c.loop-i.invariant.1

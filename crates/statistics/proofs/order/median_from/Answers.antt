@@ -21,7 +21,8 @@ pub middles_from-p-requires : goal.middles_from-p-requires
 middles_from-p-requires c = (c.requires, distances_plain c.args.d (take c.args.n c.args.a.now) (sym c.any_nan.ensures ∙ c.if-any_nan.false), let z = c.if-n-eq0.false in omega arith)
 
 pub returns-then-n-eq1 : goal.returns-then-n-eq1
-returns-then-n-eq1 c = let l = distances c.args.d (take c.args.n c.args.a.now) in
+returns-then-n-eq1 c =
+    let l = distances c.args.d (take c.args.n c.args.a.now) in
     let e = length_distances c.args.d c.args.n c.args.a.now c.requires in
     let some = sym c.any_nan.ensures ∙ c.if-any_nan.false in
     let none = c.if-n-eq0.false in
@@ -30,7 +31,8 @@ returns-then-n-eq1 c = let l = distances c.args.d (take c.args.n c.args.a.now) i
     placed l (distances_plain c.args.d (take c.args.n c.args.a.now) some) (c.args.n / 2) _ c.middles_from-p.ensures.upper h ∙ (rw e at odd)
 
 pub returns : goal.returns
-returns c = let l = distances c.args.d (take c.args.n c.args.a.now) in
+returns c =
+    let l = distances c.args.d (take c.args.n c.args.a.now) in
     let e = length_distances c.args.d c.args.n c.args.a.now c.requires in
     let some = sym c.any_nan.ensures ∙ c.if-any_nan.false in
     let none = c.if-n-eq0.false in

@@ -14,4 +14,5 @@ pub loop-i-preserved : goal.loop-i-preserved
 loop-i-preserved c = (omega arith, rw c.loop-i.invariant.1 (sym (fold_again (add binary64) zero_f c.args.a.now nan c.loop-i.i (omega arith))))
 
 pub returns : goal.returns
-returns c = let z : c.loop-i.i ≡ c.args.n = omega arith in rw z at c.loop-i.invariant.1
+returns c =
+    let z : c.loop-i.i ≡ c.args.n = omega arith in rw z at c.loop-i.invariant.1

@@ -14,4 +14,5 @@ pub loop-preserved : goal.loop-preserved
 loop-preserved c = (omega arith, more c.args.s c.loop.counter c.loop.r c.loop.invariant.1)
 
 pub returns : goal.returns
-returns c = let z : c.loop.counter ≡ c.args.p = omega arith in c.loop.invariant.1 ∙ ap (λ (j : ℕ). c.args.s ^ j) z
+returns c =
+    let z : c.loop.counter ≡ c.args.p = omega arith in c.loop.invariant.1 ∙ ap (λ (j : ℕ). c.args.s ^ j) z

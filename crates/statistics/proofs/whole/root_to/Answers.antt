@@ -13,5 +13,6 @@ pub loop-r-preserved : goal.loop-r-preserved
 loop-r-preserved c = (omega arith, rw c.power.ensures at c.if-power-n.false)
 
 pub returns : goal.returns
-returns c = let z : c.loop-r.r ≡ c.args.cap = omega arith in
+returns c =
+    let z : c.loop-r.r ≡ c.args.cap = omega arith in
     z ∙ root_cap c.args.p c.args.n c.args.cap c.requires.0 (rw z at c.loop-r.invariant.1)

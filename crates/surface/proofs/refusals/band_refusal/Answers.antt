@@ -16,19 +16,22 @@ unfolding surface_band_refusal
 returns-then-band_short c = first_holds 1 _ c.band_short.ensures c.if-band_short.true
 
 pub points_finite-points-requires : goal.points_finite-points-requires
-points_finite-points-requires c = let r = room _ _ _ (sym c.band_short.ensures ∙ c.if-band_short.false) in
+points_finite-points-requires c =
+    let r = room _ _ _ (sym c.band_short.ensures ∙ c.if-band_short.false) in
     (r.within.0, r.within.1.0, r.within.1.1.0)
 
 pub outside-beside-requires : goal.outside-beside-requires
 outside-beside-requires c = (room _ _ _ (sym c.band_short.ensures ∙ c.if-band_short.false)).within.0
 
 pub outside-above-requires : goal.outside-above-requires
-outside-above-requires c = let r = room _ _ _ (sym c.band_short.ensures ∙ c.if-band_short.false) in
+outside-above-requires c =
+    let r = room _ _ _ (sym c.band_short.ensures ∙ c.if-band_short.false) in
     omega (arith, r.within.0, r.within.1.0)
 
 pub returns : goal.returns
 unfolding surface_band_refusal
-returns c = let r = room _ _ _ (sym c.band_short.ensures ∙ c.if-band_short.false) in
+returns c =
+    let r = room _ _ _ (sym c.band_short.ensures ∙ c.if-band_short.false) in
     let columns = point_columns c.args.xs.now c.args.zs.now c.args.ys.now in
     let beside = c.outside-beside.ensures ∙ ap (outside c.args.x) (sym (xs_of_points c.args.n columns r.within.0)) in
     let above = c.outside-above.ensures ∙ ap (outside c.args.z) (sym (zs_of_points c.args.n columns r.within.1.0)) in

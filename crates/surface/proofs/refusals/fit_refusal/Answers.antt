@@ -12,7 +12,8 @@ unfolding surface_fit_refusal
 returns-then-fit_short c = first_holds 1 _ c.fit_short.ensures c.if-fit_short.true
 
 pub points_finite-wrong-requires : goal.points_finite-wrong-requires
-points_finite-wrong-requires c = let r = room _ _ _ (sym c.fit_short.ensures ∙ c.if-fit_short.false) in
+points_finite-wrong-requires c =
+    let r = room _ _ _ (sym c.fit_short.ensures ∙ c.if-fit_short.false) in
     (r.within.0, r.within.1.0, r.within.1.1.0)
 
 pub returns : goal.returns

@@ -12,7 +12,8 @@ unfolding surface_report_refusal
 returns-then-report_short c = first_holds 1 _ c.report_short.ensures c.if-report_short.true
 
 pub points_finite-points-requires : goal.points_finite-points-requires
-points_finite-points-requires c = let r = room _ _ _ (sym c.report_short.ensures ∙ c.if-report_short.false) in
+points_finite-points-requires c =
+    let r = room _ _ _ (sym c.report_short.ensures ∙ c.if-report_short.false) in
     (r.within.0, r.within.1.0, r.within.1.1.0)
 
 pub returns : goal.returns

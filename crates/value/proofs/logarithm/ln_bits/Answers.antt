@@ -12,7 +12,8 @@ float_from_bits-m c = bits_some _ (omega arith)
 
 pub returns : goal.returns
 unfolding ln_bits
-returns c = let b = c.args.b in
+returns c =
+    let b = c.args.b in
     let shift = c.args.shift in
     c.ln_sum.ensures
     ∙ rw (c.nearest_u64_to_f64.ensures, c.nearest_u64_to_f64-2.ensures, m_moved b, num_sub (moved b / 2 ^ 20) (1023 + shift) (omega arith) (omega arith), k_moved b)

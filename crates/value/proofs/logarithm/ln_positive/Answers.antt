@@ -15,7 +15,8 @@ float_to_bits-scaled c = plain_some _ (scaled_plain c.args.v c.requires)
 
 pub ln_bits-requires : goal.ln_bits-requires
 unfolding of_bits
-ln_bits-requires c = let h = bits_le (mul binary64 c.args.v (fin false 1 (pos 54))) (scaled_plain c.args.v c.requires) in
+ln_bits-requires c =
+    let h = bits_le (mul binary64 c.args.v (fin false 1 (pos 54))) (scaled_plain c.args.v c.requires) in
     (omega arith, omega arith)
 
 pub returns-then-b-lt4503599627370496 : goal.returns-then-b-lt4503599627370496
@@ -23,7 +24,8 @@ unfolding ln_positive
 returns-then-b-lt4503599627370496 c = c.ln_bits.ensures ∙ (rw (lt-ltb _ _ c.if-b-lt4503599627370496.true))
 
 pub ln_bits-requires-2 : goal.ln_bits-requires-2
-ln_bits-requires-2 c = let h = bits_le c.args.v ((positive_plain c.args.v (subst T (sym c.well_formed.0.1) tt) c.requires)) in (omega arith, omega arith)
+ln_bits-requires-2 c =
+    let h = bits_le c.args.v ((positive_plain c.args.v (subst T (sym c.well_formed.0.1) tt) c.requires)) in (omega arith, omega arith)
 
 pub returns : goal.returns
 unfolding ln_positive

@@ -31,7 +31,8 @@ pub returns-then-left-low : goal.returns-then-left-low
 returns-then-left-low c = record { is = inl refl; small = omega arith }
 
 pub returns : goal.returns
-returns c = let m = c.args.m in
+returns c =
+    let m = c.args.m in
     let a = c.args.r / 0x400_0000 in
     let q = c.args.r % 0x400_0000 in
     let over = m - a * a in

@@ -38,7 +38,8 @@ pub loop-n-smaller : goal.loop-n-smaller
 loop-n-smaller c = omega arith
 
 pub loop-n-preserved : goal.loop-n-preserved
-loop-n-preserved c = let m = c.args.m in
+loop-n-preserved c =
+    let m = c.args.m in
     let go : c.loop-n.n < 53 = omega arith in
     elim c.if-want-have.branch [
       | then-want-have w ↦ rw (w.root-is, w.rest-is) (turn_one m c.loop-n.root c.loop-n.rest c.loop-n.next c.loop-n.n c.loop-n.invariant go w.if-want-have.true)

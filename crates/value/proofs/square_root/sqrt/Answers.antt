@@ -30,7 +30,8 @@ pub float_from_bits-result : goal.float_from_bits-result
 float_from_bits-result c = bits_some c.small_root-low.result (omega (arith, c.small_root-low.ensures.small))
 
 pub returns-then-e-eq0 : goal.returns-then-e-eq0
-returns-then-e-eq0 c = let x = c.args.x in
+returns-then-e-eq0 c =
+    let x = c.args.x in
     c.small_root-low.ensures.is ∙ sym (small_value x (to_bits binary64 x) ((subst T (sym c.well_formed.0.1) tt)) refl (omega arith) (omega arith) (omega arith))
 
 pub overflow_add-t : goal.overflow_add-t
@@ -46,5 +47,6 @@ pub float_from_bits-result-2 : goal.float_from_bits-result-2
 float_from_bits-result-2 c = bits_some c.scaled_root-high.result (omega (arith, c.scaled_root-high.ensures.small))
 
 pub returns : goal.returns
-returns c = let x = c.args.x in
+returns c =
+    let x = c.args.x in
     c.scaled_root-high.ensures.is ∙ sym (large_value x (to_bits binary64 x) ((subst T (sym c.well_formed.0.1) tt)) refl (omega (arith, (let x = c.args.x in finite_pattern x (to_bits binary64 x) ((subst T (sym c.well_formed.0.1) tt)) refl (some x c.if-x.false)))) c.if-e-eq0.false)
