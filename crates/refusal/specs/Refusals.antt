@@ -2,15 +2,15 @@
 use Rattle.std.specs.Prelude.{◌≡◌, Bool, false, cond, ◌||◌, List, [], ◌∷◌, map, ℕ, zero, suc, eqb}
 
 -- A test and the number that it refuses by.
-pub record Refusal : Type 0 where
+pub record Test : Type 0 where
   pub holds : Bool
   pub number : ℕ
 
-abbrev pub by : Bool → ℕ → Refusal
+abbrev pub by : Bool → ℕ → Test
 by t k = record { holds = t; number = k }
 
 -- In checking order: the number of the first test that holds, 0 if none does.
-unfoldable pub first_of : List Refusal → ℕ
+unfoldable pub first_of : List Test → ℕ
 first_of [] = 0
 first_of (r ∷ rs) = cond r.holds r.number (first_of rs)
 
@@ -29,8 +29,8 @@ checking_order = 18 ∷ 1 ∷ 17 ∷ 2 ∷ 3 ∷ 13 ∷ 14 ∷ 4 ∷ 15 ∷ 5 �
 abbrev pub most_number : ℕ
 most_number = 18
 
-abbrev pub numbers_of : List Refusal → List ℕ
-numbers_of rs = map (λ (r : Refusal). r.number) rs
+abbrev pub numbers_of : List Test → List ℕ
+numbers_of rs = map (λ (r : Test). r.number) rs
 
 unfoldable pub is_among : ℕ → List ℕ → Bool
 is_among k [] = false

@@ -1,5 +1,6 @@
 -- What each of document 01's numbers tests, where several calls share it. 2 and 3 are the frame's, 10, 11 and 12 come from solving. Definitions only.
-use Rattle.std.specs.Prelude.{Bool, true, false, cond, ◌&&◌, ◌||◌, List, [], ◌∷◌, ℕ, ◌+◌, min, ltb, leb, eqb, Float}
+use Rattle.std.specs.Prelude.{Bool, true, cond, ◌&&◌, ◌||◌, List, [], ◌∷◌, ℕ, ◌+◌, min, ltb, leb, eqb, Float}
+use Rattle.std.specs.List.{list_any}
 use Rattle.std.specs.Float.Ieee.{lt}
 use Rattle.loops.specs.Fold.{fold, all_of}
 use Rattle.basis.specs.Sizes.{max_samples, sum_places, highest_degree}
@@ -11,7 +12,7 @@ use Rattle.statistics.specs.declared.Confidence.TheVariants as confidence
 use Rattle.statistics.specs.declared.DegreeBound.{DegreeBound}
 use Rattle.statistics.specs.declared.Tolerance.{Tolerance}
 use Rattle.statistics.specs.declared.Tolerance.TheVariants as tolerance
-use Rattle.samples.specs.Samples.{Sample}
+use Rattle.samples.specs.declared.Sample.{Sample}
 
 -- ---- 1: a lent memory other than a book column is shorter than this call's places, or the count is above capacity
 
@@ -24,8 +25,7 @@ abbrev pub needed : ℕ → ℕ → Needed
 needed needs lent = record { needs = needs; lent = lent }
 
 unfoldable pub any_short : List Needed → Bool
-any_short [] = false
-any_short (m ∷ ms) = ltb m.lent m.needs || any_short ms
+any_short ms = list_any (λ (m : Needed). ltb m.lent m.needs) ms
 
 -- The capacity is the shortest of the lent columns, at most 4,096; over the list of their lengths.
 unfoldable pub capacity : List ℕ → ℕ
