@@ -33,13 +33,6 @@ pub struct Degree(pub usize);
 #[derive(Clone, Copy)]
 pub struct CoefficientCount(pub usize);
 
-// A degree, or none.
-#[derive(Clone, Copy)]
-pub enum OptionDegree {
-    Some(Degree),
-    None,
-}
-
 impl Degree {
     // `Basis::k`.
     pub fn k(self, basis: Basis) -> CoefficientCount

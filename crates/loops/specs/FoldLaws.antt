@@ -1,5 +1,7 @@
 -- Laws of Fold.antt.
 use Rattle.std.specs.Prelude.{◌≡◌, refl, Bool, true, false, ◌&&◌, List, [], ◌∷◌, ◌++◌, map, ℕ, ◌+◌, ◌<◌, length, get_or, take}
+use Rattle.std.specs.List as list
+use Rattle.std.specs.List.{list_all}
 use Rattle.std.proofs.Common.{sym, ap, ◌∙◌, add-one, take-suc}
 use Rattle.std.proofs.lemmas.Bool.{false≢true}
 use Rattle.std.proofs.lemmas.List.{map-append}
@@ -53,3 +55,21 @@ all_cons {A} f a l h = go (f a) refl h
     go : (t : Bool) → f a ≡ t → fold (λ b a. b && f a) t l ≡ true → (f a ≡ true) × (all_of f l ≡ true)
     go true q e = (q, e)
     go false q e = absurd (false≢true (sym (failed l) ∙ e))
+
+-- ---- the library's own fold and test of all
+
+pub fold_listed : {A B : Type 0} (f : B → A → B) (b : B) (l : List A) → list.fold f b l ≡ fold f b l
+unfolding fold
+fold_listed f b [] = refl
+fold_listed f b (a ∷ l) = fold_listed f (f b a) l
+
+pub all_listed : {A : Type 0} (f : A → Bool) (l : List A) → list_all f l ≡ all_of f l
+unfolding fold
+all_listed {A} f l = go true l
+  where
+    -- b says whether those passed do
+    go : (b : Bool) (l : List A) → (b && list_all f l) ≡ fold (λ c a. c && f a) b l
+    go true [] = refl
+    go false [] = refl
+    go true (a ∷ l) = go (f a) l
+    go false (a ∷ l) = go false l

@@ -1,10 +1,9 @@
 -- Laws of Loop.antt.
 use Rattle.std.proofs.Math.Path.{◌≡◌}
-use Rattle.std.specs.Prelude.{refl, Bool, ◌⊎◌, leb}
+use Rattle.std.specs.Prelude.{refl, Bool, ◌⊎◌, leb, Option, None, Some}
 use Rattle.std.proofs.Common.{sym, ap, ◌∙◌, inl, inr, leb-true, leb-false}
 use Rattle.std.proofs.Math.Bool.{true, false}
 use Prim.Native.Nat.{ℕ, zero, suc, ◌+◌, ◌-◌, ◌≤◌, ◌<◌, min}
-use Rattle.std.proofs.Math.Option.{Option, none, some}
 use native.Mathlib.Omega.{arith}
 use Rattle.loops.specs.Cases.{never}
 use Rattle.loops.specs.Loop.{turns, from, tries, while, seeks, seek, First, Together, Longer}
@@ -73,20 +72,20 @@ seek_again f i b h t =
     let e : b - i ≡ suc (b - (i + 1)) = omega arith in
     rw (e, t)
 
-pub seek_found : (f : ℕ → Bool) (i b : ℕ) → i < b → f i ≡ true → seek f i b ≡ some i
+pub seek_found : (f : ℕ → Bool) (i b : ℕ) → i < b → f i ≡ true → seek f i b ≡ Some i
 unfolding seek seeks
 seek_found f i b h t =
     let e : b - i ≡ suc (b - (i + 1)) = omega arith in
     rw (e, t)
 
-pub seek_done : (f : ℕ → Bool) (i b : ℕ) → b ≤ i → seek f i b ≡ none
+pub seek_done : (f : ℕ → Bool) (i b : ℕ) → b ≤ i → seek f i b ≡ None
 unfolding seek seeks
 seek_done f i b h =
     let e : b - i ≡ 0 = omega arith in
     rw e
 
 -- what was found: f holds there, and at no lower place from i on
-seeks_some : (f : ℕ → Bool) (n i : ℕ) (t : Bool) (d : ℕ) → f i ≡ t → seeks f n i t ≡ some d → (i ≤ d) × (d < i + n) × (f d ≡ true) × ((e : ℕ) → i ≤ e → e < d → f e ≡ false)
+seeks_some : (f : ℕ → Bool) (n i : ℕ) (t : Bool) (d : ℕ) → f i ≡ t → seeks f n i t ≡ Some d → (i ≤ d) × (d < i + n) × (f d ≡ true) × ((e : ℕ) → i ≤ e → e < d → f e ≡ false)
 unfolding seeks
 seeks_some f zero i t d q h = absurd (let z : ◌≡◌ {A = ℕ} 0 1 = cc in omega arith)
 seeks_some f (suc n) i true d q h =
@@ -107,7 +106,7 @@ seeks_some f (suc n) i false d q h =
     below e l m k (inl w) = rw w at q
     below e l m k (inr w) = k e w m
 
-seeks_none : (f : ℕ → Bool) (n i : ℕ) (t : Bool) → f i ≡ t → seeks f n i t ≡ none → (e : ℕ) → i ≤ e → e < i + n → f e ≡ false
+seeks_none : (f : ℕ → Bool) (n i : ℕ) (t : Bool) → f i ≡ t → seeks f n i t ≡ None → (e : ℕ) → i ≤ e → e < i + n → f e ≡ false
 unfolding seeks
 seeks_none f zero i t q h e l m = absurd (omega arith)
 seeks_none f (suc n) i true q h e l m = absurd (let z : ◌≡◌ {A = ℕ} 0 1 = cc in omega arith)
@@ -119,24 +118,24 @@ seeks_none f (suc n) i false q h e l m = go (λ w. seeks_none f n (i + 1) (f (i 
         let z : i ≡ e = omega (arith, leb-false (i + 1) e w) in
         rw z at q
 
-pub seek_first : (f : ℕ → Bool) (b d : ℕ) → seek f 0 b ≡ some d → First f b d
+pub seek_first : (f : ℕ → Bool) (b d : ℕ) → seek f 0 b ≡ Some d → First f b d
 unfolding seek
 seek_first f b d h =
     let r = seeks_some f (b - 0) 0 (f 0) d refl h in
     record { within = omega (arith, r.1); holds = r.2; lowest = λ e k. r.3 e (omega arith) k }
 
-pub seek_none : (f : ℕ → Bool) (b : ℕ) → seek f 0 b ≡ none → (e : ℕ) → e < b → f e ≡ false
+pub seek_none : (f : ℕ → Bool) (b : ℕ) → seek f 0 b ≡ None → (e : ℕ) → e < b → f e ≡ false
 unfolding seek
 seek_none f b h e k = seeks_none f (b - 0) 0 (f 0) refl h e (omega arith) (omega arith)
 
 -- and if f holds nowhere, nothing is found
-seeks_nowhere : (f : ℕ → Bool) (n i : ℕ) (t : Bool) → f i ≡ t → ((e : ℕ) → i ≤ e → e < i + n → f e ≡ false) → seeks f n i t ≡ none
+seeks_nowhere : (f : ℕ → Bool) (n i : ℕ) (t : Bool) → f i ≡ t → ((e : ℕ) → i ≤ e → e < i + n → f e ≡ false) → seeks f n i t ≡ None
 unfolding seeks
 seeks_nowhere f zero i t q h = refl
 seeks_nowhere f (suc n) i true q h = never (sym (h i (omega arith) (omega arith)) ∙ q)
 seeks_nowhere f (suc n) i false q h = seeks_nowhere f n (i + 1) (f (i + 1)) refl (λ e l m. h e (omega arith) (omega arith))
 
-pub seek_nowhere : (f : ℕ → Bool) (b : ℕ) → ((e : ℕ) → e < b → f e ≡ false) → seek f 0 b ≡ none
+pub seek_nowhere : (f : ℕ → Bool) (b : ℕ) → ((e : ℕ) → e < b → f e ≡ false) → seek f 0 b ≡ None
 unfolding seek
 seek_nowhere f b h = seeks_nowhere f (b - 0) 0 (f 0) refl (λ e l m. h e (omega arith))
 
@@ -145,13 +144,13 @@ pub seek_same : (f g : ℕ → Bool) (b : ℕ) → ((i : ℕ) → i < b → f i 
 seek_same f g b h = by_cases (seek g 0 b) refl
   where
     by_cases : (r : Option ℕ) → seek g 0 b ≡ r → seek f 0 b ≡ seek g 0 b
-    by_cases none q = seek_nowhere f b (λ e k. h e k ∙ seek_none g b q e k) ∙ sym q
-    by_cases (some d) q = at_first (seek_first g b d q) ∙ sym q
+    by_cases None q = seek_nowhere f b (λ e k. h e k ∙ seek_none g b q e k) ∙ sym q
+    by_cases (Some d) q = at_first (seek_first g b d q) ∙ sym q
       where
-        at_first : First g b d → seek f 0 b ≡ some d
+        at_first : First g b d → seek f 0 b ≡ Some d
         at_first w = found_at 0 d (omega arith)
           where
-            found_at : (i n : ℕ) → i + n ≡ d → seek f i b ≡ some d
+            found_at : (i n : ℕ) → i + n ≡ d → seek f i b ≡ Some d
             found_at i zero e =
                 let z : i ≡ d = omega arith in
                 rw z (seek_found f d b w.within (h d w.within ∙ w.holds))

@@ -1,7 +1,7 @@
 -- The two parts of the sums, A and g, by what they are made from. Definitions only.
 use Rattle.std.specs.Prelude.{List, map, ℕ, ◌+◌, Float}
 use Rattle.value.specs.Numbers.{zero_f}
-use Rattle.samples.specs.Samples.{Sample}
+use Rattle.samples.specs.declared.Sample.{Sample}
 use Rattle.monomial.specs.Rows.{WeightedRow, weighted_row}
 use Rattle.monomial.specs.Sums.{weighted_product}
 

@@ -8,7 +8,7 @@ use Rattle.value.specs.Numbers.{one_f}
 use Rattle.value.specs.Power.{power_f}
 use Rattle.value.specs.Total.{total_f}
 use Rattle.basis.specs.declared.Basis.{Basis}
-use Rattle.samples.specs.Samples.{Sample}
+use Rattle.samples.specs.declared.Sample.{Sample}
 use Rattle.monomial.specs.Terms.{terms_at}
 
 -- A sample's term values and its y. The solution, the fitted value and the residuals are made from rows alone.

@@ -13,7 +13,7 @@ use Rattle.loops.specs.PlaceLaws.{table_at}
 use Rattle.value.specs.Numbers.{zero_f}
 use Rattle.value.specs.Power.{power_f}
 use Rattle.value.specs.Total.{total_f}
-use Rattle.samples.specs.Samples.{Sample}
+use Rattle.samples.specs.declared.Sample.{Sample}
 use Rattle.monomial.specs.Rows.{WeightedRow, weighted_row, row_of, weighted_of, weighted_rows}
 use Rattle.monomial.specs.Adding.{add_one, sums}
 use Rattle.monomial.specs.AddingLaws.{length_add_one, add_one_append, sums_afresh, sums_length, sums_place, sums_same, sums_take, sums_drop}

@@ -1,9 +1,8 @@
 -- Laws of Runs.antt.
-use Rattle.std.specs.Prelude.{◌≡◌, Bool, true, false, cond, length}
+use Rattle.std.specs.Prelude.{◌≡◌, Bool, true, false, cond, length, Option, None, Some}
 use Rattle.std.proofs.Math.Path.{refl, ap}
 use Rattle.std.proofs.Common.{sym, ap₂, ◌∙◌, arith}
 use Rattle.std.proofs.lemmas.Bool.{false≢true}
-use Rattle.std.proofs.Math.Option.{Option, none, some}
 use mathlib.Core.List.{List, [], ◌∷◌, ◌++◌}
 use Prim.Native.Nat.{ℕ, suc, ◌+◌, ◌≤◌}
 use Rattle.loops.specs.Fold.{fold}
@@ -85,8 +84,8 @@ module _ {S T C P : Type 0} (M : Machine S C P) (N : Machine T C P) (Rel : S →
 
 -- a call of one beside a call of the other, or beside none
 module _ {S T C D P Q : Type 0} (M : Machine S C P) (N : Machine T D Q) (Rel : S → T → Type 0) (Same : P → Q → Type 0) (sift : S → C → Option D)
-    (skips : (s : S) (t : T) (c : C) → Rel s t → sift s c ≡ none → Rel (M.step s c) t)
-    (meets : (s : S) (t : T) (c : C) (d : D) → Rel s t → sift s c ≡ some d → Same (M.reply s c) (N.reply t d) × Rel (M.step s c) (N.step t d)) where
+    (skips : (s : S) (t : T) (c : C) → Rel s t → sift s c ≡ None → Rel (M.step s c) t)
+    (meets : (s : S) (t : T) (c : C) (d : D) → Rel s t → sift s c ≡ Some d → Same (M.reply s c) (N.reply t d) × Rel (M.step s c) (N.step t d)) where
   pub sifts : (s : S) (t : T) → Rel s t → (cs : List C)
       → Each Same (replies_to M sift s cs) (replies N t (sifted M sift s cs)) × Rel (fold M.step s cs) (fold N.step t (sifted M sift s cs))
   unfolding replies fold sifted replies_to
@@ -99,8 +98,8 @@ module _ {S T C D P Q : Type 0} (M : Machine S C P) (N : Machine T D Q) (Rel : S
           × Rel (fold M.step (M.step s c) cs) (fold N.step u (sifted M sift (M.step s c) cs)))
           → Each Same (front o (M.reply s c) (replies_to M sift (M.step s c) cs)) (replies N t (front_of o (sifted M sift (M.step s c) cs)))
           × Rel (fold M.step (M.step s c) cs) (fold N.step t (front_of o (sifted M sift (M.step s c) cs)))
-      by none e later = later t (skips s t c h e)
-      by (some d) e later =
+      by None e later = later t (skips s t c h e)
+      by (Some d) e later =
           let w = meets s t c d h e in
           let r = later (N.step t d) w.1 in
           ((w.0, r.0), r.1)
@@ -125,7 +124,7 @@ module _ {S T C K : Type 0} (step : S → C → S) (step' : T → C → T) (Rel 
 
 -- ---- one component of many
 
-pub no_call : {D : Type 0} (d : D) → some d ≡ none → ⊥
+pub no_call : {D : Type 0} (d : D) → Some d ≡ None → ⊥
 no_call d e = let z : ◌≡◌ {A = Bool} true false = cc in false≢true (sym z)
 
 -- equal place by place is equal
@@ -151,8 +150,8 @@ picked M mine s (c ∷ cs) = ap (front (mine c) (M.reply s c)) (picked M mine (M
 -- leaves what it sees, and its own calls are answered by what it sees alone. Then its parts of the replies to its calls, in the run of all calls, are the
 -- replies of the run of its own calls.
 module _ {S T C D P Q : Type 0} (M : Machine S C P) (N : Machine T D Q) (mine : C → Option D) (Seen : S → T → Type 0) (Part : P → Q → Type 0)
-    (others : (s : S) (t : T) (c : C) → Seen s t → mine c ≡ none → Seen (M.step s c) t)
-    (own : (s : S) (t : T) (c : C) (d : D) → Seen s t → mine c ≡ some d → Part (M.reply s c) (N.reply t d) × Seen (M.step s c) (N.step t d)) where
+    (others : (s : S) (t : T) (c : C) → Seen s t → mine c ≡ None → Seen (M.step s c) t)
+    (own : (s : S) (t : T) (c : C) (d : D) → Seen s t → mine c ≡ Some d → Part (M.reply s c) (N.reply t d) × Seen (M.step s c) (N.step t d)) where
   pub projected : (s : S) (t : T) → Seen s t → (cs : List C)
       → Each Part (pick mine cs (replies M s cs)) (replies N t (only mine cs)) × Seen (fold M.step s cs) (fold N.step t (only mine cs))
   projected s t h cs = rw (picked M mine s cs, ← sifted_only M mine s cs) (sifts M N Seen Part (λ _. mine) others own s t h cs)
@@ -162,11 +161,11 @@ module _ {S T C D P Q : Type 0} (M : Machine S C P) (N : Machine T D Q) (mine : 
 module _ {S T C P : Type 0} (M : Machine S C P) (N : Machine T C P) (mine : C → Bool) (Seen : S → T → Type 0)
     (others : (s : S) (t : T) (c : C) → Seen s t → mine c ≡ false → Seen (M.step s c) t)
     (own : (s : S) (t : T) (c : C) → Seen s t → mine c ≡ true → (M.reply s c ≡ N.reply t c) × Seen (M.step s c) (N.step t c)) where
-  not_passed : (c : C) (b : Bool) → cond b (some c) none ≡ none → b ≡ false
+  not_passed : (c : C) (b : Bool) → cond b (Some c) None ≡ None → b ≡ false
   not_passed c true e = cc
   not_passed c false e = refl
 
-  is_passed : (s : S) (t : T) (c d : C) → Seen s t → (b : Bool) → mine c ≡ b → cond b (some c) none ≡ some d
+  is_passed : (s : S) (t : T) (c d : C) → Seen s t → (b : Bool) → mine c ≡ b → cond b (Some c) None ≡ Some d
       → (M.reply s c ≡ N.reply t d) × Seen (M.step s c) (N.step t d)
   is_passed s t c d h true q e =
       let z : c ≡ d = cc in

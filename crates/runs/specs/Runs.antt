@@ -1,6 +1,5 @@
 -- A machine over a list of calls: what it replies, what it leaves, and the laws of any such list. The state after the calls cs is `fold step s cs`. Definitions only.
-use Rattle.std.specs.Prelude.{Bool, cond, List, [], ◌∷◌, ℕ, ◌+◌}
-use Rattle.std.proofs.Math.Option.{Option, none, some}
+use Rattle.std.specs.Prelude.{Bool, cond, List, [], ◌∷◌, ℕ, ◌+◌, Option, None, Some}
 
 -- S is what it keeps, C what it is told, P what it replies
 pub record Machine (S C P : Type 0) : Type 0 where
@@ -26,12 +25,12 @@ Each R (a ∷ l) (b ∷ m) = R a b × Each R l m
 
 -- a, where there is something
 abbrev pub front : {A D : Type 0} → Option D → A → List A → List A
-front none a l = l
-front (some d) a l = a ∷ l
+front None a l = l
+front (Some d) a l = a ∷ l
 
 abbrev pub front_of : {D : Type 0} → Option D → List D → List D
-front_of none l = l
-front_of (some d) l = d ∷ l
+front_of None l = l
+front_of (Some d) l = d ∷ l
 
 -- the calls of another machine that a run stands for, where a call stands for one or for none, as the state has it; and the replies to those that
 -- stand for one
@@ -62,4 +61,4 @@ along step cost s (c ∷ cs) = cost s c + along step cost (step s c) cs
 
 -- the calls that a test lets through
 abbrev pub passed : {C : Type 0} → (C → Bool) → C → Option C
-passed test c = cond (test c) (some c) none
+passed test c = cond (test c) (Some c) None

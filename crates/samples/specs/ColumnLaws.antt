@@ -7,7 +7,7 @@ use Rattle.std.specs.Float.{nan}
 use Rattle.loops.specs.All.{All}
 use Rattle.loops.specs.Places.{table}
 use Rattle.loops.specs.PlaceLaws.{table_again, length_table, map_table, table_take}
-use Rattle.samples.specs.Samples.{Sample}
+use Rattle.samples.specs.declared.Sample.{Sample}
 use Rattle.samples.specs.Columns.{Column, of_x, of_y, of_w, every, value, Columns, columns_of, lengths, sample_at, samples_of}
 
 -- no column is left out of the list

@@ -1,11 +1,6 @@
 -- Samples. Definitions only.
 use Rattle.std.specs.Prelude.{List, map, Float}
-
--- A sample is x, y and its weight w.
-pub record Sample : Type 0 where
-  pub x : Float
-  pub y : Float
-  pub w : Float
+use Rattle.samples.specs.declared.Sample.{Sample}
 
 abbrev pub xs_of : List Sample → List Float
 xs_of ps = map (λ (p : Sample). p.x) ps

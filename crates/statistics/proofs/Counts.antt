@@ -1,10 +1,11 @@
 -- Counts of bits over a list of doubles with no NaN and no sign: how they grow along a list, and what they tell of a place of the list in order.
-use Rattle.std.proofs.Common.{◌≡◌, ℕ, suc, ◌+◌, ◌-◌, ◌<◌, ◌≤◌, Bool, true, false, not, ◌&&◌, T, ltb, leb, ◌⊎◌, List, [], ◌∷◌, ◌++◌, map, length, get_or, take, sym, refl, ap, ◌∙◌, subst, inl, inr, zero-le, le_trans, le_refl, add_comm, le_antisymm, zero-add, add-one, arith, le→leb, leb→le, take-suc, ltb-false, ltb-true, lt-ltb, le-leb, leb-false, leb-true}
-use mathlib.Core.List.{map-append}
+use Rattle.std.proofs.Common.{◌≡◌, ℕ, suc, ◌+◌, ◌-◌, ◌<◌, ◌≤◌, Bool, true, false, not, ◌&&◌, T, ltb, leb, ◌⊎◌, List, [], ◌∷◌, ◌++◌, map, length, get_or, take, sym, refl, ap, ◌∙◌, subst, inl, inr, zero-le, le_trans, le_refl, add_comm, le_antisymm, zero-add, arith, le→leb, leb→le, ltb-false, ltb-true, lt-ltb, le-leb, leb-false, leb-true}
 use borrow.Author.Tests.{lt-leb}
 use lib.Dec.{nleb→lt}
 use lib.Ieee.{Float, nan, binary64, sub, to_bits, of_bits}
 use lib.Ieee.Bits.{of_bits-to_bits}
+use Rattle.std.specs.Int.{from_bool}
+use Rattle.std.proofs.lemmas.List.{map_more}
 use Rattle.loops.specs.All.{All}
 use Rattle.loops.specs.AllLaws.{all_at}
 use Rattle.loops.specs.Cases.{by_test, either, never, and_first, and_second}
@@ -13,43 +14,36 @@ use Rattle.loops.specs.FoldLaws.{fold_map_again}
 use Rattle.value.specs.Absolute.{abs_f}
 use Rattle.value.specs.Keys.{bits_le, plain_fits}
 use Rattle.statistics.specs.Medians.{sort}
-use Rattle.statistics.specs.Counting.{Plain, distances, one, count, upto, under, AtPlace, Middles, Narrowed, nearer, farther, least_from, greatest_under}
+use Rattle.statistics.specs.Counting.{Plain, distances, count, upto, under, AtPlace, Middles, Narrowed, nearer, farther, least_from, greatest_under}
 use Rattle.statistics.proofs.Sorting.{place, all_sort, length_sort}
 
 -- ---- counts along a list
 
-count_snoc : (p : Float → Bool) (l : List Float) (x : Float) → count p (l ++ (x ∷ [])) ≡ count p l + one (p x)
+pub from_bool_most : (t : Bool) → from_bool t ≤ 1
+from_bool_most true = le_refl 1
+from_bool_most false = zero-le
+
+count_snoc : (p : Float → Bool) (l : List Float) (x : Float) → count p (l ++ (x ∷ [])) ≡ count p l + from_bool (p x)
 unfolding count
-count_snoc p [] x = add_comm (one (p x)) 0
+count_snoc p [] x = add_comm (from_bool (p x)) 0
 count_snoc p (y ∷ ys) x = let h = count_snoc p ys x in omega arith
 
-pub count_again : (p : Float → Bool) (f : Float → Float) (l : List Float) (d : Float) (i : ℕ) → i < length l
-    → count p (map f (take (i + 1) l)) ≡ count p (map f (take i l)) + one (p (f (get_or l i d)))
-count_again p f l d i h =
-    ap (λ m. count p (map f m)) (ap (λ k. take k l) (add-one i) ∙ take-suc l i d h) ∙ ap (count p) (map-append f (take i l) (get_or l i d ∷ []))
-    ∙ count_snoc p (map f (take i l)) (f (get_or l i d))
-
--- one turn of a loop over distances: k is the bits of the one at i
-module _ (d : Float) (a : List Float) (i : ℕ) (h : i < length a) (k : ℕ) (e : k ≡ to_bits binary64 (abs_f (sub binary64 (abs_f (get_or a i nan)) d))) where
-  pub count_turn : (b found t : ℕ) → found ≡ count (upto b) (distances d (take i a)) → t ≡ one (leb k b) → found + t ≡ count (upto b) (distances d (take (i + 1) a))
+-- one turn of a loop over distances
+module _ (d : Float) (a : List Float) (i : ℕ) (h : i < length a) where
+  pub count_turn : (p : Float → Bool) → count p (distances d (take i a)) + from_bool (p (abs_f (sub binary64 (abs_f (get_or a i nan)) d))) ≡ count p (distances d (take (i + 1) a))
   unfolding distances
-  count_turn b found t q u = rw (q, u, e) (sym (count_again (upto b) (λ x. abs_f (sub binary64 (abs_f x) d)) a nan i h))
+  count_turn p = sym (ap (count p) (map_more (λ x. abs_f (sub binary64 (abs_f x) d)) a i nan h) ∙ count_snoc p (map (λ x. abs_f (sub binary64 (abs_f x) d)) (take i a)) _)
 
-  fold_turn : (f : ℕ → ℕ → ℕ) (z v r : ℕ) → v ≡ fold (λ w x. f (to_bits binary64 x) w) z (distances d (take i a)) → r ≡ f k v
-      → r ≡ fold (λ w x. f (to_bits binary64 x) w) z (distances d (take (i + 1) a))
-  unfolding distances
-  fold_turn f z v r q u = rw (u, q, e) (sym (fold_map_again (λ w x. f (to_bits binary64 x) w) z (λ x. abs_f (sub binary64 (abs_f x) d)) a nan i h))
+  pub least_turn : (b : ℕ) → nearer b (to_bits binary64 (abs_f (sub binary64 (abs_f (get_or a i nan)) d))) (least_from b (distances d (take i a))) ≡ least_from b (distances d (take (i + 1) a))
+  unfolding least_from distances
+  least_turn b = sym (fold_map_again (λ v x. nearer b (to_bits binary64 x) v) 0x7FF0_0000_0000_0000 (λ x. abs_f (sub binary64 (abs_f x) d)) a nan i h)
 
-  pub least_turn : (b v r : ℕ) → v ≡ least_from b (distances d (take i a)) → r ≡ nearer b k v → r ≡ least_from b (distances d (take (i + 1) a))
-  unfolding least_from
-  least_turn b v r q u = fold_turn (nearer b) 0x7FF0_0000_0000_0000 v r q u
-
-  pub greatest_turn : (b v r : ℕ) → v ≡ greatest_under b (distances d (take i a)) → r ≡ farther b k v → r ≡ greatest_under b (distances d (take (i + 1) a))
-  unfolding greatest_under
-  greatest_turn b v r q u = fold_turn (farther b) 0 v r q u
+  pub greatest_turn : (b : ℕ) → farther b (to_bits binary64 (abs_f (sub binary64 (abs_f (get_or a i nan)) d))) (greatest_under b (distances d (take i a))) ≡ greatest_under b (distances d (take (i + 1) a))
+  unfolding greatest_under distances
+  greatest_turn b = sym (fold_map_again (λ v x. farther b (to_bits binary64 x) v) 0 (λ x. abs_f (sub binary64 (abs_f x) d)) a nan i h)
 
 -- a test that passes wherever another does counts as many
-one_mono : (a b : Bool) → (T a → T b) → one a ≤ one b
+one_mono : (a b : Bool) → (T a → T b) → from_bool a ≤ from_bool b
 one_mono true true f = omega arith
 one_mono true false f = absurd (f tt)
 one_mono false b f = zero-le
@@ -63,7 +57,7 @@ count_mono p q (x ∷ xs) f = let a = one_mono (p x) (q x) (f x) in let b = coun
 pub under_next : (b : ℕ) (l : List Float) → count (under (b + 1)) l ≡ count (upto b) l
 unfolding count
 under_next b [] = refl
-under_next b (x ∷ xs) = rw (next (to_bits binary64 x) (leb (to_bits binary64 x) b) refl) (ap (λ (n : ℕ). one (leb (to_bits binary64 x) b) + n) (under_next b xs))
+under_next b (x ∷ xs) = rw (next (to_bits binary64 x) (leb (to_bits binary64 x) b) refl) (ap (λ (n : ℕ). from_bool (leb (to_bits binary64 x) b) + n) (under_next b xs))
   where
     next : (k : ℕ) (t : Bool) → leb k b ≡ t → not (leb (b + 1) k) ≡ t
     next k true q = let h = leb-true k b q in rw (lt-leb (b + 1) k (omega arith))
@@ -144,8 +138,8 @@ least_reached b v (x ∷ xs) h =
     let more = count_mono (under b) (upto r) xs (λ y t. le→leb (to_bits binary64 y) r (let g = nleb→lt b (to_bits binary64 y) t in omega (arith, g, ih.0))) in
     let same = one_mono (under b x) (upto r x) (λ t. le→leb k r (let g = nleb→lt b k t in omega (arith, g, ih.0))) in (
       ih.0,
-      joined b k v w r (one (under b x)) (one (upto r x)) (count (under b) xs) (count (upto r) xs) more same
-          (λ g. ap (λ (t : Bool). one (not t)) (le-leb b k g)) (λ g. ap one (le-leb k r g)) (turn b k v).kind ih.1,
+      joined b k v w r (from_bool (under b x)) (from_bool (upto r x)) (count (under b) xs) (count (upto r) xs) more same
+          (λ g. ap (λ (t : Bool). from_bool (not t)) (le-leb b k g)) (λ g. ap from_bool (le-leb k r g)) (turn b k v).kind ih.1,
     )
   where
     from_turn : (b k v w : ℕ) → b ≤ suc v → (w ≡ v) ⊎ ((w ≡ k) × (b ≤ k)) → b ≤ suc w
@@ -210,8 +204,8 @@ greatest_under_lem b v (x ∷ xs) h =
     let more = count_mono (under r) (under b) xs (λ y t. under_yes b r (to_bits binary64 y) ih.0 t) in
     let same = one_mono (under r x) (under b x) (under_yes b r k ih.0) in (
       ih.0,
-      joined b k v w r (one (under r x)) (one (under b x)) (count (under r) xs) (count (under b) xs) more same
-          (λ g. ap (λ (t : Bool). one (not t)) (le-leb r k g)) (λ g. ap (λ (t : Bool). one (not t)) (lt-leb b k g)) (further b k v).kind ih.1,
+      joined b k v w r (from_bool (under r x)) (from_bool (under b x)) (count (under r) xs) (count (under b) xs) more same
+          (λ g. ap (λ (t : Bool). from_bool (not t)) (le-leb r k g)) (λ g. ap (λ (t : Bool). from_bool (not t)) (lt-leb b k g)) (further b k v).kind ih.1,
     )
   where
     from_turn : (b k v w : ℕ) → v ≤ b → (w ≡ v) ⊎ ((w ≡ k) × (k < b)) → w ≤ b
@@ -337,8 +331,8 @@ edges_stand l a m b h s e =
 
 -- the same of a range that is cut down so far
 pub edges_found : (l : List Float) → All Plain l → (m few lo hi below : ℕ) → Narrowed l m few lo hi below → m < length l → below ≡ m → (low high : ℕ)
-    → (low ≡ greatest_under lo l) × (high ≡ least_from lo l) → Middles l m low high
-edges_found l a m few lo hi below p h e low high q = rw (q.0, q.1) (edges_stand l a m lo h (le_trans p.ordered p.small) (sym p.is ∙ e))
+    → low ≡ greatest_under lo l → high ≡ least_from lo l → Middles l m low high
+edges_found l a m few lo hi below p h e low high q r = rw (q, r) (edges_stand l a m lo h (le_trans p.ordered p.small) (sym p.is ∙ e))
 
 -- what a range cut down to `few` is, where fewer than m are under it
 module _ (l : List Float) (m few lo hi below : ℕ) (p : Narrowed l m few lo hi below) (n : below ≡ m → ⊥) where

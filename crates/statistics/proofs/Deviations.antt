@@ -1,15 +1,16 @@
 -- Deviations ||x| − d| of sizes: their bits, that those which are no NaN have no sign, that those from +0 are the sizes themselves; and the median by the
 -- number's evenness.
-use Rattle.std.proofs.Common.{◌≡◌, ℕ, zero, suc, ◌+◌, ◌-◌, ◌*◌, ◌/◌, ◌%◌, ◌^◌, ◌<◌, ◌≤◌, Bool, true, false, not, ◌&&◌, ◌||◌, T, ltb, leb, List, [], ◌∷◌, map, length, get_or, take, ℤ, sym, refl, ap, ◌∙◌, subst, ap₂, zero-le, add_assoc, zero-add, zero-mul, mul-one, arith, eqb→eq, length-take-le, get_or-take, le-ltb, eq-eqb, ne_eqb}
+use Rattle.std.proofs.Common.{◌≡◌, ℕ, zero, suc, ◌+◌, ◌-◌, ◌*◌, ◌/◌, ◌%◌, ◌^◌, ◌<◌, ◌≤◌, Bool, true, false, not, ◌&&◌, ◌||◌, T, ltb, leb, List, [], ◌∷◌, map, length, get_or, take, ℤ, sym, refl, ap, ◌∙◌, subst, ap₂, zero-le, add_assoc, zero-add, zero-mul, mul-one, arith, eqb→eq, le-ltb, eq-eqb, ne_eqb}
 use mathlib.Core.Bool.{beq}
 use native.Mathlib.Nat.{sub-zero}
 use lib.ListN.{length-map}
-use lib.Ieee.{Float, nan, inf, fin, binary64, round, units, odd, sum, add, sub, neg, le, ne, to_bits, of_bits, fits, is_nan, nan_bits, low, prec, emax, up, down, size}
+use lib.Ieee.{Float, nan, inf, fin, binary64, round, units, odd, sum, add, sub, neg, le, to_bits, of_bits, fits, is_nan, nan_bits, low, prec, emax, up, down, size}
 use lib.Ieee.Bits.{cond_no, nan_bits_is, of_bits-fits, of_bits-to_bits, to_bits-of_bits}
 use lib.Ieee.Fits.{round_is, sub-fits}
+use Rattle.std.proofs.lemmas.Float.{T_from_false}
 use Rattle.loops.specs.All.{All}
 use Rattle.loops.specs.AllLaws.{all_at}
-use Rattle.loops.specs.Cases.{by_test, choose, never, or_false}
+use Rattle.loops.specs.Cases.{choose, never, or_false}
 use Rattle.loops.specs.Fold.{fold}
 use Rattle.loops.specs.FoldLaws.{fold_map_again}
 use Rattle.loops.specs.PlaceLaws.{map_at}
@@ -18,7 +19,7 @@ use Rattle.value.specs.AbsoluteLaws.{flat}
 use Rattle.value.specs.Exact.{round_itself}
 use Rattle.value.specs.Finite.{finite}
 use Rattle.value.specs.Keys.{bits_le, le_key, plain_fits}
-use Rattle.value.specs.Nan.{bits_some as pattern-some, is_nan_lem, not_nan, some}
+use Rattle.value.specs.Nan.{bits_some as pattern-some}
 use Rattle.value.specs.Numbers.{zero_f}
 use Rattle.statistics.specs.Medians.{any_nan, sort, midpoint, median_of, deviations}
 use Rattle.statistics.specs.Counting.{Plain, distances}
@@ -108,19 +109,17 @@ module _ (x : Float) (f : T (fits binary64 x)) (n : T (not (is_nan x))) where
   pub size_bits : of_bits binary64 (to_bits binary64 x % 0x8000_0000_0000_0000) ≡ abs_f x
   size_bits = ap (of_bits binary64) (abs_bits x (abs_plain x f n)) ∙ of_bits-to_bits binary64 (abs_f x) (plain_fits (abs_f x) (abs_plain x f n))
 
--- ---- the distances of the first n of a list
+-- ---- the distances of a list
 
-pub length_distances : (d : Float) (n : ℕ) (a : List Float) → n ≤ length a → length (distances d (take n a)) ≡ n
+pub length_distances : (d : Float) (a : List Float) → length (distances d a) ≡ length a
 unfolding distances
-length_distances d n a h = length-map (take n a) (λ x. abs_f (sub binary64 (abs_f x) d)) ∙ length-take-le n a h
+length_distances d a = length-map a (λ x. abs_f (sub binary64 (abs_f x) d))
 
-pub plain_at : (d : Float) (n : ℕ) (a : List Float) (i : ℕ) → n ≤ length a → i < n → All Plain (distances d (take n a))
-    → Plain (abs_f (sub binary64 (abs_f (get_or a i nan)) d))
+pub plain_at : (d : Float) (a : List Float) (i : ℕ) → i < length a → All Plain (distances d a) → Plain (abs_f (sub binary64 (abs_f (get_or a i nan)) d))
 unfolding distances
-plain_at d n a i h g p =
+plain_at d a i h p =
     let f : Float → Float = λ x. abs_f (sub binary64 (abs_f x) d) in
-    let l : i < length (take n a) = rw (length-take-le n a h) g in
-    subst Plain (map_at f (take n a) i nan nan l ∙ ap f (get_or-take n a i nan g)) (all_at Plain (map f (take n a)) i nan p (rw (length-map (take n a) f) l))
+    subst Plain (map_at f a i nan nan h) (all_at Plain (map f a) i nan p (rw (length-map a f) h))
 
 -- they are the deviations of the sizes
 pub distances_are : (d : Float) (l : List Float) → distances d l ≡ deviations d (map abs_f l)
@@ -130,25 +129,18 @@ distances_are d (x ∷ xs) = ap (λ (r : List Float). abs_f (sub binary64 (abs_f
 
 -- ---- NaNs
 
--- only a NaN differs from itself
-pub nan_differs : (v : Float) → ne v v ≡ is_nan v
-nan_differs v = by_test (ne v v) (λ t. t ∙ sym (is_nan_lem v t)) (λ t. t ∙ sym (not_nan v t))
-
 same_nan : (x : Float) → is_nan (abs_f x) ≡ is_nan x
 unfolding is_nan abs_f
 same_nan nan = refl
 same_nan (inf s) = refl
 same_nan (fin s m e) = refl
 
-nan_size : (v : Float) → is_nan (abs_f v) ≡ ne v v
-nan_size v = same_nan v ∙ sym (nan_differs v)
-
--- one turn of the loop that looks for one: v is the number at i less d
-pub nan_turn : (d : Float) (a : List Float) (i : ℕ) → i < length a → (found : Bool) (v : Float) → found ≡ any_nan (distances d (take i a))
-    → v ≡ sub binary64 (abs_f (get_or a i nan)) d → (found || ne v v) ≡ any_nan (distances d (take (i + 1) a))
+-- one turn of the loop that looks for one
+pub nan_turn : (d : Float) (a : List Float) (i : ℕ) → i < length a
+    → (any_nan (distances d (take i a)) || is_nan (sub binary64 (abs_f (get_or a i nan)) d)) ≡ any_nan (distances d (take (i + 1) a))
 unfolding distances any_nan
-nan_turn d a i h found v q u =
-    rw (q, ← nan_size v, u) (sym (fold_map_again (λ b x. b || is_nan x) false (λ x. abs_f (sub binary64 (abs_f x) d)) a nan i h))
+nan_turn d a i h =
+    rw (← same_nan (sub binary64 (abs_f (get_or a i nan)) d)) (sym (fold_map_again (λ b x. b || is_nan x) false (λ x. abs_f (sub binary64 (abs_f x) d)) a nan i h))
 
 -- where none is, all are no NaN
 no_nan : (l : List Float) (b : Bool) → fold (λ c x. c || is_nan x) b l ≡ false → (b ≡ false) × All (λ x. is_nan x ≡ false) l
@@ -161,7 +153,7 @@ unfolding any_nan distances
 distances_plain d l h = each l (no_nan (map (λ x. abs_f (sub binary64 (abs_f x) d)) l) false h).1
   where
     one : (v : Float) → T (fits binary64 v) → is_nan (abs_f v) ≡ false → Plain (abs_f v)
-    one v f h = abs_plain v f (some v (sym (nan_size v) ∙ h))
+    one v f h = abs_plain v f (T_from_false (is_nan v) (sym (same_nan v) ∙ h))
 
     each : (m : List Float) → All (λ x. is_nan x ≡ false) (map (λ x. abs_f (sub binary64 (abs_f x) d)) m) → All Plain (map (λ x. abs_f (sub binary64 (abs_f x) d)) m)
     each [] a = tt
@@ -243,11 +235,10 @@ unfolding distances
 distances_zero [] a = refl
 distances_zero (x ∷ xs) a = rw (less_zero x a.0) (ap (λ (r : List Float). abs_f x ∷ r) (distances_zero xs a.1))
 
--- what every place has, the first n have
-pub all_places : (P : Float → Type 0) (d : Float) (n : ℕ) (l : List Float) → ((i : ℕ) → P (get_or l i d)) → All P (take n l)
-all_places P d zero l f = tt
-all_places P d (suc n) [] f = tt
-all_places P d (suc n) (x ∷ xs) f = (f 0, all_places P d n xs (λ i. f (suc i)))
+-- what every place has, the whole list has
+pub all_places : (P : Float → Type 0) (d : Float) (l : List Float) → ((i : ℕ) → P (get_or l i d)) → All P l
+all_places P d [] f = tt
+all_places P d (x ∷ xs) f = (f 0, all_places P d xs (λ i. f (suc i)))
 
 -- ---- the median, by the number's evenness
 

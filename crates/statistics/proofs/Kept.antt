@@ -1,17 +1,17 @@
 -- Of a list only the numbers in a range of bits are kept: what then stands at a place stands so many places further in the whole as are under the range.
-use Rattle.std.proofs.Common.{◌≡◌, ℕ, zero, suc, ◌+◌, ◌-◌, ◌<◌, ◌≤◌, Bool, true, false, cond, not, ◌&&◌, T, leb, List, [], ◌∷◌, ◌++◌, map, length, get_or, take, set, sym, refl, ap, ◌∙◌, subst, append-nil, zero-le, le_refl, add-one, arith, leb→le, take-suc, take-suc-set, le-leb}
-use mathlib.Core.List.{map-append}
+use Rattle.std.proofs.Common.{◌≡◌, ℕ, zero, suc, ◌+◌, ◌-◌, ◌<◌, ◌≤◌, Bool, true, false, cond, not, T, leb, List, [], ◌∷◌, ◌++◌, map, length, get_or, take, set, sym, refl, ap, ◌∙◌, subst, append-nil, zero-le, le_refl, add-zero, arith, leb→le, le-leb}
 use borrow.Author.Tests.{lt-leb}
-use lib.Seq.{take-set-le}
 use lib.Ieee.{Float, nan, inf, fin, binary64, sub, to_bits, of_bits, fits}
 use lib.Ieee.Bits.{of_bits-to_bits}
+use Rattle.std.specs.Int.{from_bool}
+use Rattle.std.proofs.lemmas.List.{map_more, take_more_set, take-set}
 use Rattle.loops.specs.All.{All}
 use Rattle.loops.specs.Cases.{choose, either}
 use Rattle.value.specs.Absolute.{abs_f}
 use Rattle.value.specs.Keys.{plain_fits}
 use Rattle.value.specs.Numbers.{zero_f}
-use Rattle.statistics.specs.Counting.{Plain, distances, one, count, upto, under, between, keep, AtPlace, Middles, Narrowed}
-use Rattle.statistics.proofs.Counts.{under_next, count_mono, count_again, few_left}
+use Rattle.statistics.specs.Counting.{Plain, distances, count, upto, under, between, keep, AtPlace, Middles, Narrowed}
+use Rattle.statistics.proofs.Counts.{from_bool_most, under_next, count_mono, few_left}
 use Rattle.statistics.proofs.Deviations.{distances_zero}
 
 pub length_keep : (p : Float → Bool) (l : List Float) → length (keep p l) ≡ count p l
@@ -19,7 +19,7 @@ unfolding keep count
 length_keep p [] = refl
 length_keep p (x ∷ xs) = by (p x) (length_keep p xs)
   where
-    by : (t : Bool) → length (keep p xs) ≡ count p xs → length (cond t (x ∷ keep p xs) (keep p xs)) ≡ one t + count p xs
+    by : (t : Bool) → length (keep p xs) ≡ count p xs → length (cond t (x ∷ keep p xs) (keep p xs)) ≡ from_bool t + count p xs
     by true h = omega arith
     by false h = omega arith
 
@@ -31,11 +31,7 @@ all_keep P p (x ∷ xs) a = choose (All P) (p x) (x ∷ keep p xs) (keep p xs) (
 count_most : (p : Float → Bool) (l : List Float) → count p l ≤ length l
 unfolding count
 count_most p [] = zero-le
-count_most p (x ∷ xs) = let h = count_most p xs in let g = most (p x) in omega arith
-  where
-    most : (t : Bool) → one t ≤ 1
-    most true = le_refl 1
-    most false = zero-le
+count_most p (x ∷ xs) = let h = count_most p xs in let g = from_bool_most (p x) in omega arith
 
 module _ (lo hi : ℕ) where
   -- what is under b, from lo on, is under lo or is kept
@@ -60,7 +56,7 @@ module _ (lo hi : ℕ) where
       let k = to_bits binary64 x in
       let h = all_upto xs in
       either lo k
-      (λ g. either k hi (λ r. let z : one (leb k hi) ≡ 1 = rw (le-leb k hi r) in rw (le-leb lo k g, le-leb k hi r) (omega arith)) (λ r. rw (le-leb lo k g, lt-leb k hi r) h))
+      (λ g. either k hi (λ r. let z : from_bool (leb k hi) ≡ 1 = rw (le-leb k hi r) in rw (le-leb lo k g, le-leb k hi r) (omega arith)) (λ r. rw (le-leb lo k g, lt-leb k hi r) h))
       (λ g. rw (lt-leb lo k g) h)
 
   module _ (o : lo ≤ hi) (l : List Float) where
@@ -123,41 +119,29 @@ keep_snoc p (y ∷ ys) x = by (p y) (keep_snoc p ys x)
     by true h = ap (λ (r : List Float). y ∷ r) h
     by false h = h
 
--- those kept of one number more
-keep_again : (p : Float → Bool) (d : Float) (a : List Float) (i : ℕ) → i < length a
-    → keep p (distances d (take (i + 1) a)) ≡ keep p (distances d (take i a)) ++ cond (p (abs_f (sub binary64 (abs_f (get_or a i nan)) d))) (abs_f (sub binary64 (abs_f (get_or a i nan)) d) ∷ []) []
-unfolding distances
-keep_again p d a i h =
-    ap (λ m. keep p (map (λ x. abs_f (sub binary64 (abs_f x) d)) m)) (ap (λ k. take k a) (add-one i) ∙ take-suc a i nan h)
-    ∙ ap (keep p) (map-append (λ x. abs_f (sub binary64 (abs_f x) d)) (take i a) (get_or a i nan ∷ []))
-    ∙ keep_snoc p (map (λ x. abs_f (sub binary64 (abs_f x) d)) (take i a)) (abs_f (sub binary64 (abs_f (get_or a i nan)) d))
-
 -- each number is written at place c, and the place is kept where it lies in the range
-module _ (lo hi : ℕ) (d : Float) (a : List Float) (i : ℕ) (h : i < length a) where
-  pub keep_turn : (out : List Float) (c k t : ℕ) → Plain (abs_f (sub binary64 (abs_f (get_or a i nan)) d)) → c < length out
-      → take c out ≡ keep (between lo hi) (distances d (take i a)) → k ≡ to_bits binary64 (abs_f (sub binary64 (abs_f (get_or a i nan)) d)) → t ≡ one (leb lo k && leb k hi)
-      → take (c + t) (set out c (of_bits binary64 k)) ≡ keep (between lo hi) (distances d (take (i + 1) a))
-  keep_turn out c k t p l e q u =
-      let v = abs_f (sub binary64 (abs_f (get_or a i nan)) d) in
-      let z : of_bits binary64 k ≡ v = ap (of_bits binary64) q ∙ of_bits-to_bits binary64 v (plain_fits v p) in
-      rw (u, z, q) (by v (between lo hi v) ∙ ap (λ r. r ++ cond (between lo hi v) (v ∷ []) []) e ∙ sym (keep_again (between lo hi) d a i h))
-    where
-      by : (v : Float) (t : Bool) → take (c + one t) (set out c v) ≡ take c out ++ cond t (v ∷ []) []
-      by v true = rw add-one (take-suc-set out c v l)
-      by v false = let z : c + 0 ≡ c = omega arith in rw (z, take-set-le c out c v (le_refl c)) (sym (append-nil (take c out)))
-
-  pub kept_turn : (c k t : ℕ) → c ≡ count (between lo hi) (distances d (take i a)) → k ≡ to_bits binary64 (abs_f (sub binary64 (abs_f (get_or a i nan)) d))
-      → t ≡ one (leb lo k && leb k hi) → c + t ≡ count (between lo hi) (distances d (take (i + 1) a))
+module _ (p : Float → Bool) (d : Float) (a : List Float) (i : ℕ) (h : i < length a) where
+  keep_again : keep p (distances d (take (i + 1) a)) ≡ keep p (distances d (take i a)) ++ cond (p (abs_f (sub binary64 (abs_f (get_or a i nan)) d))) (abs_f (sub binary64 (abs_f (get_or a i nan)) d) ∷ []) []
   unfolding distances
-  kept_turn c k t e q u = rw (e, u, q) (sym (count_again (between lo hi) (λ x. abs_f (sub binary64 (abs_f x) d)) a nan i h))
+  keep_again = ap (keep p) (map_more (λ x. abs_f (sub binary64 (abs_f x) d)) a i nan h) ∙ keep_snoc p (map (λ x. abs_f (sub binary64 (abs_f x) d)) (take i a)) _
+
+  pub keep_turn : Plain (abs_f (sub binary64 (abs_f (get_or a i nan)) d)) → (out : List Float) (c : ℕ) → c < length out → take c out ≡ keep p (distances d (take i a))
+      → take (c + from_bool (p (abs_f (sub binary64 (abs_f (get_or a i nan)) d)))) (set out c (of_bits binary64 (to_bits binary64 (abs_f (sub binary64 (abs_f (get_or a i nan)) d)))))
+      ≡ keep p (distances d (take (i + 1) a))
+  keep_turn l out c r e =
+      let v = abs_f (sub binary64 (abs_f (get_or a i nan)) d) in
+      rw (of_bits-to_bits binary64 v (plain_fits v l), keep_again, ← e) (by v (p v))
+    where
+      by : (v : Float) (t : Bool) → take (c + from_bool t) (set out c v) ≡ take c out ++ cond t (v ∷ []) []
+      by v true = take_more_set out c v r
+      by v false = rw (add-zero, take-set) (sym (append-nil (take c out)))
 
 -- the first of them have no more
-pub count_part : (p : Float → Bool) (d : Float) (a : List Float) (i n : ℕ) → i ≤ n → count p (distances d (take i a)) ≤ count p (distances d (take n a))
+pub count_part : (p : Float → Bool) (d : Float) (a : List Float) (i : ℕ) → count p (distances d (take i a)) ≤ count p (distances d a)
 unfolding count distances
-count_part p d a zero n h = zero-le
-count_part p d a (suc i) zero h = absurd (omega arith)
-count_part p d [] (suc i) (suc n) h = zero-le
-count_part p d (x ∷ xs) (suc i) (suc n) h = let z = count_part p d xs i n (omega arith) in omega arith
+count_part p d a zero = zero-le
+count_part p d [] (suc i) = zero-le
+count_part p d (x ∷ xs) (suc i) = let z = count_part p d xs i in omega arith
 
 abs_plain_self : (x : Float) → Plain x → abs_f x ≡ x
 unfolding abs_f
@@ -187,12 +171,12 @@ module _ (l : List Float) (a : All Plain l) (m few lo hi below : ℕ) (p : Narro
   pub kept_few : (lo ≡ hi → ⊥) → count (between lo hi) l ≤ few
   kept_few o = let h = all_kept in let f = few_left l m few lo hi below p n o in omega arith
 
-  pub kept_reached : m - below < count (between lo hi) l
-  kept_reached = let h = all_kept in let r = p.reached in let q = p.most in omega arith
-
   module _ (t : List Float) (e : t ≡ keep (between lo hi) l) where
     copied : distances zero_f t ≡ keep (between lo hi) l
     copied = ap (distances zero_f) e ∙ plain_distances (keep (between lo hi) l) (all_keep Plain (between lo hi) l a)
+
+    pub copied_reached : m - below < length (distances zero_f t)
+    copied_reached = rw copied (let h = kept_length lo hi p.ordered l in omega (arith, p.is, p.most, p.reached))
 
     pub copied_plain : All Plain (distances zero_f t)
     copied_plain = rw copied (all_keep Plain (between lo hi) l a)

@@ -2,26 +2,27 @@
 use Rattle.std.proofs.Common.{◌≡◌, ℕ, zero, suc, ◌+◌, ◌<◌, ◌≤◌, Bool, List, [], ◌∷◌, length, get_or, sym, refl, ap, ◌∙◌, zero-le, le_trans, le_of_suc-le-suc, not-suc-le-zero, le_of_lt, le_antisymm, zero-add, one-add, arith, le-leb, leb-false, leb-true}
 use borrow.Author.Tests.{lt-leb}
 use lib.Ieee.{Float, binary64, le, to_bits}
+use Rattle.std.specs.Int.{from_bool}
 use Rattle.loops.specs.All.{All}
 use Rattle.loops.specs.Cases.{choose, either}
 use Rattle.value.specs.Keys.{le_key}
 use Rattle.statistics.specs.Medians.{insert, sort}
-use Rattle.statistics.specs.Counting.{Plain, one, count, upto, under}
+use Rattle.statistics.specs.Counting.{Plain, count, upto, under}
 
 -- ---- a sort changes no count, no length, and nothing that holds of every element
 
-count_insert : (p : Float → Bool) (x : Float) (l : List Float) → count p (insert x l) ≡ one (p x) + count p l
+count_insert : (p : Float → Bool) (x : Float) (l : List Float) → count p (insert x l) ≡ from_bool (p x) + count p l
 unfolding count insert
 count_insert p x [] = refl
 count_insert p x (y ∷ ys) =
     let ih = count_insert p x ys in
-    choose (λ l. count p l ≡ one (p x) + (one (p y) + count p ys)) (le x y) (x ∷ y ∷ ys) (y ∷ insert x ys)
+    choose (λ l. count p l ≡ from_bool (p x) + (from_bool (p y) + count p ys)) (le x y) (x ∷ y ∷ ys) (y ∷ insert x ys)
     (λ t. refl) (λ t. omega arith)
 
 count_sort : (p : Float → Bool) (l : List Float) → count p (sort l) ≡ count p l
 unfolding count sort
 count_sort p [] = refl
-count_sort p (x ∷ xs) = count_insert p x (sort xs) ∙ ap (λ (n : ℕ). one (p x) + n) (count_sort p xs)
+count_sort p (x ∷ xs) = count_insert p x (sort xs) ∙ ap (λ (n : ℕ). from_bool (p x) + n) (count_sort p xs)
 
 length_insert : (x : Float) (l : List Float) → length (insert x l) ≡ suc (length l)
 unfolding insert

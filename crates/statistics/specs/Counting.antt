@@ -1,6 +1,7 @@
 -- What the code counts to find the numbers in the middle without a sort. Not needed to read a public promise. Definitions only.
 -- The bits of doubles with no sign are in the order of the doubles, so a place of the list in order is told by two counts of bits.
-use Rattle.std.specs.Prelude.{◌≡◌, ℕ, ◌+◌, ◌-◌, ◌<◌, ◌≤◌, Bool, true, false, cond, not, ◌&&◌, T, ◌⊎◌, List, [], ◌∷◌, map, nat_le, nat_lt, to_bits, Float}
+use Rattle.std.specs.Prelude.{◌≡◌, ℕ, ◌+◌, ◌-◌, ◌<◌, ◌≤◌, Bool, cond, not, ◌&&◌, T, ◌⊎◌, List, [], ◌∷◌, map, nat_le, nat_lt, to_bits, Float}
+use Rattle.std.specs.Int.{from_bool}
 use Rattle.std.specs.Float.{binary64}
 use Rattle.std.specs.Float.Ieee.{sub}
 use Rattle.loops.specs.Fold.{fold}
@@ -15,14 +16,10 @@ Plain x = T (plain x)
 unfoldable pub distances : Float → List Float → List Float
 distances d l = map (λ x. abs_f (sub binary64 (abs_f x) d)) l
 
-abbrev pub one : Bool → ℕ
-one true = 1
-one false = 0
-
 -- how many pass a test
 unfoldable pub count : (Float → Bool) → List Float → ℕ
 count p [] = 0
-count p (x ∷ xs) = one (p x) + count p xs
+count p (x ∷ xs) = from_bool (p x) + count p xs
 
 -- whether a double's bits are at most b
 abbrev pub upto : ℕ → Float → Bool

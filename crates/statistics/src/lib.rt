@@ -1,7 +1,7 @@
 // polyfit's `statistics.rs`: scores, the bound on the degree, medians, losses and variances.
 #![tactic(auto)]
 
-ghost use Rattle.std.specs.Prelude.{◌≡◌, ◌<◌, ◌≤◌, map, length, take};
+ghost use Rattle.std.specs.Prelude.{◌≡◌, ◌<◌, ◌≤◌, map};
 ghost use Rattle.value.specs.Absolute.{abs_f};
 ghost use Rattle.value.specs.Total.{total_f};
 ghost use Rattle.statistics.specs.Scores.{z_score, table_score, t_score};
@@ -70,15 +70,16 @@ fn table_score(confidence: Confidence, df: usize) -> f64
     requires { (0 < df) × (df ≤ 30) }
     ensures { result ≡ table_score confidence df }
 {
-    match confidence {
-        Confidence::P80 => table::entry(df, 0),
-        Confidence::P90 => table::entry(df, 1),
-        Confidence::P95 => table::entry(df, 2),
-        Confidence::P98 => table::entry(df, 3),
-        Confidence::P99 => table::entry(df, 4),
-        Confidence::P999 => table::entry(df, 5),
-        Confidence::Custom(_) => z_score(confidence),
-    }
+    let column = match confidence {
+        Confidence::P80 => 0,
+        Confidence::P90 => 1,
+        Confidence::P95 => 2,
+        Confidence::P98 => 3,
+        Confidence::P99 => 4,
+        Confidence::P999 => 5,
+        Confidence::Custom(z) => return z,
+    };
+    table::entry(df, column)
 }
 
 // The t score of a confidence for df degrees of freedom: the table's row up to 30, the z score from 31 on.
@@ -86,7 +87,7 @@ pub fn t_score(confidence: Confidence, df: usize) -> f64
     ensures { result ≡ t_score confidence df }
 {
     if df == 0 {
-        return f64::from_bits(0x7FF0_0000_0000_0000);
+        return f64::INFINITY;
     }
     if df <= 30 {
         return table_score(confidence, df);
@@ -98,29 +99,26 @@ pub fn t_score(confidence: Confidence, df: usize) -> f64
 pub fn max_degree(bound: DegreeBound, n: usize) -> Degree
     ensures { result.0 ≡ max_degree bound n }
 {
-    match bound {
-        DegreeBound::Conservative => Degree(whole::least_of(whole::root_to(n, 5, 8), 15, n)),
-        DegreeBound::Relaxed => Degree(whole::least_of(whole::root_to(n, 3, 15), 8, n)),
-        DegreeBound::Aggressive => Degree(whole::least_of(whole::less_one(n), 8, n)),
-        DegreeBound::Custom(d) => Degree(whole::smaller(d.0, whole::less_one(n))),
-    }
+    Degree(match bound {
+        DegreeBound::Conservative => whole::least_of(whole::root_to(n, 5, 8), 15, n),
+        DegreeBound::Relaxed => whole::least_of(whole::root_to(n, 3, 15), 8, n),
+        DegreeBound::Aggressive => whole::least_of(n.saturating_sub(1), 8, n),
+        DegreeBound::Custom(d) => d.0.min(n.saturating_sub(1)),
+    })
 }
 
-// The median of the sizes of the first n numbers.
-fn median_of_sizes(a: &[f64], n: usize) -> f64
-    requires { n ≤ length a.now }
-    ensures { result ≡ median_of (map abs_f (take n a.now)) }
+// The median of the sizes of numbers.
+fn median_of_sizes(a: &[f64]) -> f64
+    ensures { result ≡ median_of (map abs_f a.now) }
 {
-    order::median_from(a, n, 0.0)
+    order::median_from(a, 0.0)
 }
 
-// The median absolute deviation of residuals, the first n numbers. It takes their sizes, so that these may stand there too.
-pub fn median_absolute_deviation(a: &[f64], n: usize) -> f64
-    requires { n ≤ length a.now }
-    ensures { result ≡ median_absolute_deviation (take n a.now) }
+// The median absolute deviation of residuals. It takes their sizes, so that these may stand there too.
+pub fn median_absolute_deviation(a: &[f64]) -> f64
+    ensures { result ≡ median_absolute_deviation a.now }
 {
-    let m = median_of_sizes(a, n);
-    order::median_from(a, n, m)
+    order::median_from(a, median_of_sizes(a))
 }
 
 // The Huber constant.
@@ -142,41 +140,38 @@ pub fn huber_loss(r: f64, constant: f64, mad: f64) -> f64
     delta * (s - 0.5 * delta)
 }
 
-// The sum of the losses of residuals, the first n numbers, or their sizes.
-pub fn total_loss(a: &[f64], n: usize) -> f64
-    requires { n ≤ length a.now }
-    ensures { result ≡ total_f (losses (take n a.now)) }
+// The sum of the losses of residuals, or of their sizes.
+pub fn total_loss(a: &[f64]) -> f64
+    ensures { result ≡ total_f (losses a.now) }
 {
-    let mad = median_absolute_deviation(a, n);
+    let mad = median_absolute_deviation(a);
     let constant = huber_const();
     let mut v = 0.0;
-    for i in 0..n {
-        v = v + huber_loss(a[i], constant, mad);
+    for r in a {
+        v += huber_loss(*r, constant, mad);
     }
     v
 }
 
-// The residual variance of a model of k coefficients. The first n numbers are its residuals or their sizes.
-pub fn residual_variance(a: &[f64], n: usize, k: CoefficientCount) -> f64
-    requires { n ≤ length a.now }
-    ensures { result ≡ residual_variance k.0 (take n a.now) }
+// The residual variance of a model of k coefficients, from its residuals or their sizes.
+pub fn residual_variance(a: &[f64], k: CoefficientCount) -> f64
+    ensures { result ≡ residual_variance k.0 a.now }
 {
-    let nf = std::num::nearest_u64_to_f64(n as u64);
-    let kf = std::num::nearest_u64_to_f64(k.0 as u64);
+    let nf = std::num::nearest_usize_to_f64(a.len());
+    let kf = std::num::nearest_usize_to_f64(k.0);
     if nf == kf {
         return 0.0;
     }
-    sums::squares(a, n) / (nf - kf)
+    sums::squares(a) / (nf - kf)
 }
 
-// The standard deviation and the mean of the first n numbers, as of a population.
-pub fn stddev_and_mean(a: &[f64], n: usize) -> StddevAndMean
-    requires { n ≤ length a.now }
-    ensures { result ≡ stddev_and_mean (take n a.now) }
+// The standard deviation and the mean of numbers, as of a population.
+pub fn stddev_and_mean(a: &[f64]) -> StddevAndMean
+    ensures { result ≡ stddev_and_mean a.now }
 {
-    let nf = std::num::nearest_u64_to_f64(n as u64);
-    let mean = sums::total(a, n) / nf;
-    let variance = sums::squares_about(a, n, mean) / nf;
+    let n = std::num::nearest_usize_to_f64(a.len());
+    let mean = sums::total(a) / n;
+    let variance = sums::squares_about(a, mean) / n;
     StddevAndMean {
         stddev: value::sqrt(variance),
         mean,

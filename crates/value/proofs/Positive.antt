@@ -1,5 +1,5 @@
--- What the tests of `ln` tell of a double, and which results are plain: no NaN and no sign.
-use Rattle.std.proofs.Common.{◌≡◌, ℕ, zero, suc, ◌+◌, ◌-◌, ◌*◌, ◌^◌, ◌<◌, ◌≤◌, Bool, true, false, cond, not, ◌&&◌, ◌||◌, T, eqb, ltb, leb, ℤ, pos, negsuc, sym, refl, ap, ◌∙◌, subst, true≢false, zero-lt-suc, mul_assoc, mul_comm, add-mul, mul-pos, zero-mul, mul-one, arith, lt→ltb, ltb-false, ltb-true, le-ltb, lt-ltb, eqb-true, leb-false, leb-true}
+-- What the tests of `ln` and `sqrt` tell of a double, and which results are plain: no NaN and no sign.
+use Rattle.std.proofs.Common.{◌≡◌, ℕ, zero, suc, ◌+◌, ◌-◌, ◌*◌, ◌^◌, ◌<◌, ◌≤◌, Bool, true, false, cond, not, ◌||◌, T, ltb, leb, ℤ, pos, negsuc, sym, refl, ap, ◌∙◌, subst, true≢false, zero-lt-suc, mul_assoc, mul_comm, add-mul, mul-pos, mul-one, arith, lt→ltb, ltb-false, ltb-true, le-ltb, lt-ltb, eq-eqb, ne_eqb, leb-false, leb-true}
 use mathlib.Core.Bool.{beq, false≢true}
 use lib.Ieee.{Float, nan, inf, fin, Format, binary64, round, units, odd, minus, sum, add, sub, mul, neg, lt, eq, of_int, fits, is_nan, low, prec, emax, up, down}
 use lib.Ieee.Back.{round_whole}
@@ -8,9 +8,24 @@ use lib.Ieee.Fits.{round-fits, round_is, down_pos, up_pos}
 use lib.Ieee.Positive.{positive}
 use lib.Ieee.Scale.{round_same}
 use Rattle.value.specs.Logarithm.{ln_f, ln_positive}
+use Rattle.value.specs.Root.{root_f}
 use Rattle.value.specs.Numbers.{num, plain}
 
--- ---- by the tests of `ln`
+-- ---- what is equal to zero
+
+zero_meets : (s : Bool) (e : ℤ) → eq (fin s zero e) (fin false 0 (pos 0)) ≡ true
+unfolding eq
+zero_meets s e = rw (eq-eqb (0 * up e * 1) (0 * 1 * down e) (omega arith), eq-eqb (0 * up e * 1) 0 (omega arith)) (either s)
+  where
+    either : (s : Bool) → beq s false || true ≡ true
+    either true = refl
+    either false = refl
+
+some_misses : (s : Bool) (m : ℕ) (e : ℤ) → eq (fin s (suc m) e) (fin false 0 (pos 0)) ≡ false
+unfolding eq
+some_misses s m e = let p = mul-pos {m = suc m} {n = up e} (zero-lt-suc m) (up_pos e) in rw (ne_eqb (suc m * up e * 1) (0 * 1 * down e) (λ h. omega arith))
+
+-- ---- by the tests of `ln` and `sqrt`
 
 -- a finite double above zero
 pub above : (x : Float) → lt (fin false 0 (pos 0)) x ≡ true → lt x (inf false) ≡ true → T (positive x)
@@ -19,48 +34,53 @@ above nan p q = absurd (false≢true p)
 above (inf true) p q = absurd (false≢true p)
 above (inf false) p q = absurd (false≢true q)
 above (fin true m e) p q = absurd (false≢true p)
-above (fin false zero e) p q = absurd (omega (arith, ltb-true (0 * 1 * down e) (0 * up e * 1) p, zero-mul (up e), zero-mul (down e)))
+above (fin false zero e) p q = absurd (omega (arith, ltb-true _ _ p))
 above (fin false (suc m) e) p q = lt→ltb 0 (suc m) (zero-lt-suc m)
 
 -- +infinity
-pub top : (x : Float) → lt (fin false 0 (pos 0)) x ≡ true → lt x (inf false) ≡ false → x ≡ ln_f x
-unfolding lt ln_f
+pub top : (x : Float) → lt (fin false 0 (pos 0)) x ≡ true → lt x (inf false) ≡ false → x ≡ inf false
+unfolding lt
 top nan p q = absurd (false≢true p)
 top (inf true) p q = absurd (false≢true p)
 top (inf false) p q = refl
 top (fin true m e) p q = absurd (false≢true p)
 top (fin false m e) p q = absurd (true≢false q)
 
--- a zero
+-- `ln` of a zero
 pub none : (x : Float) → eq x (fin false 0 (pos 0)) ≡ true → inf true ≡ ln_f x
 unfolding eq ln_f
 none nan q = absurd (false≢true q)
 none (inf s) q = absurd (false≢true q)
 none (fin s zero e) q = refl
-none (fin s (suc m) e) q = absurd (zero_size m e (eqb (suc m * up e * 1) (0 * 1 * down e)) _ refl q)
-  where
-    zero_size : (m : ℕ) (e : ℤ) (a b : Bool) → eqb (suc m * up e * 1) (0 * 1 * down e) ≡ a → a && b ≡ true → ⊥
-    zero_size m e false b r h = false≢true h
-    zero_size m e true b r h =
-        omega (arith, eqb-true (suc m * up e * 1) (0 * 1 * down e) r, mul-pos {m = suc m} {n = up e} (omega arith) (up_pos e), zero-mul (down e))
+none (fin s (suc m) e) q = absurd (false≢true (sym (some_misses s m e) ∙ q))
 
--- a NaN, and below zero
+-- `ln` of a NaN, and below zero
 pub below : (x : Float) → lt (fin false 0 (pos 0)) x ≡ false → eq x (fin false 0 (pos 0)) ≡ false → nan ≡ ln_f x
 unfolding lt eq ln_f
 below nan p q = refl
 below (inf true) p q = refl
 below (inf false) p q = absurd (true≢false p)
 below (fin true (suc m) e) p q = refl
-below (fin s zero e) p q =
-    let z : 0 * up e * 1 ≡ 0 = omega (arith, zero-mul (up e)) in
-    let w : 0 * 1 * down e ≡ 0 = omega (arith, zero-mul (down e)) in
-    absurd (true≢false (sym (either s) ∙ (rw (z, w) at q)))
-  where
-    either : (s : Bool) → (beq s false || true) ≡ true
-    either true = refl
-    either false = refl
-below (fin false (suc m) e) p q =
-    absurd (omega (arith, ltb-false (0 * 1 * down e) (suc m * up e * 1) p, mul-pos {m = suc m} {n = up e} (omega arith) (up_pos e), zero-mul (down e)))
+below (fin s zero e) p q = absurd (true≢false (sym (zero_meets s e) ∙ q))
+below (fin false (suc m) e) p q = absurd (omega (arith, ltb-false _ _ p, mul-pos {m = suc m} {n = up e} (zero-lt-suc m) (up_pos e)))
+
+-- `sqrt` of a zero or a NaN
+pub stands : (x : Float) → eq x (fin false 0 (pos 0)) || is_nan x ≡ true → x ≡ root_f x
+unfolding eq is_nan root_f
+stands nan q = refl
+stands (inf s) q = absurd (false≢true q)
+stands (fin s zero e) q = refl
+stands (fin s (suc m) e) q = absurd (false≢true (rw (some_misses s m e) at q))
+
+-- `sqrt` below zero
+pub beneath : (x : Float) → lt (fin false 0 (pos 0)) x ≡ false → eq x (fin false 0 (pos 0)) || is_nan x ≡ false → nan ≡ root_f x
+unfolding lt eq is_nan root_f
+beneath nan p q = refl
+beneath (inf true) p q = refl
+beneath (inf false) p q = absurd (true≢false p)
+beneath (fin true (suc m) e) p q = refl
+beneath (fin s zero e) p q = absurd (true≢false (rw (zero_meets s e) at q))
+beneath (fin false (suc m) e) p q = absurd (omega (arith, ltb-false _ _ p, mul-pos {m = suc m} {n = up e} (zero-lt-suc m) (up_pos e)))
 
 pub positive_ln : (x : Float) → T (positive x) → ln_positive x ≡ ln_f x
 unfolding ln_f

@@ -1,7 +1,8 @@
 -- NaNs, which count as one value: what a test `x != x` tells, and which bit patterns are a NaN's.
 use Rattle.std.specs.Prelude.{◌≡◌, ℕ, ◌%◌, ◌^◌, ◌<◌, ◌≤◌, Bool, true, false, not, T, refl, Float}
-use Rattle.std.proofs.Common.{sym, ap, subst, ◌∙◌, lt-ltb, le-ltb}
+use Rattle.std.proofs.Common.{sym, ap, subst, ◌∙◌, lt-ltb}
 use Rattle.std.proofs.lemmas.Bool.{false≢true}
+use Rattle.std.proofs.lemmas.Float.{not_nan_f64_bits}
 use Rattle.std.specs.Float.{nan, inf, fin, binary64}
 use Rattle.std.specs.Float.Ieee.{div, ne, is_nan, nan_bits, of_bits, to_bits}
 use Rattle.std.specs.Float.Ieee.Bits.{nan_bits_is, nan_bits_above}
@@ -42,7 +43,7 @@ bits_nan b h = is_the_nan (of_bits binary64 b) (sym (nan_bits_is binary64 b) ∙
 
 -- and up to it is none, as `from_bits` asks it
 pub bits_some : (b : ℕ) → b % 2 ^ 63 ≤ 0x7FF0_0000_0000_0000 → T (not (nan_bits binary64 b))
-bits_some b h = subst (λ (t : Bool). T (not t)) (sym (nan_bits_above binary64 b ∙ le-ltb 0x7FF0_0000_0000_0000 (b % 2 ^ 63) h)) tt
+bits_some b h = not_nan_f64_bits b h
 
 -- the one pattern that stands for it
 pub nan_bits_lem : to_bits binary64 nan ≡ 0x7FF8_0000_0000_0000

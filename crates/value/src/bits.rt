@@ -6,18 +6,12 @@ ghost use Rattle.std.specs.Float.{binary64};
 pub fn from_bits(b: u64) -> f64
     ensures { result ≡ from_bits binary64 b }
 {
-    if b % 0x8000_0000_0000_0000 > 0x7FF0_0000_0000_0000 {
-        return 0.0 / 0.0;
-    }
-    f64::from_bits(b)
+    std::num::f64_from_bits_with_nan(b)
 }
 
 // The bits of x; 7FF8000000000000 for a NaN.
 pub fn to_bits(x: f64) -> u64
     ensures { result ≡ to_bits binary64 x }
 {
-    if x != x {
-        return 0x7FF8_0000_0000_0000;
-    }
-    f64::to_bits(x)
+    std::num::f64_to_bits_with_nan(x)
 }

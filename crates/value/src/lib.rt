@@ -21,35 +21,24 @@ pub use square_root::sqrt;
 pub fn is_finite(x: f64) -> bool
     ensures { result ≡ finite x }
 {
-    let high = f64::from_bits(0x7FF0_0000_0000_0000);
-    let low = -high;
-    if low < x {
-        return x < high;
-    }
-    false
+    x.is_finite()
 }
 
 // |x|; +0 for −0.
 pub fn abs(x: f64) -> f64
     ensures { result ≡ abs_f x }
 {
-    if x < 0.0 {
-        return -x;
-    }
-    if x == 0.0 {
-        return 0.0;
-    }
-    x
+    x.abs()
 }
 
-// The larger, or the other one beside a NaN; the first of two that are equal.
+// The larger, or the other one beside a NaN; the first of two that are equal, which the library's `max` leaves open.
 pub fn maximum(a: f64, b: f64) -> f64
     ensures { result ≡ maximum_f a b }
 {
-    if a != a {
+    if a.is_nan() {
         return b;
     }
-    if b != b {
+    if b.is_nan() {
         return a;
     }
     if a < b {

@@ -53,9 +53,9 @@ fn ln_positive(v: f64) -> f64
     requires { T (positive v) }
     ensures { result ≡ ln_positive v }
 {
-    let b = f64::to_bits(v);
+    let b = v.to_bits();
     if b < 0x10_0000_0000_0000 {
-        let scaled = f64::to_bits(v * 18014398509481984.0);
+        let scaled = (v * 18014398509481984.0).to_bits();
         return ln_bits(scaled, 54);
     }
     ln_bits(b, 0)
@@ -66,13 +66,13 @@ pub fn ln(x: f64) -> f64
     ensures { result ≡ ln_f x }
 {
     if 0.0 < x {
-        if x < 1.0 / 0.0 {
+        if x < f64::INFINITY {
             return ln_positive(x);
         }
         return x;
     }
     if x == 0.0 {
-        return -1.0 / 0.0;
+        return f64::NEG_INFINITY;
     }
-    0.0 / 0.0
+    f64::NAN
 }

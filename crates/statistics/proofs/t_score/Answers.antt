@@ -1,13 +1,8 @@
 -- `statistics::t_score` meets its contract. By the two tests on df.
-use Rattle.std.proofs.Common.{arith, rules, eq-eqb, ne_eqb, le-leb}
-use lib.Ieee.{nan_bits}
+use Rattle.std.proofs.Common.{arith, eq-eqb, ne_eqb, le-leb}
 use borrow.Author.Tests.{lt-leb}
 use Rattle.statistics.specs.Scores.{t_score}
 use Rattle.statistics.proofs.t_score.Goals as goal
-
-pub float_from_bits-result : goal.float_from_bits-result
-unfolding nan_bits
-float_from_bits-result c = search rules
 
 pub returns-then-df-eq0 : goal.returns-then-df-eq0
 unfolding t_score

@@ -1,18 +1,18 @@
 -- `root_f x` is the double nearest to √x, for every double x above zero, and no other double is.
-use Rattle.std.proofs.Common.{◌≡◌, ℕ, zero, suc, ◌+◌, ◌-◌, ◌*◌, ◌/◌, ◌%◌, ◌^◌, ◌<◌, ◌≤◌, Bool, true, false, cond, not, T, ltb, sym, refl, ap, ◌∙◌, subst, inl, inr, true≢false, zero-le, le_trans, le_of_eq, le_refl, lt_of_lt_of_le, lt_of_le_of_lt, le_of_lt, mul-le-mul_right, zero-lt-suc, mul_assoc, mul_comm, add-mul, mul-le-mul, add_comm, mul-lt-mul_of_pos_right, mul-pos, lt_of_not-le, not-le_of_lt, mul-div_cancel, mul_left_comm, arith, ltb→lt, lt→ltb, nltb→le, pow_pos, pow_mono, pow-add}
+use Rattle.std.proofs.Common.{◌≡◌, ℕ, zero, suc, ◌+◌, ◌-◌, ◌*◌, ◌/◌, ◌%◌, ◌^◌, ◌<◌, ◌≤◌, Bool, true, false, cond, not, T, ltb, sym, refl, ap, ◌∙◌, subst, inl, inr, zero-le, le_trans, le_of_eq, le_refl, lt_of_lt_of_le, lt_of_le_of_lt, le_of_lt, mul-le-mul_right, zero-lt-suc, mul_assoc, add-mul, mul-le-mul, add_comm, mul-lt-mul_of_pos_right, mul-pos, lt_of_not-le, not-le_of_lt, mul-div_cancel, arith, ltb→lt, nltb→le, pow_pos, pow_mono, pow-add}
 use lib.Ieee.{Float, nan, inf, fin, binary64, up, down, size, units, fits, of_bits}
 use lib.Ieee.Digits.{size-lt, size-le, size_reaches}
 use lib.Ieee.Fits.{down_pos}
 use lib.Ieee.Exact.{HasValue, units_val}
-use lib.Ieee.Positive.{positive}
+use lib.Ieee.Positive.{positive, positive_of_value}
 use lib.Ieee.Bits.{of_bits-to_bits}
 use Rattle.loops.specs.Cases.{either}
 use Rattle.value.specs.Root.{isqrt, closest_root, root_of, root_f}
 use Rattle.value.specs.Nearest.{ulps, whole_square, Nearest}
 use Rattle.value.specs.Grid.{Double}
 use Rattle.value.specs.GridLaws.{place, says, ulps_double, gap}
-use Rattle.value.specs.Exact.{zero_value, below_end}
-use Rattle.value.proofs.SquareRoot.Numbers.{IsRoot, root_le, odd_square, even_square, isqrt_is, half, closest_root_at}
+use Rattle.value.specs.Exact.{below_end}
+use Rattle.value.proofs.SquareRoot.Numbers.{IsRoot, grown, root_le, isqrt_is, half, closest_root_at}
 use Rattle.value.proofs.SquareRoot.Packing.{written, units_fit, below_all, bits_of_value, closest_low, closest_high, root_of_is, even_shift, odd_shift}
 use Rattle.value.proofs.SquareRoot.Reading.{ulps_of_value, positive_value}
 
@@ -20,6 +20,12 @@ pow_lt_back : (i p : ℕ) → 2 ^ i < 2 ^ p → i < p
 pow_lt_back i p h = lt_of_not-le (λ (g : p ≤ i). not-le_of_lt h (pow_mono g))
 
 -- ---- squares
+odd_square : (a : ℕ) → (2 * a + 1) * (2 * a + 1) ≡ 4 * (a * a) + 4 * a + 1
+odd_square a = omega arith
+
+even_square : (a : ℕ) → 2 * a * (2 * a) ≡ 4 * (a * a)
+even_square a = omega arith
+
 square_le : (a b : ℕ) → a ≤ b → whole_square a ≤ whole_square b
 square_le a b h = mul-le-mul h h
 
@@ -28,7 +34,7 @@ square_lt a b h = lt_of_le_of_lt (mul-le-mul (le_refl a) (le_of_lt h)) (mul-lt-m
 
 -- (a * p) ^ 2 is a ^ 2 * p ^ 2
 square_mul : (a p : ℕ) → whole_square (a * p) ≡ whole_square a * (p * p)
-square_mul a p = simp (mul_assoc, mul_comm, mul_left_comm)
+square_mul a p = omega arith
 
 -- ---- the two sides, by which of q and q + 1 is the closer: p is 2 ^ k, m the radicand over p ^ 2
 four_times : (m p : ℕ) → 4 * (m * (p * p)) ≡ 4 * m * (p * p)
@@ -151,35 +157,14 @@ scaled c j a b h =
     let s = size c in
     let most : s ≤ 53 = size-le c 53 b in
     let least : 0 < s = lt_of_not-le (λ (g : s ≤ 0). not-le_of_lt (lt_of_lt_of_le (size-lt c) (pow_mono g)) a) in
+    let one : s ≡ suc (s - 1) = omega arith in
     let z = 53 - s in
-    let lo : 2 ^ 52 ≤ c * 2 ^ z = le_trans (le_of_eq (ap (λ (x : ℕ). 2 ^ x) (up_to s least most) ∙ pow-add 2 (s - 1) z)) (mul-le-mul_right (2 ^ z) (size_reaches c (s - 1) (less s least))) in
-    let hi : c * 2 ^ z < 2 ^ 53 = lt_of_lt_of_le (mul-lt-mul_of_pos_right (size-lt c) (pow_pos z)) (le_of_eq (sym (pow-add 2 s z) ∙ ap (λ (x : ℕ). 2 ^ x) (add_up s most))) in
-    let e : c * 2 ^ z * 2 ^ (j - z) ≡ c * 2 ^ j = mul_assoc c (2 ^ z) (2 ^ (j - z)) ∙ ap (λ (x : ℕ). c * x) (sym (pow-add 2 z (j - z)) ∙ ap (λ (x : ℕ). 2 ^ x) (all s j h)) in
-    subst Scaled e (scaled_full (c * 2 ^ z) (j - z) lo hi (left s j h))
-  where
-    up_to : (s : ℕ) → 0 < s → s ≤ 53 → 52 ≡ s - 1 + (53 - s)
-    up_to s a b = omega arith
-
-    less : (s : ℕ) → 0 < s → s - 1 < s
-    less s a = omega arith
-
-    add_up : (s : ℕ) → s ≤ 53 → s + (53 - s) ≡ 53
-    add_up s a = omega arith
-
-    all : (s j : ℕ) → 1074 ≤ j → 53 - s + (j - (53 - s)) ≡ j
-    all s j h = omega arith
-
-    left : (s j : ℕ) → 1074 ≤ j → 52 ≤ j - (53 - s)
-    left s j h = omega arith
+    let w = grown c (s - 1) z (omega arith) (size_reaches c (s - 1) (omega arith)) (subst (λ (n : ℕ). c < 2 ^ n) one (size-lt c)) in
+    let all : z + (j - z) ≡ j = omega arith in
+    let e : c * 2 ^ z * 2 ^ (j - z) ≡ c * 2 ^ j = mul_assoc c (2 ^ z) (2 ^ (j - z)) ∙ ap (λ (x : ℕ). c * x) (sym (pow-add 2 z (j - z)) ∙ ap (λ (x : ℕ). 2 ^ x) all) in
+    subst Scaled e (scaled_full (c * 2 ^ z) (j - z) w.0 w.1 (omega arith))
 
 -- ---- values and their sizes
-positive_of_value : (v : Float) (n : ℕ) → HasValue v false n (2 ^ 1074) → 0 < n → T (positive v)
-positive_of_value nan n h p = absurd h
-positive_of_value (inf s) n h p = absurd h
-positive_of_value (fin true m e) n h p = absurd (true≢false h.0)
-positive_of_value (fin false zero e) n h p = absurd (zero_value e n (2 ^ 1074) h.1 p)
-positive_of_value (fin false (suc m) e) n h p = lt→ltb 0 (suc m) (zero-lt-suc m)
-
 -- what a double above zero is
 record Grains (x : Float) : Type 0 where
   c : ℕ
@@ -226,7 +211,7 @@ nearest_units x n m k p g a b e h =
     record {
       of = p;
       held = units_fit q k (closest_high m b) h;
-      above = positive_of_value r (q * 2 ^ k) w (mul-pos (lt_of_lt_of_le (pow_pos 52) (closest_low m b a)) (pow_pos k));
+      above = positive_of_value r (q * 2 ^ k) (2 ^ 1074) w (mul-pos (lt_of_lt_of_le (pow_pos 52) (closest_low m b a)) (pow_pos k));
       over = λ y f. rw s (subst (λ (z : ℕ). ulps y < q * 2 ^ k → whole_square (ulps y + q * 2 ^ k) < 4 * z) t (both m k (ulps y) q (sides m k (ulps y) a b (ulps_double y f))).0);
       under = λ y f. rw s (subst (λ (z : ℕ). q * 2 ^ k < ulps y → 4 * z < whole_square (ulps y + q * 2 ^ k)) t (both m k (ulps y) q (sides m k (ulps y) a b (ulps_double y f))).1);
     }

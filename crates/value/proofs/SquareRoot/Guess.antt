@@ -1,33 +1,25 @@
 -- A guessed root held against the squares: what `distance` measures, and that the guess or a neighbour is then the closest.
-use Rattle.std.proofs.Common.{◌≡◌, ℕ, zero, suc, ◌+◌, ◌-◌, ◌*◌, ◌/◌, ◌%◌, ◌^◌, ◌<◌, ◌≤◌, Bool, true, false, cond, ◌&&◌, ltb, leb, ◌⊎◌, sym, refl, ap, ◌∙◌, ⊎_elim, mul_assoc, mul_comm, add-mul, mul-le-mul, mul-add, mul_left_comm, add-one, arith, ltb-false, ltb-true, le-ltb, lt-ltb, leb-false, leb-true}
+use Rattle.std.proofs.Common.{◌≡◌, ℕ, zero, suc, ◌+◌, ◌-◌, ◌*◌, ◌/◌, ◌%◌, ◌^◌, ◌<◌, ◌≤◌, Bool, true, false, cond, ◌&&◌, ltb, leb, sym, refl, ap, ◌∙◌, subst, add-one, add-zero, arith, ltb-false, ltb-true, le-ltb, lt-ltb, leb-false, leb-true}
+use Rattle.std.proofs.Math.Nat.{sub-zero}
+use Rattle.std.specs.Int.{from_bool}
+use Rattle.std.specs.Prelude.{Option, None, Some, SomeIff, IfSome}
 use Rattle.loops.specs.Cases.{either, and_first, and_second}
 use Rattle.value.specs.Root.{closest_root}
-use Rattle.value.proofs.SquareRoot.Numbers.{next_square, closest_root_is}
+use Rattle.value.proofs.SquareRoot.Numbers.{closest_root_is}
 
--- ---- r is a * p + q, p for 2 ^ 26
-split_square : (a q p : ℕ) → (a * p + q) * (a * p + q) ≡ a * a * (p * p) + 2 * (a * q * p) + q * q
-split_square a q p = simp (mul-add, add-mul, mul_assoc, mul_comm, mul_left_comm) (omega arith)
-
+-- ---- r is a * 2 ^ 26 + q
 parts : (r : ℕ) → r ≡ r / 0x400_0000 * 0x400_0000 + r % 0x400_0000
 parts r = omega arith
 
-product_le : (a b s t : ℕ) → a ≤ s → b ≤ t → a * b ≤ s * t
-product_le a b s t h k = mul-le-mul h k
+-- what `checked_sub` gives is the difference
+pub difference : {P : Type 0} {v : ℕ} (o : Option ℕ) (Q : ℕ → Type 0) → SomeIff o P v → (P → Q v) → IfSome o Q
+difference None Q h k = tt
+difference (Some x) Q h k = subst Q (sym h.1) (k h.0)
 
-module _ (r : ℕ) (h : r < 2 ^ 53) where
-  pub high_part : r / 0x400_0000 * (r / 0x400_0000) ≤ 2 ^ 27 * 2 ^ 27
-  high_part = product_le _ _ (2 ^ 27) (2 ^ 27) (omega arith) (omega arith)
-
-  pub low_part : r % 0x400_0000 * (r % 0x400_0000) ≤ 2 ^ 26 * 2 ^ 26
-  low_part = product_le _ _ (2 ^ 26) (2 ^ 26) (omega arith) (omega arith)
-
-  pub both_parts : r / 0x400_0000 * (r % 0x400_0000) ≤ 2 ^ 27 * 2 ^ 26
-  both_parts = product_le _ _ (2 ^ 27) (2 ^ 26) (omega arith) (omega arith)
-
--- over is m - a ^ 2, and rest is over * p + 2 ^ 30 - 2 * a * q
+-- over is m - a ^ 2, and rest is over * 2 ^ 26 + 2 ^ 30 - 2 * a * q
 measured : (m a q over rest : ℕ) → a * a + over ≡ m → rest + 2 * (a * q) ≡ over * 0x400_0000 + 0x4000_0000 → q * q ≤ rest * 0x400_0000
     → (a * 0x400_0000 + q) * (a * 0x400_0000 + q) + (rest * 0x400_0000 - q * q) ≡ m * 2 ^ 52 + 2 ^ 56
-measured m a q over rest e f h = omega (arith, split_square a q 0x400_0000)
+measured m a q over rest e f h = omega arith
 
 pub distance_is : (m r over rest : ℕ) → r / 0x400_0000 * (r / 0x400_0000) + over ≡ m → rest + 2 * (r / 0x400_0000 * (r % 0x400_0000)) ≡ over * 0x400_0000 + 0x4000_0000
     → r % 0x400_0000 * (r % 0x400_0000) ≤ rest * 0x400_0000 → r * r + (rest * 0x400_0000 - r % 0x400_0000 * (r % 0x400_0000)) ≡ m * 2 ^ 52 + 2 ^ 56
@@ -42,7 +34,6 @@ at_least n r h b l = sym (closest_root_is n r (n - r * r) h (omega arith) (omega
 beneath : (n r : ℕ) → n < 4 ^ 53 → r * r < n + r → n < r * r → r ≡ closest_root n
 beneath n zero h a l = absurd (omega arith)
 beneath n (suc q) h a l =
-    let s = next_square q in
     sym (closest_root_is n q (n - q * q) h (omega arith) (omega arith) ∙ ap (λ (t : Bool). cond t (suc q) q) (lt-ltb q (n - q * q) (omega arith)))
 
 pub closest : (n r : ℕ) → n < 4 ^ 53 → r * r < n + r → n ≤ r * r + r → r ≡ closest_root n
@@ -55,31 +46,26 @@ near a b c d t = (ltb-true a b (and_first (ltb a b) (leb c d) t), leb-true c d (
 one_less : (n r d : ℕ) → n < 4 ^ 53 → r * r + d ≡ n + 2 ^ 56 → 0x100_0000_0000_0002 < d + 3 * r → d + r ≤ 0x100_0000_0000_0000 → r - 1 ≡ closest_root n
 one_less n zero d h e a b = absurd (omega arith)
 one_less n (suc q) d h e a b =
-    let s = next_square q in
     let back : suc q - 1 ≡ q = omega arith in
     back ∙ closest n q h (omega arith) (omega arith)
 
 one_more : (n r d : ℕ) → n < 4 ^ 53 → r * r + d ≡ n + 2 ^ 56 → 0x100_0000_0000_0000 + r < d → d ≤ 0x100_0000_0000_0002 + 3 * r → r + 1 ≡ closest_root n
-one_more n r d h e a b = let s = next_square r in add-one r ∙ closest n (suc r) h (omega arith) (omega arith)
+one_more n r d h e a b = add-one r ∙ closest n (suc r) h (omega arith) (omega arith)
 
 -- by the two tests: one above, one below, or r itself
 moved : (n r d : ℕ) → n < 4 ^ 53 → r * r + d ≡ n + 2 ^ 56 → (0x100_0000_0000_0002 < d + 3 * r) × (d ≤ 0x100_0000_0000_0002 + 3 * r) → (s t : Bool)
-    → ltb (0x100_0000_0000_0000 + r) d ≡ s → leb (d + r) 0x100_0000_0000_0000 ≡ t → r + cond s 1 0 - cond t 1 0 ≡ closest_root n
+    → ltb (0x100_0000_0000_0000 + r) d ≡ s → leb (d + r) 0x100_0000_0000_0000 ≡ t → r + from_bool s - from_bool t ≡ closest_root n
 moved n r d h e k true true p q =
     let a : 0x100_0000_0000_0000 + r < d = ltb-true _ _ p in
     let b : d + r ≤ 0x100_0000_0000_0000 = leb-true _ _ q in
     absurd (omega arith)
-moved n r d h e k true false p q = let z : r + 1 - 0 ≡ r + 1 = omega arith in z ∙ one_more n r d h e (ltb-true _ _ p) k.1
-moved n r d h e k false true p q = let z : r + 0 - 1 ≡ r - 1 = omega arith in z ∙ one_less n r d h e k.0 (leb-true _ _ q)
+moved n r d h e k true false p q = rw sub-zero (one_more n r d h e (ltb-true _ _ p) k.1)
+moved n r d h e k false true p q = rw add-zero (one_less n r d h e k.0 (leb-true _ _ q))
 moved n r d h e k false false p q =
     let a : d ≤ 0x100_0000_0000_0000 + r = ltb-false _ _ p in
     let b : 0x100_0000_0000_0000 < d + r = leb-false _ _ q in
-    let z : r + 0 - 0 ≡ r = omega arith in
-    z ∙ closest n r h (omega arith) (omega arith)
+    rw (add-zero, sub-zero) (closest n r h (omega arith) (omega arith))
 
-pub settled : (m r d : ℕ) → m < 2 ^ 54 → r < 2 ^ 53 → (d ≡ 0) ⊎ (r * r + d ≡ m * 2 ^ 52 + 2 ^ 56)
-    → ltb 0x100_0000_0000_0002 (d + 3 * r) && leb d (0x100_0000_0000_0002 + 3 * r) ≡ true
-    → r + cond (ltb (0x100_0000_0000_0000 + r) d) 1 0 - cond (leb (d + r) 0x100_0000_0000_0000) 1 0 ≡ closest_root (m * 2 ^ 52)
-settled m r d h k e t =
-    let b = near 0x100_0000_0000_0002 (d + 3 * r) d (0x100_0000_0000_0002 + 3 * r) t in
-    ⊎_elim (λ z. absurd (omega arith)) (λ q. moved (m * 2 ^ 52) r d (omega arith) q b _ _ refl refl) e
+pub settled : (m r d : ℕ) → m < 2 ^ 54 → r * r + d ≡ m * 2 ^ 52 + 2 ^ 56 → ltb 0x100_0000_0000_0002 (d + 3 * r) && leb d (0x100_0000_0000_0002 + 3 * r) ≡ true
+    → r + from_bool (ltb (0x100_0000_0000_0000 + r) d) - from_bool (leb (d + r) 0x100_0000_0000_0000) ≡ closest_root (m * 2 ^ 52)
+settled m r d h e t = moved (m * 2 ^ 52) r d (omega arith) e (near 0x100_0000_0000_0002 (d + 3 * r) d (0x100_0000_0000_0002 + 3 * r) t) _ _ refl refl

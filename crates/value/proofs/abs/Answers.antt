@@ -1,17 +1,15 @@
--- `value::abs` meets its contract.
-use Rattle.std.proofs.Common.{T, sym, subst}
-use lib.Ieee.{of_bits}
-use Rattle.value.specs.AbsoluteLaws.{abs_below, abs_zero, abs_above}
+-- `value::abs` meets its contract: the library's definition is the same.
+use Rattle.std.proofs.Common.{◌≡◌, false, refl, ◌∙◌}
+use Rattle.std.specs.Float.{float_with_sign}
+use lib.Ieee.{Float, nan, inf, fin}
+use Rattle.value.specs.Absolute.{abs_f}
 use Rattle.value.proofs.abs.Goals as goal
 
-pub returns-then-x : goal.returns-then-x
-unfolding of_bits
-returns-then-x c = abs_below c.args.x c.if-x.true
-
-pub returns-then-x-2 : goal.returns-then-x-2
-unfolding of_bits
-returns-then-x-2 c = abs_zero c.args.x (subst T (sym c.well_formed.0.1) tt) c.if-x-2.true
+same : (x : Float) → float_with_sign false x ≡ abs_f x
+unfolding float_with_sign abs_f
+same nan = refl
+same (inf s) = refl
+same (fin s m e) = refl
 
 pub returns : goal.returns
-unfolding of_bits
-returns c = abs_above c.args.x c.if-x.false c.if-x-2.false
+returns c = c.abs.ensures.value ∙ same c.args.x

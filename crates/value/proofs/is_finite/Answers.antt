@@ -1,16 +1,15 @@
--- `value::is_finite` meets its contract.
-use lib.Ieee.{nan_bits, of_bits, neg}
-use Rattle.value.specs.FiniteLaws.{high_tells, low_fails}
+-- `value::is_finite` meets its contract: the library's definition is the same.
+use Rattle.std.proofs.Common.{◌≡◌, refl, ◌∙◌}
+use Rattle.std.specs.Float.{float_is_finite}
+use lib.Ieee.{Float, nan, inf, fin}
+use Rattle.value.specs.Finite.{finite}
 use Rattle.value.proofs.is_finite.Goals as goal
 
-pub float_from_bits-high : goal.float_from_bits-high
-unfolding nan_bits
-float_from_bits-high c = tt
-
-pub returns-then-low-x : goal.returns-then-low-x
-unfolding of_bits neg
-returns-then-low-x c = high_tells c.args.x c.if-low-x.true
+same : (x : Float) → float_is_finite x ≡ finite x
+unfolding float_is_finite finite
+same nan = refl
+same (inf s) = refl
+same (fin s m e) = refl
 
 pub returns : goal.returns
-unfolding of_bits neg
-returns c = low_fails c.args.x c.if-low-x.false
+returns c = c.is_finite.ensures.value ∙ same c.args.x

@@ -6,6 +6,6 @@ pub returns-then-k-b : goal.returns-then-k-b
 unfolding farther
 returns-then-k-b c = rw c.if-k-b.true
 
-pub returns : goal.returns
+pub returns-else-k-b : goal.returns-else-k-b
 unfolding farther
-returns c = rw c.if-k-b.false
+returns-else-k-b c = rw c.if-k-b.false

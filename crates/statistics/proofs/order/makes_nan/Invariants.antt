@@ -1,11 +1,8 @@
 -- `statistics::order::makes_nan` meets its contract. The invariant: found is the answer so far.
-use Rattle.std.proofs.Common.{◌≡◌, ◌-◌, ◌≤◌, take}
+use Rattle.std.proofs.Common.{◌≡◌, take}
 use Rattle.statistics.specs.Medians.{any_nan}
 use Rattle.statistics.specs.Counting.{distances}
 use Rattle.statistics.proofs.order.makes_nan.Given as goal
 
-abbrev pub invariant-loop-i : goal.invariant-loop-i
-invariant-loop-i l = (l.i ≤ l.n) × (l.found ≡ any_nan (distances l.d (take l.i l.a)))
-
-abbrev pub decreases-loop-i : goal.decreases-loop-i
-decreases-loop-i l = l.n - l.i
+abbrev pub invariant-loop-x : goal.invariant-loop-x
+invariant-loop-x l = l.found ≡ any_nan (distances l.d (take l.x-index l.a))

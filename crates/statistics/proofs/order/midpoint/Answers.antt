@@ -1,13 +1,9 @@
 -- `statistics::order::midpoint` meets its contract. By the test on the sum.
-use Rattle.std.proofs.Common.{sym, ap, ◌∙◌, rules}
-use lib.Ieee.{Float, binary64, add, eq, nan_bits}
+use Rattle.std.proofs.Common.{sym, ap, ◌∙◌}
+use lib.Ieee.{Float, binary64, add, eq}
 use Rattle.value.specs.Numbers.{infinity_f}
 use Rattle.statistics.specs.MedianLaws.{infinite_is, midpoint_halves, midpoint_sum}
 use Rattle.statistics.proofs.order.midpoint.Goals as goal
-
-pub float_from_bits-t-5 : goal.float_from_bits-t-5
-unfolding nan_bits
-float_from_bits-t-5 c = search rules
 
 pub returns-then-abs : goal.returns-then-abs
 returns-then-abs c = midpoint_halves c.args.low c.args.high (infinite_is (add binary64 c.args.low c.args.high) ∙ ap (λ (v : Float). eq v infinity_f) (sym c.abs.ensures) ∙ c.if-abs.true)

@@ -6,6 +6,6 @@ pub returns-then-b-k : goal.returns-then-b-k
 unfolding nearer
 returns-then-b-k c = rw c.if-b-k.true
 
-pub returns : goal.returns
+pub returns-else-b-k : goal.returns-else-b-k
 unfolding nearer
-returns c = rw c.if-b-k.false
+returns-else-b-k c = rw c.if-b-k.false

@@ -1,5 +1,5 @@
 -- `statistics::sums::squares` meets its contract. The invariant: v is the sum so far.
-use Rattle.std.proofs.Common.{◌≡◌, sym, refl, arith, rules}
+use Rattle.std.proofs.Common.{sym, refl}
 use lib.Ieee.{nan, binary64, add}
 use Rattle.loops.specs.Fold.{fold}
 use Rattle.loops.specs.FoldLaws.{fold_map_again}
@@ -7,13 +7,9 @@ use Rattle.value.specs.Numbers.{zero_f}
 use Rattle.statistics.specs.Variances.{square}
 use Rattle.statistics.proofs.sums.squares.Goals as goal
 
-pub loop-i-init : goal.loop-i-init
+pub loop-x-init : goal.loop-x-init
 unfolding fold
-loop-i-init c = (search rules, refl)
+loop-x-init c = refl
 
-pub loop-i-preserved : goal.loop-i-preserved
-loop-i-preserved c = (omega arith, rw c.loop-i.invariant.1 (sym (fold_map_again (add binary64) zero_f square c.args.a.now nan c.loop-i.i (omega arith))))
-
-pub returns : goal.returns
-returns c =
-    let z : c.loop-i.i ≡ c.args.n = omega arith in rw z at c.loop-i.invariant.1
+pub loop-x-preserved : goal.loop-x-preserved
+loop-x-preserved c = rw c.loop-x.invariant (sym (fold_map_again (add binary64) zero_f square c.args.a.now nan _ c.loop-x-test.true))
