@@ -1,5 +1,5 @@
 -- Document 01's T1 to T12 hold: the law of Cases.antt.
-use Rattle.std.specs.Prelude.{◌≡◌, refl, Bool, true, false, List, ℕ, zero, suc, ◌<◌, take, Float}
+use Rattle.std.specs.Prelude.{◌≡◌, refl, Bool, true, false, List, ℕ, zero, suc, ◌<◌, take, Float, Some}
 use Rattle.std.proofs.Common.{sym, ap, ◌∙◌, arith}
 use Rattle.std.specs.Int.Count.{count_trailing_zeros}
 use Rattle.std.specs.Float.{binary64}
@@ -10,7 +10,6 @@ use Rattle.loops.specs.Places.{table}
 use Rattle.value.specs.Logarithm.{m_bits, k_biased, ln_sum, ln_bits, ln_positive, ln_f}
 use Rattle.value.specs.Maximum.{maximum_f}
 use Rattle.value.specs.Numbers.{zero_f, two_f}
-use Rattle.basis.specs.declared.OptionDegree.TheVariants.{Some}
 use Rattle.statistics.specs.Degrees.{root, root_up_to, max_degree}
 use Rattle.statistics.specs.Medians.{insert, sort, infinite, midpoint, any_nan, median_of}
 use Rattle.statistics.specs.Table.{table_entry, thousandths, z_thousandths}

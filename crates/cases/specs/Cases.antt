@@ -1,9 +1,8 @@
 -- Document 01's T1 to T12 together, their samples at weight 1, stated with the names that the public contracts cite. Definitions only.
-use Rattle.std.specs.Prelude.{◌≡◌, true, false, List, [], ◌∷◌, ℕ, take, Float}
+use Rattle.std.specs.Prelude.{◌≡◌, true, false, List, [], ◌∷◌, ℕ, take, Float, Some}
 use Rattle.std.specs.Float.{binary64}
 use Rattle.std.specs.Float.Ieee.{sub}
 use Rattle.value.specs.Numbers.{num, one_f, two_f}
-use Rattle.basis.specs.declared.OptionDegree.TheVariants.{Some}
 use Rattle.statistics.specs.declared.Confidence.TheVariants.{P95}
 use Rattle.statistics.specs.declared.DegreeBound.TheVariants.{Conservative, Relaxed, Custom}
 use Rattle.statistics.specs.Degrees.{max_degree}
@@ -17,7 +16,7 @@ use Rattle.choice.specs.Choice.{degree, least_of}
 use Rattle.basis.specs.declared.Basis.TheVariants.{Curve}
 use Rattle.fit.specs.Chosen.{counts_of, tried, choice_of}
 use Rattle.fit.specs.Solved.{is_solved, scored_by}
-use Rattle.samples.specs.Samples.{Sample}
+use Rattle.samples.specs.declared.Sample.{Sample}
 
 -- a sample at weight 1
 abbrev pub at : ℕ → ℕ → Sample

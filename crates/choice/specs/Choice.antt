@@ -1,14 +1,11 @@
 -- Document 01's choice among the degrees 0, 1, .. below b, where S d says of degree d whether it is solved, and its score. Definitions only.
-use Rattle.std.specs.Prelude.{Bool, false, cond, ◌&&◌, true, List, ℕ, ◌+◌, ◌<◌, get_or, Float, ◌≡◌}
-use Rattle.std.proofs.Math.Option.{Option, none, some}
+use Rattle.std.specs.Prelude.{Bool, false, cond, ◌&&◌, true, List, ℕ, ◌+◌, ◌<◌, get_or, Float, ◌≡◌, Option, Some, None}
 use Rattle.std.specs.Float.{nan, binary64}
 use Rattle.std.specs.Float.Ieee.{sub, lt, le}
 use Rattle.value.specs.Finite.{finite}
 use Rattle.loops.specs.Loop.{from, seek}
 use Rattle.choice.specs.declared.Scored.{Scored}
 use Rattle.basis.specs.declared.Degree.{Degree}
-use Rattle.basis.specs.declared.OptionDegree.{OptionDegree}
-use Rattle.basis.specs.declared.OptionDegree.TheVariants.{Some, None}
 use Rattle.value.specs.Numbers.{zero_f, two_f, infinity_f}
 
 -- the degree d
@@ -27,21 +24,21 @@ least_of S b = from (λ d a. yields (S d) a) 0 b infinity_f
 unfoldable pub near : Float → Scored → Bool
 near a s = s.solved && le (sub binary64 s.score a) two_f
 
-abbrev pub degree_of : Option ℕ → OptionDegree
-degree_of none = None
-degree_of (some d) = Some (degree d)
+abbrev pub degree_of : Option ℕ → Option Degree
+degree_of None = None
+degree_of (Some d) = Some (degree d)
 
 -- document 01's "chosen": the lowest solved degree with score − least at most 2
-unfoldable pub chosen_of : (ℕ → Scored) → ℕ → OptionDegree
+unfoldable pub chosen_of : (ℕ → Scored) → ℕ → Option Degree
 chosen_of S b = degree_of (seek (λ d. near (least_of S b) (S d)) 0 b)
 
 -- the score of the chosen degree; +0 stands where none is chosen
-unfoldable pub chosen_score : (ℕ → Float) → OptionDegree → Float
+unfoldable pub chosen_score : (ℕ → Float) → Option Degree → Float
 chosen_score score None = zero_f
 chosen_score score (Some d) = score d.0
 
 -- a degree, if one is chosen, is below b
-abbrev pub Below : ℕ → OptionDegree → Type 0
+abbrev pub Below : ℕ → Option Degree → Type 0
 Below b None = Unit {0}
 Below b (Some d) = d.0 < b
 

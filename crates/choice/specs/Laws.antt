@@ -1,7 +1,6 @@
 -- What the choice comes to, of any scores.
-use Rattle.std.specs.Prelude.{◌≡◌, refl, Bool, true, false, cond, not, ◌&&◌, ◌||◌, ◌⊎◌, ℕ, zero, suc, ◌-◌, ◌*◌, ◌≤◌, ◌<◌, T, ltb, Float}
+use Rattle.std.specs.Prelude.{◌≡◌, refl, Bool, true, false, cond, not, ◌&&◌, ◌||◌, ◌⊎◌, ℕ, zero, suc, ◌-◌, ◌*◌, ◌≤◌, ◌<◌, T, ltb, Float, Option, Some, None}
 use Rattle.std.proofs.Common.{sym, ap, ◌∙◌, inl, inr, mul-pos, arith, ltb-true, ltb-false, le-ltb, lit<}
-use Rattle.std.proofs.Math.Option.{Option, none, some}
 use Rattle.std.specs.Int.Count.{count_trailing_zeros}
 use Rattle.std.specs.Float.{nan, inf, fin, binary64}
 use Rattle.std.specs.Float.Ieee.{sub, add, neg, sum, round, lt, le, eq, of_bits, up, down, size, span, climb, odd, units}
@@ -13,8 +12,6 @@ use Rattle.loops.specs.LoopLaws.{last, done, seek_first, seek_none, seek_nowhere
 use Rattle.value.specs.Finite.{finite}
 use Rattle.choice.specs.declared.Scored.{Scored}
 use Rattle.basis.specs.declared.Degree.{Degree}
-use Rattle.basis.specs.declared.OptionDegree.{OptionDegree}
-use Rattle.basis.specs.declared.OptionDegree.TheVariants.{Some, None}
 use Rattle.value.specs.Numbers.{two_f, infinity_f}
 use Rattle.value.specs.Order.{lt_itself, lt_trans}
 use Rattle.choice.specs.Choice.{Attained, Chosen, degree, yields, least_of, near, degree_of, chosen_of, chosen_score, Below}
@@ -151,15 +148,15 @@ not_near : (a : Float) (s : Scored) → near a s ≡ false → s.solved ≡ true
 unfolding near
 not_near a s h q = rw q at h
 
-degree_some : (o : Option ℕ) (d : ℕ) → degree_of o ≡ Some (degree d) → o ≡ some d
-degree_some none d h = never (absurd (let z : ◌≡◌ {A = ℕ} 0 1 = cc in omega arith))
-degree_some (some e) d h =
+degree_some : (o : Option ℕ) (d : ℕ) → degree_of o ≡ Some (degree d) → o ≡ Some d
+degree_some None d h = never (absurd (let z : ◌≡◌ {A = ℕ} 0 1 = cc in omega arith))
+degree_some (Some e) d h =
     let z : degree e ≡ degree d = cc in
-    ap (λ (r : Degree). some r.0) z
+    ap (λ (r : Degree). Some r.0) z
 
-degree_none : (o : Option ℕ) → degree_of o ≡ None → o ≡ none
-degree_none none h = refl
-degree_none (some e) h = absurd (let z : ◌≡◌ {A = ℕ} 0 1 = cc in omega arith)
+degree_none : (o : Option ℕ) → degree_of o ≡ None → o ≡ None
+degree_none None h = refl
+degree_none (Some e) h = absurd (let z : ◌≡◌ {A = ℕ} 0 1 = cc in omega arith)
 
 -- a least that is not finite has no degree near it
 none_near : (S : ℕ → Scored) (b : ℕ) → finite (least_of S b) ≡ false → (d : ℕ) → d < b → near (least_of S b) (S d) ≡ false
@@ -222,7 +219,7 @@ chosen_is S b d w = go (chosen_of S b) refl
     same e v false q true k = absurd (apart e d (ltb-true e d k) v w)
     same e v false q false k = omega (arith, ltb-false d e q, ltb-false e d k)
 
-    go : (p : OptionDegree) → chosen_of S b ≡ p → chosen_of S b ≡ Some (degree d)
+    go : (p : Option Degree) → chosen_of S b ≡ p → chosen_of S b ≡ Some (degree d)
     go None q = absurd (chosen_only S b w.least_finite q)
     go (Some e) q = q ∙ ap (λ (j : ℕ). Some (degree j)) (same e.0 (chosen S b e.0 q) (ltb d e.0) refl (ltb e.0 d) refl)
 
@@ -233,27 +230,27 @@ none_such S b h d w = absurd (let q = chosen_is S b d w in let z : ◌≡◌ {A 
 pub none_such_only : (S : ℕ → Scored) (b : ℕ) → ((d : ℕ) → Chosen S b d → ⊥) → chosen_of S b ≡ None
 none_such_only S b h = go (chosen_of S b) refl
   where
-    go : (p : OptionDegree) → chosen_of S b ≡ p → chosen_of S b ≡ None
+    go : (p : Option Degree) → chosen_of S b ≡ p → chosen_of S b ≡ None
     go None q = q
     go (Some d) q = absurd (h d.0 (chosen S b d.0 q))
 
 -- ---- the chosen degree's place and score
 
-pub chosen_below : (S : ℕ → Scored) (b m : ℕ) (o : OptionDegree) → b ≤ m → o ≡ chosen_of S b → Below m o
+pub chosen_below : (S : ℕ → Scored) (b m : ℕ) (o : Option Degree) → b ≤ m → o ≡ chosen_of S b → Below m o
 chosen_below S b m None h e = tt
 chosen_below S b m (Some d) h e = omega (arith, (chosen S b d.0 (sym e)).within)
 
 -- where two ways to score agree below b, they agree of the chosen degree
-pub chosen_score_same : (S R : ℕ → Scored) (b : ℕ) → ((d : ℕ) → d < b → S d ≡ R d) → (o : OptionDegree) → o ≡ chosen_of S b
+pub chosen_score_same : (S R : ℕ → Scored) (b : ℕ) → ((d : ℕ) → d < b → S d ≡ R d) → (o : Option Degree) → o ≡ chosen_of S b
     → chosen_score (λ d. (S d).score) o ≡ chosen_score (λ d. (R d).score) o
 unfolding chosen_score
 chosen_score_same S R b same None e = refl
 chosen_score_same S R b same (Some d) e = ap (λ (s : Scored). s.score) (same d.0 (chosen S b d.0 (sym e)).within)
 
 -- where it is d
-pub below_some : (b : ℕ) (o : OptionDegree) (d : Degree) → o ≡ Some d → Below b o → d.0 < b
+pub below_some : (b : ℕ) (o : Option Degree) (d : Degree) → o ≡ Some d → Below b o → d.0 < b
 below_some b o d e h = rw e at h
 
-pub score_some : (score : ℕ → Float) (o : OptionDegree) (d : Degree) → o ≡ Some d → score d.0 ≡ chosen_score score o
+pub score_some : (score : ℕ → Float) (o : Option Degree) (d : Degree) → o ≡ Some d → score d.0 ≡ chosen_score score o
 unfolding chosen_score
 score_some score o d e = rw e

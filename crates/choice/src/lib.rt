@@ -6,7 +6,7 @@ ghost use Rattle.std.specs.Float.{nan};
 ghost use Rattle.basis.specs.Sizes.{max_terms};
 ghost use Rattle.choice.specs.Choice.{scored_at, yields, near, least_of, chosen_of, chosen_score, Below, flag_count};
 
-use basis::{Degree, OptionDegree, TERMS};
+use basis::{Degree, TERMS};
 
 // A degree's score, where it is solved.
 #[derive(Clone, Copy)]
@@ -51,25 +51,25 @@ pub fn least(solved: &[bool; TERMS], score: &[f64; TERMS], b: usize) -> f64
 }
 
 // The lowest solved degree with a score at most 2 above the least.
-pub fn lowest(solved: &[bool; TERMS], score: &[f64; TERMS], b: usize) -> OptionDegree
+pub fn lowest(solved: &[bool; TERMS], score: &[f64; TERMS], b: usize) -> Option<Degree>
     requires { b ≤ max_terms }
     ensures { result ≡ chosen_of (scored_at solved.now score.now) b }
 {
     let a = least(solved, score, b);
     for d in 0..b {
         if is_near(solved[d], score[d], a) {
-            return OptionDegree::Some(Degree(d));
+            return Some(Degree(d));
         }
     }
-    OptionDegree::None
+    None
 }
 
 // The score of the chosen degree, +0 where none is chosen.
-pub fn score_of(score: &[f64; TERMS], chosen: OptionDegree) -> f64
+pub fn score_of(score: &[f64; TERMS], chosen: Option<Degree>) -> f64
     requires { Below 16 chosen }
     ensures { result ≡ chosen_score (λ d. get_or score.now d nan) chosen }
 {
-    let OptionDegree::Some(degree) = chosen else {
+    let Some(degree) = chosen else {
         return 0.0;
     };
     let d = degree.0;

@@ -2,7 +2,7 @@
 // `prune_insignificant`.
 #![tactic(auto)]
 
-ghost use Rattle.std.specs.Prelude.{◌≡◌, ◌++◌, ◌≤◌, ◌<◌, length, get_or, take, drop};
+ghost use Rattle.std.specs.Prelude.{◌≡◌, ◌++◌, ◌≤◌, ◌<◌, length, get_or, drop};
 ghost use Rattle.std.specs.Float.{nan};
 ghost use Rattle.basis.specs.Sizes.{max_terms};
 ghost use Rattle.loops.specs.Places.{each, table};
@@ -104,19 +104,13 @@ fn allowed(tolerance: Tolerance, sd: f64, value: f64, variance: f64) -> Allowanc
     }
 }
 
-// The standard deviation of the first n y's, where the tolerance reads it.
-pub fn deviation_read(tolerance: Tolerance, ys: &[f64], n: usize) -> f64
-    requires { n ≤ length ys.now }
-    ensures { DoesFor tolerance result (stddev_and_mean (take n ys.now)).stddev }
+// The standard deviation of the y's, where the tolerance reads it.
+pub fn deviation_read(tolerance: Tolerance, ys: &[f64]) -> f64
+    ensures { DoesFor tolerance result (stddev_and_mean ys.now).stddev }
 {
     match tolerance {
-        Tolerance::None => 0.0,
-        Tolerance::Absolute(a) => 0.0,
-        Tolerance::Variance(p) => {
-            let s = statistics::stddev_and_mean(ys, n);
-            s.stddev
-        }
-        Tolerance::Measurement(p) => 0.0,
+        Tolerance::Variance(_) => statistics::stddev_and_mean(ys).stddev,
+        _ => 0.0,
     }
 }
 

@@ -1,4 +1,5 @@
 -- The choice from arrays that hold what is known of the degrees.
+use Rattle.std.specs.Prelude.{Option}
 use mathlib.Core.Path.{◌≡◌, sym, ap, ◌∙◌}
 use mathlib.Core.Bool.{Bool, false}
 use mathlib.Core.List.{List}
@@ -10,7 +11,7 @@ use Rattle.loops.specs.Fold.{fold}
 use Rattle.loops.specs.Places.{each, table}
 use Rattle.loops.specs.PlaceLaws.{table_at, length_table, map_table}
 use Rattle.value.specs.Numbers.{zero_f}
-use Rattle.basis.specs.declared.OptionDegree.{OptionDegree}
+use Rattle.basis.specs.declared.Degree.{Degree}
 use Rattle.basis.specs.Counts.{count_of}
 use Rattle.basis.specs.declared.Basis.{Basis}
 use Rattle.monomial.specs.Rows.{Row}
@@ -39,7 +40,7 @@ module _ (basis : Basis) (criterion : Criterion) (sums : List Float) (rows : Lis
 
   pub choice_is : (bound : ℕ) (u : List Bool) (v : List Float) → bound + 1 ≤ 16
       → u ≡ each (λ e _. (known e).solved) (bound + 1) (replicate 16 false) → v ≡ each (λ e _. (known e).score) (bound + 1) (replicate 16 zero_f)
-      → (p : OptionDegree) (w a : Float) (m t : ℕ) → p ≡ chosen_of (scored_at u v) (bound + 1) → w ≡ chosen_score (λ d. get_or v d nan) p
+      → (p : Option Degree) (w a : Float) (m t : ℕ) → p ≡ chosen_of (scored_at u v) (bound + 1) → w ≡ chosen_score (λ d. get_or v d nan) p
       → a ≡ least_of (scored_at u v) (bound + 1) → m ≡ flag_count u (bound + 1)
       → t ≡ fold ◌+◌ 0 (table (λ e. pivot_tests sums (count_of basis e)) (bound + 1))
       → record { chosen = p; score = w; least = a; solved = m; tests = t; flags = u; scores = v } ≡ choice_of criterion sums rows (counts_of basis bound)

@@ -1,7 +1,7 @@
 // Residuals, the attempt at a degree, and the choice of one.
 #![tactic(auto)]
 
-ghost use Rattle.std.specs.Prelude.{◌≡◌, ◌++◌, map, ◌+◌, ◌≤◌, length, take, drop};
+ghost use Rattle.std.specs.Prelude.{◌≡◌, ◌++◌, map, ◌+◌, ◌≤◌, length, drop};
 ghost use Rattle.basis.specs.Sizes.{highest_degree, max_terms, sum_places};
 ghost use Rattle.loops.specs.Fold.{all_of};
 ghost use Rattle.loops.specs.Within.{Within};
@@ -19,7 +19,7 @@ ghost use Rattle.fit.specs.Solved.{scored_by, pivot_tests};
 ghost use Rattle.fit.specs.Chosen.{counts_of, choice_of};
 ghost use Rattle.fit.specs.Promises.{Attempted};
 
-use basis::{Basis, CoefficientCount, Degree, OptionDegree, TERMS};
+use basis::{Basis, CoefficientCount, Degree, TERMS};
 use score::Criterion;
 
 // y less the fitted value at x and z.
@@ -113,13 +113,11 @@ pub fn attempt(
     judged(basis, xs, zs, ys, n, sums, k, s.held, c, scratch)
 }
 
-// The score of k coefficients, whose residuals are the first n numbers, or their sizes.
-pub fn score_on(criterion: Criterion, a: &[f64], n: usize, k: CoefficientCount) -> f64
-    requires { n ≤ length a.now }
-    ensures { result ≡ score_of criterion n k.0 (total_f (losses (take n a.now))) }
+// The score of k coefficients by their residuals or the sizes of these.
+pub fn score_on(criterion: Criterion, a: &[f64], k: CoefficientCount) -> f64
+    ensures { result ≡ score_of criterion (length a.now) k.0 (total_f (losses a.now)) }
 {
-    let total = statistics::total_loss(a, n);
-    score::score(criterion, n, k, total)
+    score::score(criterion, a.len(), k, statistics::total_loss(a))
 }
 
 // What is known of a coefficient count, and the pivots tested.
@@ -157,7 +155,7 @@ fn trial(
             tests: a.tests,
         };
     }
-    let score = score_on(criterion, &*scratch, n, k);
+    let score = score_on(criterion, &scratch[..n], k);
     Tried {
         solved: true,
         score,
@@ -169,7 +167,7 @@ fn trial(
 // each degree whether it is solved, and its score.
 #[derive(Clone, Copy)]
 pub struct Choice {
-    pub chosen: OptionDegree,
+    pub chosen: Option<Degree>,
     pub score: f64,
     pub least: f64,
     pub solved: usize,
@@ -197,14 +195,12 @@ pub fn choose(
     let b = bound.0 + 1;
     let most = bound.k(basis);
     let e = solve::eliminated(sums, most);
-    let m = e.m;
-    let g = e.b;
     let mut solved = [false; TERMS];
     let mut score = [0.0; TERMS];
     let mut tests = 0;
     for d in 0..b {
         let k = Degree(d).k(basis);
-        let s = solve::solution(e.held, &m, &g, k);
+        let s = e.solution(k);
         let c = s.c;
         let t = trial(
             basis,

@@ -1,5 +1,5 @@
 -- A fold's own part of the sizes in scratch, and its score.
-use Rattle.std.proofs.Common.{◌≡◌, ℕ, ◌-◌, ◌≤◌, List, map, length, take, drop, sym, ap, ◌∙◌, arith, length-drop, length-take, take_all}
+use Rattle.std.proofs.Common.{◌≡◌, ℕ, ◌-◌, ◌≤◌, List, map, length, take, drop, sym, ap, ◌∙◌, arith, length-drop, length-take}
 use lib.Ieee.{Float}
 use Rattle.loops.specs.PlaceLaws.{part_take, map_part}
 use Rattle.value.specs.Absolute.{abs_f}
@@ -14,22 +14,18 @@ use Rattle.fit.specs.Solved.{scored_by}
 use Rattle.fit.specs.Corner.{scored_corner}
 use Rattle.folds.specs.Folds.{start_of, end_of, own_of, others_of, fold_scored}
 
-pub length_own : (start end : ℕ) (rows : List Row) → end ≤ length rows → length (own_of start end rows) ≡ end - start
+-- as many sizes as rows
+pub length_own : (start end : ℕ) (rows : List Row) (s : List Float) → end ≤ length rows → end ≤ length s → length (own_of start end rows) ≡ length (take (end - start) (drop start s))
 unfolding own_of
-length_own start end rows h = simp (length-take, length-drop) (omega arith)
+length_own start end rows s h g = simp (length-take, length-drop) (omega arith)
 
--- scratch is lent from start on
+-- scratch is lent from start to end
 module _ (start end n : ℕ) (s : List Float) (h : start ≤ end) (g : end ≤ n) where
-  part_is : (l : List Float) → take n s ≡ l → take (end - start) (take (length s - start) (drop start s)) ≡ take (end - start) (drop start l)
-  part_is l e =
-      ap (λ r. take (end - start) r) (take_all (length s - start) (drop start s) (omega (arith, length-drop start s)))
-      ∙ sym (part_take start (end - start) n s (omega arith)) ∙ ap (λ r. take (end - start) (drop start r)) e
-
   pub own_sizes : (k : ℕ) (c : List Float) (rows : List Row) → take n s ≡ map abs_f (residuals k c rows)
-      → take (end - start) (take (length s - start) (drop start s)) ≡ map abs_f (residuals k c (own_of start end rows))
+      → take (end - start) (drop start s) ≡ map abs_f (residuals k c (own_of start end rows))
   unfolding residuals own_of
   own_sizes k c rows e =
-      part_is (map abs_f (residuals k c rows)) e
+      sym (part_take start (end - start) n s (omega arith)) ∙ ap (λ r. take (end - start) (drop start r)) e
       ∙ sym (ap (map abs_f) (map_part (residual k c) start (end - start) rows) ∙ map_part abs_f start (end - start) (map (residual k c) rows))
 
 -- what a fold says of k coefficients, from sums that are those over the others in the corner of m rows and columns

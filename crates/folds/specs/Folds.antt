@@ -1,13 +1,13 @@
 -- Document 01's validation: folds, their scores, and the choice by the mean over the solved folds. Definitions only.
-use Rattle.std.specs.Prelude.{ℕ, ◌+◌, ◌-◌, ◌*◌, ◌/◌, cond, List, [], ◌∷◌, ◌++◌, length, take, drop, ◌==◌, nat_lt, Float}
+use Rattle.std.specs.Prelude.{ℕ, ◌+◌, ◌-◌, ◌*◌, ◌/◌, cond, List, [], ◌∷◌, ◌++◌, length, take, drop, ◌==◌, nat_lt, Float, Option}
 use Rattle.std.specs.Float.{binary64}
 use Rattle.std.specs.Float.Ieee.{div}
 use Rattle.loops.specs.Places.{table}
 use Rattle.value.specs.Numbers.{zero_f, num}
 use Rattle.value.specs.Total.{total_f}
+use Rattle.basis.specs.declared.Degree.{Degree}
 use Rattle.basis.specs.Counts.{count_of}
 use Rattle.basis.specs.declared.Basis.TheVariants.{Curve}
-use Rattle.basis.specs.declared.OptionDegree.{OptionDegree}
 use Rattle.monomial.specs.Rows.{WeightedRow, rows_in}
 use Rattle.monomial.specs.Sums.{sums_of}
 use Rattle.score.specs.declared.Criterion.{Criterion}
@@ -64,5 +64,5 @@ unfoldable pub validated : Criterion → List WeightedRow → ℕ → ℕ → Sc
 validated criterion rows folds k = let l = solved_scores criterion rows folds k in mean_of (total_f l) (length l)
 
 -- the chosen degree among 0 to the bound, or none: the least and the choice are those of a report
-unfoldable pub validated_choice : Criterion → List WeightedRow → ℕ → ℕ → OptionDegree
+unfoldable pub validated_choice : Criterion → List WeightedRow → ℕ → ℕ → Option Degree
 validated_choice criterion rows folds bound = chosen_of (λ d. validated criterion rows folds (count_of Curve d)) (bound + 1)

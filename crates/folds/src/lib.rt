@@ -15,7 +15,7 @@ ghost use Rattle.fit.specs.Solved.{scored_by};
 ghost use Rattle.folds.specs.Folds.{start_of, end_of, own_of, degree_scored, mean_of, validated_choice};
 ghost use Rattle.folds.specs.Tallies.{plus as plus_f, more as more_f, Tallied};
 
-use basis::{Basis, CoefficientCount, Degree, OptionDegree, SUMS, TERMS};
+use basis::{Basis, CoefficientCount, Degree, SUMS, TERMS};
 use choice::Scored;
 use score::Criterion;
 
@@ -104,7 +104,7 @@ fn score_fold(
             score: 0.0,
         };
     }
-    let score = fit::score_on(criterion, &scratch[start..], end - start, k);
+    let score = fit::score_on(criterion, &scratch[start..end], k);
     Scored {
         solved: true,
         score,
@@ -191,7 +191,7 @@ fn mean(total: f64, m: usize) -> Scored
 }
 
 // The choice among the degrees below b by their means.
-fn choose_by_means(totals: &[f64; TERMS], counts: &[usize; TERMS], b: usize) -> OptionDegree
+fn choose_by_means(totals: &[f64; TERMS], counts: &[usize; TERMS], b: usize) -> Option<Degree>
     requires { b ≤ max_terms }
     ensures { result ≡ chosen_of (λ d. mean_of (slice_index_or totals.now d nan) (slice_index counts.now d)) b }
 {
@@ -215,7 +215,7 @@ pub fn choose_by_folds(
     bound: Degree,
     criterion: Criterion,
     scratch: &mut [f64],
-) -> OptionDegree
+) -> Option<Degree>
     requires { (n ≤ length xs.now) × (n ≤ length ys.now) × (n ≤ length scratch.old) × (bound.0 ≤ highest_degree) }
     ensures is { result ≡ validated_choice criterion (weighted_rows_at Curve n xs.now xs.now ys.now ws.now) folds bound.0 }
     ensures within { Within n scratch.old scratch.new }

@@ -1,22 +1,19 @@
 // Writing to lent memory from its first place on, and taking a place out.
 #![tactic(auto)]
 
-ghost use Rattle.std.specs.Prelude.{◌≡◌, ◌++◌, ◌≤◌, ◌<◌, length, take, drop, replicate};
-ghost use Rattle.basis.specs.Sizes.{max_terms};
+ghost use Rattle.std.specs.Prelude.{◌≡◌, ◌++◌, ◌≤◌, ◌<◌, length, drop, replicate};
 ghost use Rattle.lent.specs.Gaps.{without_at};
 ghost use Rattle.lent.specs.Slices.{before, after};
-ghost use Rattle.lent.specs.Written.{zeros};
-
-use basis::TERMS;
+ghost use Rattle.lent.specs.Written.{zeros, over};
 
 // The first n places become v.
-pub fn fill(s: &mut [f64], n: usize, v: f64)
-    requires { n ≤ length s.old }
+pub fn fill<T: Copy>(s: &mut [T], n: usize, v: T)
+    requires infallible { T.is_infallible v }
+    requires same { (y : T) → T.is_clone v y → y ≡ v }
+    requires within { n ≤ length s.old }
     ensures { s.new ≡ replicate n v ++ drop n s.old }
 {
-    for i in 0..n {
-        s[i] = v;
-    }
+    s[..n].fill(v);
 }
 
 // The first n places become +0.
@@ -27,22 +24,13 @@ pub fn clear(s: &mut [f64], n: usize)
     fill(s, n, 0.0);
 }
 
-// The first m places become the first m values.
-pub fn put_first(values: [f64; TERMS], m: usize, out: &mut [f64])
-    requires { (m ≤ max_terms) × (m ≤ length out.old) }
-    ensures { out.new ≡ take m values ++ drop m out.old }
+// The first places become the values.
+pub fn put_first(values: &[f64], out: &mut [f64])
+    requires { length values.now ≤ length out.old }
+    ensures { out.new ≡ over values.now out.old }
 {
-    for i in 0..m {
-        out[i] = values[i];
-    }
-}
-
-// The first 16 places become the values.
-pub fn put_terms(values: [f64; TERMS], out: &mut [f64])
-    requires { max_terms ≤ length out.old }
-    ensures { out.new ≡ values ++ drop max_terms out.old }
-{
-    put_first(values, TERMS, out);
+    let n = values.len();
+    out[..n].copy_from_slice(values);
 }
 
 // Place i goes, and those after it and below n move down one.
@@ -50,8 +38,5 @@ pub fn close_gap(i: usize, n: usize, column: &mut [f64])
     requires { (i < n) × (n ≤ length column.old) }
     ensures { after column ≡ without_at i n (before column) }
 {
-    let last = n - 1;
-    for j in i..last {
-        column[j] = column[j + 1];
-    }
+    column.copy_within(i + 1..n, i);
 }

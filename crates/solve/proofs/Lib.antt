@@ -1,2 +1,3 @@
 -- Lemmas for the proofs.
+pub mod Fronts
 pub mod Steps

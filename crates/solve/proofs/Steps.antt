@@ -1,29 +1,24 @@
 -- The definitions of the solution and of the inverse, opened at what an elimination left.
-use mathlib.Core.Path.{◌≡◌, ap, ◌∙◌}
-use mathlib.Core.List.{List}
-use Prim.Native.Nat.{ℕ, ◌≤◌}
-use lib.Dec.{leb}
-use lib.ListN.{length}
-use lib.Seq.{length-take-le}
-use lib.Ieee.{Float}
-use Rattle.loops.specs.Loop.{Stopped}
-use Rattle.solve.specs.Solve.{System, eliminate, back, matrix_of, right_of, solved, solve, ridge, unit, unit_column, column_holds, put_column, inverse_column, inverse_columns, inverse}
-use Rattle.solve.specs.Corner.{first_rows}
-use Rattle.solve.specs.CornerLaws.{solve_first_rows}
-use Rattle.solve.specs.Laws.{length_ridge}
+use Rattle.std.proofs.Common.{◌≡◌, ap, ◌∙◌, List, ◌++◌, ℕ, ◌+◌, ◌-◌, ◌≤◌, ◌<◌, leb, take, drop, replicate, append-nil, arith}
+use Rattle.std.specs.Float.{Float}
+use Rattle.loops.specs.Loop.{from, Stopped}
+use Rattle.loops.specs.LoopLaws.{again}
+use Rattle.value.specs.Numbers.{zero_f}
+use Rattle.solve.specs.Solve.{System, eliminate, back_row, back, ridge, unit, unit_column, column_holds, put_column, inverse_column, inverse_columns, inverse}
 
-pub solve_is : (sums : List Float) (k : ℕ) → k ≤ 16 → 256 ≤ length sums → (a b : List Float) (t : Stopped System) → a ≡ first_rows sums k → b ≡ right_of sums k
-    → t ≡ eliminate sums k (record { m = a; b = b }) → solve sums k ≡ solved k t
-solve_is sums k h l a b t p q r = rw (r, p, q) (solve_first_rows sums k h l)
+-- back substitution takes row r - 1 next
+pub back_again : (k r : ℕ) (m b : List Float) → 0 < r → r ≤ k
+    → from (λ i. back_row k m (k - 1 - i)) (k - (r - 1)) k (back_row k m (r - 1) b) ≡ from (λ i. back_row k m (k - 1 - i)) (k - r) k b
+back_again k r m b h l =
+    let next : k - (r - 1) ≡ k - r + 1 = omega arith in
+    let row : r - 1 ≡ k - 1 - (k - r) = omega arith in
+    rw next (ap (λ q. from (λ i. back_row k m (k - 1 - i)) (k - r + 1) k (back_row k m q b)) row ∙ again (λ i. back_row k m (k - 1 - i)) (k - r) k b (omega arith))
 
-pub inverse_is : (sums : List Float) (k : ℕ) (m : List Float) (t : Stopped (List Float)) → m ≡ ridge k (matrix_of sums) → t ≡ inverse_columns k m
-    → record { columns = t.at; v = t.state } ≡ inverse sums k
+-- a is the matrix of the sums as the code copies it, and m the same with 2⁻⁵² added
+pub inverse_is : (sums : List Float) (k : ℕ) (a m : List Float) (t : Stopped (List Float)) → a ≡ take 256 sums ++ drop 256 (replicate 256 zero_f) → m ≡ ridge k a
+    → t ≡ inverse_columns k m → record { columns = t.at; v = t.state } ≡ inverse sums k
 unfolding inverse
-inverse_is sums k m t p q = rw (q, p)
-
--- the corner with 2⁻⁵² added has 256 places
-pub length_ridged : (sums : List Float) (k : ℕ) (a m : List Float) → 256 ≤ length sums → a ≡ matrix_of sums → m ≡ ridge k a → length m ≡ 256
-length_ridged sums k a m h p q = ap length q ∙ length_ridge k a ∙ ap length p ∙ length-take-le 256 sums h
+inverse_is sums k a m t o p q = rw (q, p, o ∙ append-nil (take 256 sums))
 
 module _ (k : ℕ) (m : List Float) (j : ℕ) (v : List Float) (t : Stopped System) (e : t ≡ eliminate m k (record { m = m; b = unit j })) where
   pub column_is : put_column k j (back k t.state.m t.state.b) v ≡ inverse_column k m j v

@@ -2,11 +2,11 @@
 // They stand in for polyfit's SVD in `solve_matrix` and for its inverse.
 #![tactic(auto)]
 
-ghost use Rattle.std.specs.Prelude.{◌≡◌, ◌≤◌, ◌<◌, length};
+ghost use Rattle.std.specs.Prelude.{◌≡◌, ◌++◌, ◌≤◌, ◌<◌, length, take, drop, replicate};
 ghost use Rattle.basis.specs.Sizes.{matrix_places, max_terms, sum_places};
-ghost use Rattle.solve.specs.Solve.{eliminate as eliminate_f, back, matrix_of, right_of, solve as solve_f, ridge as ridge_f, put_column, inverse as inverse_f};
-ghost use Rattle.solve.specs.Corner.{first_rows};
-ghost use Rattle.solve.specs.Nested.{stopped, elimination, front as front_f, solution_of};
+ghost use Rattle.value.specs.Numbers.{zero_f};
+ghost use Rattle.solve.specs.Solve.{eliminate as eliminate_f, back, solve as solve_f, ridge as ridge_f, put_column, inverse as inverse_f};
+ghost use Rattle.solve.specs.Nested.{stopped, elimination, solution_of};
 
 use basis::{CoefficientCount, MATRIX, TERMS};
 
@@ -28,6 +28,7 @@ pub fn eliminate(
     ensures { record { at = result; state = record { m = m.new; b = b.new } } ≡ eliminate_f start.now k.0 (record { m = m.old; b = b.old }) }
 {
     let n = k.0;
+    // Document 01 asks for loops with labels here, left at the first failing pivot; p is then how many held.
     let mut p = 0;
     'pivots: while p < n {
         let pp = 16 * p + p;
@@ -38,10 +39,9 @@ pub fn eliminate(
         'rows: for r in p + 1..n {
             let f = m[16 * r + p] / m[pp];
             'columns: for c in p + 1..n {
-                let at = 16 * r + c;
-                m[at] = m[at] - f * m[16 * p + c];
+                m[16 * r + c] -= f * m[16 * p + c];
             }
-            b[r] = b[r] - f * b[p];
+            b[r] -= f * b[p];
         }
         p += 1;
     }
@@ -54,52 +54,23 @@ pub fn back_substitution(k: CoefficientCount, m: &[f64; MATRIX], b: &mut [f64; T
     ensures { b.new ≡ back k.0 m.now b.old }
 {
     let n = k.0;
-    for i in 0..n {
-        let r = n - 1 - i;
+    for r in (0..n).rev() {
         let mut v = b[r];
         for c in r + 1..n {
-            v = v - m[16 * r + c] * b[c];
+            v -= m[16 * r + c] * b[c];
         }
         b[r] = v / m[16 * r + r];
     }
 }
 
-// The 256 places of A.
-fn matrix_of(sums: &[f64]) -> [f64; MATRIX]
-    requires { matrix_places ≤ length sums.now }
-    ensures { result ≡ matrix_of sums.now }
+// The first n places of s, then +0.
+fn front<const N: usize>(s: &[f64], n: usize) -> [f64; N]
+    requires { (n ≤ length s.now) × (n ≤ N) }
+    ensures { result ≡ take n s.now ++ drop n (replicate N zero_f) }
 {
-    let mut a = [0.0; MATRIX];
-    for i in 0..MATRIX {
-        a[i] = sums[i];
-    }
+    let mut a = [0.0; N];
+    a[..n].copy_from_slice(&s[..n]);
     a
-}
-
-// The first k rows of A, then +0, which no step for k coefficients reads.
-fn first_rows(sums: &[f64], k: CoefficientCount) -> [f64; MATRIX]
-    requires { (matrix_places ≤ length sums.now) × (k.0 ≤ max_terms) }
-    ensures { result ≡ first_rows sums.now k.0 }
-{
-    let n = 16 * k.0;
-    let mut a = [0.0; MATRIX];
-    for i in 0..n {
-        a[i] = sums[i];
-    }
-    a
-}
-
-// The first k places of g, then +0.
-fn right_of(sums: &[f64], k: CoefficientCount) -> [f64; TERMS]
-    requires { (sum_places ≤ length sums.now) × (k.0 ≤ max_terms) }
-    ensures { result ≡ right_of sums.now k.0 }
-{
-    let n = k.0;
-    let mut b = [0.0; TERMS];
-    for i in 0..n {
-        b[i] = sums[MATRIX + i];
-    }
-    b
 }
 
 // How many pivots held, and the k coefficients if all did; +0 in every other place.
@@ -114,17 +85,7 @@ pub fn solve(sums: &[f64], k: CoefficientCount) -> Solved
     requires { (sum_places ≤ length sums.now) × (k.0 ≤ max_terms) }
     ensures { result ≡ solve_f sums.now k.0 }
 {
-    let mut m = first_rows(sums, k);
-    let mut b = right_of(sums, k);
-    let held = eliminate(sums, k, &mut m, &mut b);
-    if held < k.0 {
-        return Solved {
-            held,
-            c: [0.0; TERMS],
-        };
-    }
-    back_substitution(k, &m, &mut b);
-    Solved { held, c: b }
+    eliminated(sums, k).solution(k)
 }
 
 // An elimination: how many pivots held, and M and b then.
@@ -140,39 +101,30 @@ pub fn eliminated(sums: &[f64], k: CoefficientCount) -> Elimination
     requires { (sum_places ≤ length sums.now) × (k.0 ≤ max_terms) }
     ensures { stopped result.held result.m result.b ≡ elimination sums.now k.0 }
 {
-    let mut m = first_rows(sums, k);
-    let mut b = right_of(sums, k);
+    let n = k.0;
+    // No step for k coefficients reads past the first k rows.
+    let mut m = front(sums, 16 * n);
+    let mut b = front(&sums[MATRIX..], n);
     let held = eliminate(sums, k, &mut m, &mut b);
     Elimination { held, m, b }
 }
 
-// The first k places of b, then +0.
-fn front(k: CoefficientCount, b: &[f64; TERMS]) -> [f64; TERMS]
-    requires { k.0 ≤ max_terms }
-    ensures { result ≡ front_f k.0 b.now }
-{
-    let n = k.0;
-    let mut c = [0.0; TERMS];
-    for i in 0..n {
-        c[i] = b[i];
+impl Elimination {
+    // The k coefficients, from an elimination of at least as many.
+    pub fn solution(&self, k: CoefficientCount) -> Solved
+        requires { k.0 ≤ max_terms }
+        ensures { result ≡ solution_of k.0 (stopped self.now.held self.now.m self.now.b) }
+    {
+        if self.held < k.0 {
+            return Solved {
+                held: self.held,
+                c: [0.0; TERMS],
+            };
+        }
+        let mut c = front(&self.b, k.0);
+        back_substitution(k, &self.m, &mut c);
+        Solved { held: k.0, c }
     }
-    c
-}
-
-// The k coefficients, from an elimination of at least as many.
-pub fn solution(held: usize, m: &[f64; MATRIX], b: &[f64; TERMS], k: CoefficientCount) -> Solved
-    requires { k.0 ≤ max_terms }
-    ensures { result ≡ solution_of k.0 (stopped held m.now b.now) }
-{
-    if held < k.0 {
-        return Solved {
-            held,
-            c: [0.0; TERMS],
-        };
-    }
-    let mut c = front(k, b);
-    back_substitution(k, m, &mut c);
-    Solved { held: k.0, c }
 }
 
 // Adds 2⁻⁵² to each diagonal place of the corner.
@@ -180,10 +132,8 @@ fn ridge(k: CoefficientCount, m: &mut [f64; MATRIX])
     requires { k.0 ≤ max_terms }
     ensures { m.new ≡ ridge_f k.0 m.old }
 {
-    let n = k.0;
-    for i in 0..n {
-        let at = 16 * i + i;
-        m[at] = m[at] + EPSILON;
+    for i in 0..k.0 {
+        m[16 * i + i] += EPSILON;
     }
 }
 
@@ -192,8 +142,7 @@ fn put_column(k: CoefficientCount, j: usize, b: &[f64; TERMS], v: &mut [f64; MAT
     requires { (k.0 ≤ max_terms) × (j < max_terms) }
     ensures { v.new ≡ put_column k.0 j b.now v.old }
 {
-    let n = k.0;
-    for i in 0..n {
+    for i in 0..k.0 {
         v[16 * i + j] = b[i];
     }
 }
@@ -211,22 +160,18 @@ pub fn inverse(sums: &[f64], k: CoefficientCount) -> Inverted
     ensures { result ≡ inverse_f sums.now k.0 }
 {
     let n = k.0;
-    let a = matrix_of(sums);
-    let mut l = a;
+    let mut l = front(sums, MATRIX);
     ridge(k, &mut l);
-    let start = l;
     let mut v = [0.0; MATRIX];
-    let mut j = 0;
-    'columns: while j < n {
+    for j in 0..n {
         let mut m = l;
         let mut b = [0.0; TERMS];
         b[j] = 1.0;
-        if eliminate(&start, k, &mut m, &mut b) < n {
-            break 'columns;
+        if eliminate(&l, k, &mut m, &mut b) < n {
+            return Inverted { columns: j, v };
         }
         back_substitution(k, &m, &mut b);
         put_column(k, j, &b, &mut v);
-        j += 1;
     }
-    Inverted { columns: j, v }
+    Inverted { columns: n, v }
 }

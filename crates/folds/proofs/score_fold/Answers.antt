@@ -1,5 +1,5 @@
 -- `folds::score_fold` meets its contract.
-use Rattle.std.proofs.Common.{◌≡◌, ℕ, ◌-◌, true, sym, ap, ◌∙◌, arith, rules}
+use Rattle.std.proofs.Common.{◌≡◌, ℕ, true, sym, ap, ◌∙◌, arith, rules}
 use borrow.Author.Tests.{not-true, not-false}
 use Rattle.basis.specs.CountLaws.{curve_count}
 use Rattle.basis.specs.declared.Basis.TheVariants.{Curve}
@@ -24,4 +24,4 @@ returns c =
     let rows = rows_at Curve c.args.n c.args.xs.now c.args.xs.now c.args.ys.now in
     let yes : c.attempt-a.result.solved ≡ true = not-false _ c.if-not-a.false in
     let sized = length_rows_at Curve c.args.xs.now c.args.xs.now c.args.ys.now c.args.n in
-    let e = ap (λ (m : ℕ). scored_by c.args.criterion c.args.sums.now rows (own_of c.args.start c.args.end rows) m) c.k-k.ensures in record { scored = scored_is c.args.criterion c.args.sums.now rows (own_of c.args.start c.args.end rows) c.k-k.result.0 (sym c.attempt-a.ensures.is_solved_lem ∙ yes) (c.args.end - c.args.start) _ _ (length_own c.args.start c.args.end rows (omega (arith, sized, c.requires))) (own_sizes c.args.start c.args.end c.args.n _ c.requires.3 c.requires.4 c.k-k.result.0 (solve c.args.sums.now c.k-k.result.0).c rows (c.attempt-a.ensures.sizes yes)) c.score_on-score.ensures ∙ e; within = c.attempt-a.ensures.within }
+    let e = ap (λ (m : ℕ). scored_by c.args.criterion c.args.sums.now rows (own_of c.args.start c.args.end rows) m) c.k-k.ensures in record { scored = scored_is c.args.criterion c.args.sums.now rows (own_of c.args.start c.args.end rows) c.k-k.result.0 (sym c.attempt-a.ensures.is_solved_lem ∙ yes) _ _ _ (length_own c.args.start c.args.end rows c.attempt-a.new.scratch (omega (arith, sized, c.requires)) (omega (arith, c.requires))) (own_sizes c.args.start c.args.end c.args.n _ c.requires.3 c.requires.4 c.k-k.result.0 (solve c.args.sums.now c.k-k.result.0).c rows (c.attempt-a.ensures.sizes yes)) c.score_on-score.ensures ∙ e; within = c.attempt-a.ensures.within }

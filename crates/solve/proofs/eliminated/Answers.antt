@@ -1,9 +1,12 @@
 -- `solve::eliminated` meets its contract.
-use mathlib.Core.Path.{◌∙◌, ap₂}
-use mathlib.Core.List.{List}
-use lib.Ieee.{Float}
+use Rattle.std.proofs.Common.{List, ◌∙◌, ap₂, arith, rules}
+use Rattle.std.specs.Float.Ieee.{Float}
 use Rattle.solve.specs.Solve.{eliminate}
+use Rattle.solve.proofs.Fronts.{rows_are, right_is}
 use Rattle.solve.proofs.eliminated.Goals as goal
 
 pub returns : goal.returns
-returns c = c.eliminate-held.ensures ∙ ap₂ (λ (m b : List Float). eliminate c.args.sums.now c.args.k.0 (record { m = m; b = b })) c.first_rows-m.ensures c.right_of-b.ensures
+returns c = c.eliminate-held.ensures
+    ∙ ap₂ (λ (m b : List Float). eliminate c.args.sums.now c.args.k.0 (record { m = m; b = b }))
+    (c.front-m.ensures ∙ rows_are c.args.sums.now c.args.k.0 (search rules) (omega arith))
+    (c.front-b.ensures ∙ right_is c.args.sums.now c.args.k.0 (search rules) (search rules))
