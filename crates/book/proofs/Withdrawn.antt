@@ -10,7 +10,7 @@ use lib.ListN.{length, set, drop, length-append}
 use lib.Ieee.{Float}
 use Rattle.loops.specs.Cases.{either}
 use Rattle.basis.specs.declared.Basis.TheVariants.{Curve}
-use Rattle.samples.specs.Samples.{Sample}
+use Rattle.samples.specs.declared.Sample.{Sample}
 use Rattle.monomial.specs.Rows.{weighted_of, weighted_rows, weighted_rows_at}
 use Rattle.monomial.specs.RowLaws.{curve_weighted}
 use Rattle.monomial.specs.Sums.{add_row, sums_of}

@@ -1,13 +1,13 @@
 -- Document 02's window book: an add to a full book first withdraws sample 0, by 01's withdrawal and add. Definitions only.
 use Rattle.std.specs.Prelude.{cond, not, List, [], ◌∷◌, ℕ, eqb, length, Float}
-use Rattle.samples.specs.Samples.{Sample}
-use Rattle.refusal.specs.Refusals.{Refusal, by, first_of, settle}
+use Rattle.samples.specs.declared.Sample.{Sample}
+use Rattle.refusal.specs.Refusals.{Test, by, first_of, settle}
 use Rattle.refusal.specs.Tests.{capacity, book_short, sample_finite, weight_above}
 use Rattle.samples.specs.Columns.{Columns, lengths}
 use Rattle.book.specs.Calls.{Out, State, state_after, refused, withdraw_out, add_next, book_answered}
 
 -- 5's condition for single adds there is that capacity is zero
-abbrev pub window_tests : ℕ → Sample → List ℕ → ℕ → List Refusal
+abbrev pub window_tests : ℕ → Sample → List ℕ → ℕ → List Test
 window_tests n p columns sums = by (book_short n columns sums) 1 ∷ by (not (sample_finite p)) 4 ∷ by (not (weight_above p)) 15 ∷ by (eqb (capacity columns) 0) 5 ∷ []
 
 unfoldable pub window_refusal : ℕ → Sample → List ℕ → ℕ → ℕ

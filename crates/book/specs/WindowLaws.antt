@@ -5,7 +5,7 @@ use mathlib.Core.List.{List, [], ◌∷◌, Memᴰ}
 use Prim.Native.Nat.{ℕ, zero, suc, ◌<◌}
 use native.Mathlib.Omega.{arith}
 use borrow.Author.Tests.{eqb-false, not-false}
-use Rattle.samples.specs.Samples.{Sample}
+use Rattle.samples.specs.declared.Sample.{Sample}
 use Rattle.samples.specs.Columns.{Columns, lengths}
 use Rattle.refusal.specs.Refusals.{numbers_of, InOrder, those, is_among}
 use Rattle.refusal.specs.Tests.{capacity, sample_finite, weight_above}
@@ -13,7 +13,9 @@ use Rattle.refusal.specs.Laws.{numbered, first_none}
 use Rattle.refusal.specs.Rooms.{Room}
 use Rattle.refusal.specs.RoomLaws.{room}
 use Rattle.book.specs.Refusals.{sums_lent}
-use Rattle.book.specs.Calls.{state_of, number_of, add_next}
+use Rattle.book.specs.Calls.{state_of, add_next}
+use Rattle.refusal.specs.Named.{number_of}
+use Rattle.refusal.specs.NamedLaws.{number_judged}
 use Rattle.book.specs.CallLaws.{answer_number}
 use Rattle.book.specs.Window.{window_tests, window_refusal, with_place, window_out}
 
@@ -42,4 +44,4 @@ module _ (n : ℕ) (p : Sample) (columns : List ℕ) (sums : ℕ) where
 
 pub window_number : (n : ℕ) (p : Sample) (columns : Columns) (sums : List Float) → number_of (window_out n p columns sums).answer ≡ window_refusal n p (lengths columns) (length sums)
 unfolding window_out
-window_number n p columns sums = answer_number (window_refusal n p (lengths columns) (length sums)) (add_next (with_place (state_of n columns sums)) p) columns sums
+window_number n p columns sums = answer_number (window_refusal n p (lengths columns) (length sums)) (add_next (with_place (state_of n columns sums)) p) columns sums (number_judged _ refl (window_numbers n p (lengths columns) (length sums)))

@@ -1,7 +1,7 @@
 -- E6's theorem. The two-column book holds a ledger of pairs, and after the carry the same ledger at weight 1; so does the book with weights from the start;
 -- and two books that hold one ledger answer alike.
 use mathlib.Core.Path.{◌≡◌, refl, sym, ap, subst, ◌∙◌}
-use mathlib.Core.Option.{none, some}
+use Rattle.std.specs.Prelude.{None, Some}
 use mathlib.Core.List.{List, [], ◌∷◌, map}
 use Prim.Native.Nat.{ℕ, zero, suc, ◌≤◌}
 use native.Mathlib.Omega.{arith}
@@ -12,13 +12,13 @@ use Rattle.runs.specs.Runs.{sifted}
 use Rattle.runs.specs.RunLaws.{sifts, no_call}
 use Rattle.value.specs.Numbers.{one_f}
 use Rattle.samples.specs.Columns.{Column, of_x, of_y, of_w, value, columns_of, lengths}
-use Rattle.samples.specs.Samples.{Sample}
+use Rattle.samples.specs.declared.Sample.{Sample}
 use Rattle.samples.specs.Columns as three
 use Rattle.samples.specs.ColumnLaws.{of_every}
 use Rattle.refusal.specs.Refusals.{settle}
+use Rattle.refusal.specs.Named.{refused_by}
 use Rattle.refusal.specs.Tests.{capacity}
 use Rattle.refusal.specs.RoomLaws.{room_of}
-use Rattle.book.specs.declared.Answer.TheVariants as answers
 use Rattle.book.specs.Refusals.{open_refusal, sums_lent}
 use Rattle.book.specs.RefusalLaws.{open_room}
 use Rattle.book.specs.Calls.{Out, State, state_after, book_of}
@@ -28,7 +28,8 @@ use Rattle.ledger.specs.ReadCalls.{ReadCall, read_on}
 use Rattle.ledger.proofs.Lists.{sums_first}
 use Rattle.ledger.proofs.Steps.{Holds, step}
 use Rattle.ledger.proofs.Whole.{whole_from, opened_holds, opened_is}
-use Rattle.two_column.specs.Pairs.{Pair, at_weight_one}
+use Rattle.two_column.specs.declared.Pair.{Pair}
+use Rattle.two_column.specs.Pairs.{at_weight_one}
 use Rattle.two_column.specs.Calls as calls
 use Rattle.two_column.specs.RefusalLaws.{capacity_longer, capacity_two, frame_room}
 use Rattle.two_column.specs.Ledger.{Change, adds, corrects, withdraws, frames, answer, ledger_next, refusal_of, changed}
@@ -77,7 +78,7 @@ module _ (xs ys ws sums : ℕ) (same : capacity (xs ∷ ys ∷ ws ∷ []) ≡ ca
     number : ℕ
     number = refusal_of (two xs ys sums rest) (length b.ledger) c
 
-    answered : answer s c ≡ settle number (book_of (length (changed b.ledger c))) (answers.Refused number)
+    answered : answer s c ≡ settle number (book_of (length (changed b.ledger c))) (refused_by number)
     unfolding number
     answered = (step_pairs xs ys sums rest s b.ledger c b.plain).same
 
@@ -102,7 +103,7 @@ module _ (xs ys ws sums : ℕ) (same : capacity (xs ∷ ys ∷ ws ∷ []) ≡ ca
         }
 
   -- a call that is refused goes on to nothing
-  skips : (s : calls.State) (t : State) (c : Change) → Both s t → goes_on (answer s c) c ≡ none → Both (pairs.next s c) t
+  skips : (s : calls.State) (t : State) (c : Change) → Both s t → goes_on (answer s c) c ≡ None → Both (pairs.next s c) t
   skips s t c b e = go (number s t c b) refl
     where
       go : (k : ℕ) → number s t c b ≡ k → Both (pairs.next s c) t
@@ -110,13 +111,13 @@ module _ (xs ys ws sums : ℕ) (same : capacity (xs ∷ ys ∷ ws ∷ []) ≡ ca
       go (suc k) z = stays s t c b k z
 
   -- one that is not goes on to itself at weight 1
-  meets : (s : calls.State) (t : State) (c : Change) (d : Call ReadCall) → Both s t → goes_on (answer s c) c ≡ some d
+  meets : (s : calls.State) (t : State) (c : Change) (d : Call ReadCall) → Both s t → goes_on (answer s c) c ≡ Some d
       → Unit {0} × Both (pairs.next s c) (next t d)
   meets s t c d b e = go (number s t c b) refl
     where
       go : (k : ℕ) → number s t c b ≡ k → Unit {0} × Both (pairs.next s c) (next t d)
       go zero z =
-          let q : some (changes (at_one c)) ≡ some d = sym (ap (λ a. goes_on a c) (rw z at (answered s t c b))) ∙ e in
+          let q : Some (changes (at_one c)) ≡ Some d = sym (ap (λ a. goes_on a c) (rw z at (answered s t c b))) ∙ e in
           let p : changes (at_one c) ≡ d = cc in
           (tt, subst (λ (x : Call ReadCall). Both (pairs.next s c) (next t x)) p (moves s t c b z))
       go (suc k) z = absurd (no_call d (sym e ∙ ap (λ a. goes_on a c) (rw z at (answered s t c b))))

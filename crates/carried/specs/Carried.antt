@@ -1,14 +1,11 @@
 -- Document 02's E6, the claim: a book that was carried over answers, from there, as if every earlier call not refused had gone, at weight 1, to a book with
 -- weights. The theorem, `carried_over`, is proved in proofs/Over.antt. Definitions only.
-use Rattle.std.specs.Prelude.{◌≡◌, List, ◌≤◌, length, take, Float}
-use Rattle.std.proofs.Math.Option.{Option, none, some}
+use Rattle.std.specs.Prelude.{◌≡◌, List, ◌≤◌, length, take, Float, Option, None, Some, Ok, Err}
 use Rattle.basis.specs.Sizes.{sum_places}
 use Rattle.runs.specs.Runs.{sifted}
 use Rattle.samples.specs.Columns.{Column, columns_of}
 use Rattle.samples.specs.Columns as three
-use Rattle.book.specs.declared.Answer.{Answer}
-use Rattle.book.specs.declared.Answer.TheVariants as answers
-use Rattle.book.specs.Calls.{Out, State, state_after, book_of}
+use Rattle.book.specs.Calls.{Answer, Out, State, state_after, book_of}
 use Rattle.ledger.specs.Ledger.{Call, changes, program_replies, final, opened, lent_of}
 use Rattle.ledger.specs.Ledger as whole
 use Rattle.ledger.specs.ReadCalls.{ReadCall, read_on}
@@ -43,8 +40,8 @@ at_one (frames f) = whole.frames f
 
 -- those that were not refused
 abbrev pub goes_on : Answer → Change → Option (Call ReadCall)
-goes_on (answers.Book b) c = some (changes (at_one c))
-goes_on (answers.Refused k) c = none
+goes_on (Ok b) c = Some (changes (at_one c))
+goes_on (Err r) c = None
 
 abbrev pub not_refused : Columns → List Float → List Change → List (Call ReadCall)
 not_refused c sums earlier = sifted program (λ s d. goes_on (answer s d) d) (pairs.opened c sums) earlier

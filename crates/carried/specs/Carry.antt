@@ -3,11 +3,11 @@
 use Rattle.std.specs.Prelude.{List, [], ◌∷◌, ◌++◌, ℕ, length, drop, replicate, Float}
 use Rattle.value.specs.Numbers.{one_f}
 use Rattle.samples.specs.Columns.{Columns, of_x, of_y, of_w, lengths}
-use Rattle.refusal.specs.Refusals.{Refusal, by, first_of, settle}
+use Rattle.refusal.specs.Refusals.{Test, by, first_of, settle}
 use Rattle.refusal.specs.Tests.{book_short}
 use Rattle.book.specs.Calls.{Out, book_of, refused}
 
-abbrev pub carry_tests : ℕ → List ℕ → ℕ → List Refusal
+abbrev pub carry_tests : ℕ → List ℕ → ℕ → List Test
 carry_tests n columns sums = by (book_short n columns sums) 1 ∷ []
 
 unfoldable pub carry_refusal : ℕ → List ℕ → ℕ → ℕ

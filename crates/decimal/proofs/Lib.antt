@@ -1,2 +1,4 @@
+pub mod Searched
 pub mod Quotient
 pub mod Judged
+pub mod Taken

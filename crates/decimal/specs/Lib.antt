@@ -8,6 +8,7 @@ pub mod PowerLaws
 pub mod Nearest
 pub mod NearestLaws
 pub mod IndexLaws
+pub mod Errors
 pub mod Readings
 pub mod Lines
 pub mod Handed

@@ -3,10 +3,12 @@
 
 mod cursor;
 mod digits;
+mod errors;
 mod lines;
 mod powers;
 mod readings;
 
-pub use cursor::{Cursor, Next, next_sample};
-pub use lines::{count, refusal};
-pub use readings::{Decimal, read};
+pub use cursor::{Cursor, next_sample};
+pub use errors::ReadingError;
+pub use lines::{check, count};
+pub use readings::read;

@@ -9,9 +9,8 @@ use Rattle.samples.specs.Columns.{no_columns}
 use Rattle.refusal.specs.Refusals.{settle}
 use Rattle.monomial.specs.Sums.{sums_of}
 use Rattle.monomial.specs.Plain.{plain_sums}
-use Rattle.book.specs.declared.Answer.{Answer}
 use Rattle.book.specs.Refusals.{open_refusal}
-use Rattle.book.specs.Calls.{book_of}
+use Rattle.book.specs.Calls.{Answer, book_of}
 use Rattle.book.specs.Calls as book
 use Rattle.two_column.specs.Pairs.{columns}
 use Rattle.two_column.specs.Calls.{Is, refused, open_out}

@@ -31,7 +31,8 @@ use Rattle.book.specs.RefusalLaws.{correct_room, withdraw_room}
 use Rattle.lent.specs.Gaps.{without_at}
 use Rattle.book.specs.Calls as book
 use Rattle.ledger.specs.Ledger as whole
-use Rattle.two_column.specs.Pairs.{Pair, pair_of, pair_rows, at_weight_one, Columns, lengths, pairs_of, with_pair, with_new_y}
+use Rattle.two_column.specs.declared.Pair.{Pair}
+use Rattle.two_column.specs.Pairs.{pair_of, pair_rows, at_weight_one, Columns, lengths, pairs_of, with_pair, with_new_y}
 use Rattle.two_column.specs.PairLaws.{add_pair, sums_of_pairs}
 use Rattle.two_column.specs.Refusals.{pair_finite, pairs_finite, frame_pairs, add_refusal, frame_refusal}
 use Rattle.two_column.specs.RefusalLaws.{capacity_two, short_two, room_two, frame_room}

@@ -8,8 +8,8 @@ use lib.Ieee.{Float, nan}
 use Rattle.runs.specs.Runs.{replies as replies_of}
 use Rattle.runs.specs.RunLaws.{agree, remembered}
 use Rattle.value.specs.Numbers.{one_f}
+use Rattle.refusal.specs.Named.{refused_by}
 use Rattle.samples.specs.Columns.{Column, of_x, of_y, value}
-use Rattle.book.specs.declared.Answer.TheVariants as answers
 use Rattle.book.specs.Refusals.{open_refusal}
 use Rattle.book.specs.RefusalLaws.{open_room}
 use Rattle.book.specs.Calls.{book_of}
@@ -19,7 +19,8 @@ use Rattle.ledger.specs.Ledger as whole
 use Rattle.ledger.proofs.Lists.{seen_is, seen_kept, sums_first, sums_rest}
 use Rattle.ledger.proofs.Steps.{Holds, Leaves, step}
 use Rattle.ledger.proofs.Whole.{empty_state, opened_holds}
-use Rattle.two_column.specs.Pairs.{Pair, at_weight_one, Columns}
+use Rattle.two_column.specs.declared.Pair.{Pair}
+use Rattle.two_column.specs.Pairs.{at_weight_one, Columns}
 use Rattle.two_column.specs.PairLaws.{sums_of_pairs}
 use Rattle.two_column.specs.RefusalLaws.{capacity_two}
 use Rattle.two_column.specs.Calls.{State, open_out}
@@ -103,7 +104,7 @@ pub not_refused_lem : (sums : List Float) (k : ℕ) → open_refusal (length sum
 unfolding open_out
 not_refused_lem sums zero e h = refl
 not_refused_lem sums (suc k) e h =
-    let w : answers.Refused (suc k) ≡ book_of 0 = rw e at h in
+    let w : refused_by (suc k) ≡ book_of 0 = rw e at h in
     let z : ◌≡◌ {A = ℕ} 0 1 = cc in
     absurd (omega arith)
 

@@ -7,12 +7,12 @@ use Rattle.loops.specs.Fold.{fold}
 use Rattle.runs.specs.Runs.{Machine, replies as replies_of, history}
 use Rattle.monomial.specs.Plain.{plain_sums}
 use Rattle.refusal.specs.Refusals.{settle}
-use Rattle.book.specs.declared.Answer.{Answer}
-use Rattle.book.specs.declared.Answer.TheVariants as answers
+use Rattle.refusal.specs.Named.{refused_by}
 use Rattle.book.specs.Refusals.{correct_refusal, withdraw_refusal}
-use Rattle.book.specs.Calls.{book_of, book_after}
+use Rattle.book.specs.Calls.{Answer, book_of, book_after}
 use Rattle.ledger.specs.Ledger.{Lent, seen}
-use Rattle.two_column.specs.Pairs.{Pair, pair_rows, Columns, lengths}
+use Rattle.two_column.specs.declared.Pair.{Pair}
+use Rattle.two_column.specs.Pairs.{pair_rows, Columns, lengths}
 use Rattle.two_column.specs.Refusals.{frame_pairs, add_refusal, frame_refusal}
 use Rattle.two_column.specs.Calls.{Out, open_out, add_out, correct_out, withdraw_out, add_frame_out, State, state_after}
 
@@ -79,7 +79,7 @@ abbrev pub ledger_next : Lent → List Pair → Change → List Pair
 ledger_next m l c = settle (refusal_of m (length l) c) (changed l c) l
 
 abbrev pub ledger_answer : Lent → List Pair → Change → Answer
-ledger_answer m l c = settle (refusal_of m (length l) c) (book_of (length (changed l c))) (answers.Refused (refusal_of m (length l) c))
+ledger_answer m l c = settle (refusal_of m (length l) c) (book_of (length (changed l c))) (refused_by (refusal_of m (length l) c))
 
 abbrev pub ledger : Lent → Machine (List Pair) Change Answer
 ledger m = record { step = ledger_next m; reply = ledger_answer m }

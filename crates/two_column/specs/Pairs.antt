@@ -1,18 +1,15 @@
--- A sample of document 01, x and y, and the two columns that such samples stand in. Definitions only.
+-- Samples of document 01 and the two columns that they stand in. Definitions only.
 use Rattle.std.specs.Prelude.{List, [], ◌∷◌, map, ℕ, length, get_or, set, Float}
 use Rattle.std.specs.Float.{nan}
 use Rattle.basis.specs.Sizes.{max_terms}
 use Rattle.loops.specs.Places.{table}
 use Rattle.value.specs.Numbers.{one_f}
 use Rattle.value.specs.Power.{power_f}
-use Rattle.samples.specs.Samples.{Sample}
+use Rattle.samples.specs.declared.Sample.{Sample}
 use Rattle.monomial.specs.Rows.{Row}
+use Rattle.two_column.specs.declared.Pair.{Pair}
 
-pub record Pair : Type 0 where
-  pub x : Float
-  pub y : Float
-
--- its row for the curve: the powers 0 to 15 of x, and y
+-- a sample's row for the curve: the powers 0 to 15 of x, and y
 abbrev pub pair_row : Pair → Row
 pair_row p = record { terms = table (power_f p.x) max_terms; y = p.y }
 
