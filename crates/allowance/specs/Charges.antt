@@ -2,23 +2,21 @@
 -- of a limit each has its group's counter. Definitions only.
 use Rattle.std.specs.Prelude.{◌≡◌, List, [], ℕ, length, take, Float}
 use Rattle.basis.specs.Sizes.{sum_places}
-use Rattle.samples.specs.Samples.{Sample}
+use Rattle.samples.specs.declared.Sample.{Sample}
 use Rattle.samples.specs.Columns.{samples_of, Columns, lengths}
 use Rattle.monomial.specs.Rows.{rows_of, weighted_rows}
 use Rattle.refusal.specs.Refusals.{settle}
 use Rattle.lent.specs.Slices.{Contents}
 use Rattle.settings.specs.declared.Settings.{Settings}
 use Rattle.reporting.specs.declared.Places.{Places}
-use Rattle.reporting.specs.declared.ReportAnswer.{ReportAnswer}
 use Rattle.reporting.specs.Outputs.{LentOutputs, places_of}
-use Rattle.reporting.specs.Reports.{ReportOut, refused_early, Does}
+use Rattle.reporting.specs.Reports.{ReportAnswer, ReportOut, refused_early, Does}
 use Rattle.report.specs.Limited.{within_past}
 use Rattle.surface.specs.Points.{Point, PointColumns, points_of, point_lengths, rows_of_points, surface_sums}
 use Rattle.surface.specs.Limited.{surface_within_past}
 use Rattle.split.specs.declared.Places.{Places as SplitPlaces}
-use Rattle.split.specs.declared.SplitAnswer.{SplitAnswer}
 use Rattle.split.specs.Search.{search_tests}
-use Rattle.split.specs.Splits.{SplitOut, LentSplit, split_refused, split_past, taken_of, places_of as split_places_of, Does as SplitDoes}
+use Rattle.split.specs.Splits.{SplitAnswer, SplitOut, LentSplit, split_refused, split_past, taken_of, places_of as split_places_of, Does as SplitDoes}
 use Rattle.allowance.specs.Table.{counter_of, taken_from}
 use Rattle.allowance.specs.Refusals.{group_report_refusal, group_surface_refusal, group_split_refusal}
 

@@ -7,8 +7,8 @@ use mathlib.Core.List.{List, [], ◌∷◌, Memᴰ}
 use native.Mathlib.Omega.{arith}
 use borrow.Author.Tests.{ltb-false}
 use Rattle.std.proofs.Math.Dec.{ltb}
-use Rattle.samples.specs.Samples.{Sample}
-use Rattle.refusal.specs.Refusals.{Refusal, by, first_of, InOrder, those, is_among}
+use Rattle.samples.specs.declared.Sample.{Sample}
+use Rattle.refusal.specs.Refusals.{Test, by, first_of, InOrder, those, is_among}
 use Rattle.refusal.specs.Laws.{numbered}
 use Rattle.settings.specs.declared.Settings.{Settings}
 use Rattle.reporting.specs.declared.Places.{Places}
@@ -39,7 +39,7 @@ answers_in_order = refl
 
 -- ---- the code's tests: short is 1 of the call without a group
 
-module _ (group table : ℕ) (short : Bool) (later : List Refusal) where
+module _ (group table : ℕ) (short : Bool) (later : List Test) where
   -- a number that is not 0 is that of all tests
   pub group_refused : (r : ℕ) → r ≡ first_of (by (ltb table table_places || short) 1 ∷ by (no_group group) 17 ∷ []) → (r ≡ 0 → ⊥)
       → r ≡ first_of (with_group group table (by short 1 ∷ later))

@@ -1,7 +1,7 @@
 -- What refuses a call of a group before it is charged: the call's own tests, with the table judged by 1, and 17 directly after 1. Definitions only.
 use Rattle.std.specs.Prelude.{Bool, ◌||◌, List, [], ◌∷◌, ℕ, ltb}
-use Rattle.samples.specs.Samples.{Sample}
-use Rattle.refusal.specs.Refusals.{Refusal, by, first_of}
+use Rattle.samples.specs.declared.Sample.{Sample}
+use Rattle.refusal.specs.Refusals.{Test, by, first_of}
 use Rattle.settings.specs.declared.Settings.{Settings}
 use Rattle.reporting.specs.declared.Places.{Places}
 use Rattle.report.specs.Refusals.{report_tests}
@@ -16,7 +16,7 @@ abbrev pub no_group : ℕ → Bool
 no_group group = ltb 7 group
 
 -- the tests of a call, of which the first is 1
-abbrev pub with_group : ℕ → ℕ → List Refusal → List Refusal
+abbrev pub with_group : ℕ → ℕ → List Test → List Test
 with_group group table [] = []
 with_group group table (short ∷ later) = by (ltb table table_places || short.holds) 1 ∷ by (no_group group) 17 ∷ later
 

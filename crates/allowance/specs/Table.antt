@@ -1,10 +1,10 @@
 -- The table that eight course groups share: a counter for each, and the quota (document 02, E10). Definitions only.
-use Rattle.std.specs.Prelude.{◌≡◌, List, [], ◌∷◌, ℕ, ◌-◌, length, get_or, set, replicate}
+use Rattle.std.specs.Prelude.{◌≡◌, List, [], ◌∷◌, ℕ, ◌-◌, length, get_or, set, replicate, Result, Ok, ⊤}
 use Rattle.lent.specs.Written.{over}
 use Rattle.refusal.specs.Refusals.{by, first_of, settle}
 use Rattle.refusal.specs.Tests.{needed, any_short}
-use Rattle.allowance.specs.declared.TableAnswer.{TableAnswer}
-use Rattle.allowance.specs.declared.TableAnswer.TheVariants as answers
+use Rattle.refusal.specs.declared.refusals.Refusal.{Refusal}
+use Rattle.refusal.specs.Named.{refused_by}
 
 -- Eight groups, numbered 0 to 7. The table has nine lent places: the counters of groups 0 to 7, and the quota.
 abbrev pub groups : ℕ
@@ -37,6 +37,10 @@ taken_from table group taken = set table group (counter_of table group - taken)
 unfoldable pub table_refusal : ℕ → ℕ
 table_refusal table = first_of (by (any_short (needed table_places table ∷ [])) 1 ∷ [])
 
+-- what they answer: nothing, or a refusal
+abbrev pub TableAnswer : Type 0
+TableAnswer = Result ⊤ Refusal
+
 pub record TableOut : Type 0 where
   pub answer : TableAnswer
   pub table : List ℕ
@@ -44,12 +48,12 @@ pub record TableOut : Type 0 where
 unfoldable pub start_out : ℕ → List ℕ → TableOut
 start_out quota table =
     let r = table_refusal (length table) in
-    settle r (record { answer = answers.Done; table = started quota table }) (record { answer = answers.Refused r; table = table })
+    settle r (record { answer = Ok tt; table = started quota table }) (record { answer = refused_by r; table = table })
 
 unfoldable pub renew_out : List ℕ → TableOut
 renew_out table =
     let r = table_refusal (length table) in
-    settle r (record { answer = answers.Done; table = renewed table }) (record { answer = answers.Refused r; table = table })
+    settle r (record { answer = Ok tt; table = renewed table }) (record { answer = refused_by r; table = table })
 
 -- the promise: o is what the call answers, and what it leaves of the table
 pub record TableIs (o : TableOut) (r : TableAnswer) (t : List ℕ) : Type 0 where

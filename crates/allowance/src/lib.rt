@@ -2,21 +2,23 @@
 // from the group's counter. Each call is promised, for every count, length and content, to answer and to leave what document 02 says.
 #![tactic(auto)]
 
-ghost use Rattle.std.specs.Prelude.{◌≡◌, ◌||◌, [], ◌∷◌, ◌++◌, ◌≤◌, ltb, length, drop, replicate};
+ghost use Rattle.std.specs.Prelude.{◌≡◌, ◌||◌, [], ◌∷◌, ltb};
 ghost use Rattle.samples.specs.Columns.{columns_of};
 ghost use Rattle.refusal.specs.Refusals.{by, first_of};
+ghost use Rattle.refusal.specs.Named.{judged};
 ghost use Rattle.lent.specs.Slices.{before, after, contents};
 ghost use Rattle.reporting.specs.Outputs.{outputs};
 ghost use Rattle.surface.specs.Points.{point_columns};
 ghost use Rattle.split.specs.Splits.{lent_split};
-ghost use Rattle.allowance.specs.Table.{table_places, start_out, renew_out, TableIs};
+ghost use Rattle.allowance.specs.Table.{table_places, table_refusal, start_out, renew_out, TableIs};
 ghost use Rattle.allowance.specs.Refusals.{no_group};
 ghost use Rattle.allowance.specs.Charges.{GroupReportIs, GroupSurfaceIs, GroupSplitIs};
 
 use book::Book;
-use reporting::{Places, ReportAnswer};
+use refusal::{Refusal, any_short, first_of};
+use reporting::{Places, Report};
 use settings::Settings;
-use split::SplitAnswer;
+use split::Break;
 
 // The groups, the last of them, and the places of the table: a counter for each, then the quota.
 pub const GROUPS: usize = 8;
@@ -25,55 +27,44 @@ const LAST: usize = 7;
 
 pub const TABLE: usize = 9;
 
-// What start and renew answer.
-#[derive(Clone, Copy)]
-pub enum TableAnswer {
-    Done,
-    Refused(u8),
-}
-
-// The first n places become the value.
-fn fill(table: &mut [usize], n: usize, value: usize)
-    requires { n ≤ length table.old }
-    ensures { after table ≡ replicate n value ++ drop n (before table) }
+// 1, of start and renew.
+fn check_table(table: usize) -> Result<(), Refusal>
+    ensures { result ≡ judged (table_refusal table) }
 {
-    for i in 0..n {
-        table[i] = value;
-    }
+    first_of(&[(any_short(&[(TABLE, table)]), Refusal::Short)])
 }
 
 // All eight counters, and the quota that they are refilled to.
-pub fn start(quota: usize, table: &mut [usize]) -> TableAnswer
+#[tactic(auto, using(crate::proofs::Charging::table_long))]
+pub fn start(quota: usize, table: &mut [usize]) -> Result<(), Refusal>
     ensures { TableIs (start_out quota (before table)) result (after table) }
 {
-    if table.len() < TABLE {
-        return TableAnswer::Refused(1);
-    }
-    fill(table, TABLE, quota);
-    TableAnswer::Done
+    check_table(table.len())?;
+    lent::fill(table, TABLE, quota);
+    Ok(())
 }
 
 // All eight counters become the quota.
-pub fn renew(table: &mut [usize]) -> TableAnswer
+#[tactic(auto, using(crate::proofs::Charging::table_long))]
+pub fn renew(table: &mut [usize]) -> Result<(), Refusal>
     ensures { TableIs (renew_out (before table)) result (after table) }
 {
-    if table.len() < TABLE {
-        return TableAnswer::Refused(1);
-    }
+    check_table(table.len())?;
     let quota = table[GROUPS];
-    fill(table, GROUPS, quota);
-    TableAnswer::Done
+    lent::fill(table, GROUPS, quota);
+    Ok(())
 }
 
-// 1, where the call itself or the table is lent too little, then 17; 0 if neither holds.
-fn group_refusal(short: bool, table: usize, group: usize) -> u8
-    ensures { result ≡ first_of (by (ltb table table_places || short) 1 ∷ by (no_group group) 17 ∷ []) }
+// 1, where the call itself or the table is lent too little, then 17.
+fn check_group(short: bool, table: usize, group: usize) -> Result<(), Refusal>
+    ensures { result ≡ judged (first_of (by (ltb table table_places || short) 1 ∷ by (no_group group) 17 ∷ [])) }
 {
-    let few = refusal::short(TABLE, table, short);
-    refusal::first(few, 1, refusal::first(LAST < group, 17, 0))
+    let few = (table < TABLE) | short;
+    first_of(&[(few, Refusal::Short), (LAST < group, Refusal::NoGroup)])
 }
 
 // A report of a group's book.
+#[tactic(auto, using(crate::proofs::Charging::group_counted, crate::proofs::Charging::report_taken))]
 pub fn group_report(
     group: usize,
     book: Book,
@@ -90,7 +81,7 @@ pub fn group_report(
     upper: &mut [f64],
     outliers: &mut [u8],
     table: &mut [usize],
-) -> ReportAnswer
+) -> Result<Report, Refusal>
     ensures { GroupReportIs group book.count settings (columns_of xs.now ys.now ws.now) sums.now result (outputs scratch coefficients errors pruned lower upper outliers) (contents table) }
 {
     let n = book.count;
@@ -103,11 +94,9 @@ pub fn group_report(
         upper: upper.len(),
         outliers: outliers.len(),
     };
-    let short = report::report_short(n, xs.len(), ys.len(), ws.len(), sums.len(), places);
-    let refusal = group_refusal(short, table.len(), group);
-    if refusal != 0 {
-        return ReportAnswer::Refused(refusal);
-    }
+    let columns = [xs.len(), ys.len(), ws.len()];
+    let short = report::report_short(n, &columns, sums.len(), places);
+    check_group(short, table.len(), group)?;
     let left = table[group];
     let done = report::report_within(
         book,
@@ -130,6 +119,7 @@ pub fn group_report(
 }
 
 // A report of a group's surface.
+#[tactic(auto, using(crate::proofs::Charging::group_counted, crate::proofs::Charging::surface_taken))]
 pub fn group_surface_report(
     group: usize,
     count: usize,
@@ -145,7 +135,7 @@ pub fn group_surface_report(
     upper: &mut [f64],
     outliers: &mut [u8],
     table: &mut [usize],
-) -> ReportAnswer
+) -> Result<Report, Refusal>
     ensures { GroupSurfaceIs group count settings (point_columns xs.now zs.now ys.now) result (outputs scratch coefficients errors pruned lower upper outliers) (contents table) }
 {
     let places = Places {
@@ -157,11 +147,8 @@ pub fn group_surface_report(
         upper: upper.len(),
         outliers: outliers.len(),
     };
-    let short = surface::surface_short(count, xs.len(), zs.len(), ys.len(), places);
-    let refusal = group_refusal(short, table.len(), group);
-    if refusal != 0 {
-        return ReportAnswer::Refused(refusal);
-    }
+    let short = surface::surface_short(count, &[xs.len(), zs.len(), ys.len()], places);
+    check_group(short, table.len(), group)?;
     let rest = table[group];
     let done = surface::surface_report_within(
         count,
@@ -183,6 +170,7 @@ pub fn group_surface_report(
 }
 
 // A split of a group's book.
+#[tactic(auto, using(crate::proofs::Charging::group_counted, crate::proofs::Charging::split_taken_most))]
 pub fn group_split(
     group: usize,
     book: Book,
@@ -195,7 +183,7 @@ pub fn group_split(
     earlier: &mut [f64],
     later: &mut [f64],
     table: &mut [usize],
-) -> SplitAnswer
+) -> Result<Break, Refusal>
     ensures { GroupSplitIs group book.count settings (columns_of xs.now ys.now ws.now) sums.now result (lent_split scratch earlier later) (contents table) }
 {
     let n = book.count;
@@ -204,11 +192,9 @@ pub fn group_split(
         before: earlier.len(),
         after: later.len(),
     };
-    let short = split::split_short(n, xs.len(), ys.len(), ws.len(), sums.len(), places);
-    let refusal = group_refusal(short, table.len(), group);
-    if refusal != 0 {
-        return SplitAnswer::Refused(refusal);
-    }
+    let columns = [xs.len(), ys.len(), ws.len()];
+    let short = split::split_short(n, &columns, sums.len(), places);
+    check_group(short, table.len(), group)?;
     let limit = table[group];
     let done = split::split_within(
         book, settings, limit, xs, ys, ws, sums, scratch, earlier, later,

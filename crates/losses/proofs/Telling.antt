@@ -1,5 +1,7 @@
 -- What the losses come to: refused by 1 to 9, refused by 11 or 12, or told.
-use mathlib.Core.Path.{◌≡◌, refl, sym, ap, ap₂, ◌∙◌}
+use Rattle.std.specs.Prelude.{Ok, Err}
+use Rattle.std.proofs.Common.{le_refl, take_all}
+use mathlib.Core.Path.{◌≡◌, refl, ap, ap₂, ◌∙◌}
 use mathlib.Core.List.{List, ◌++◌, map}
 use Prim.Native.Nat.{ℕ, zero, suc, ◌≤◌}
 use native.Mathlib.Omega.{arith}
@@ -11,7 +13,6 @@ use Rattle.loops.specs.Within.{Within}
 use Rattle.loops.specs.WithinLaws.{within_then, within_written, front_written}
 use Rattle.basis.specs.Counts.{count_of}
 use Rattle.basis.specs.declared.Basis.TheVariants.{Curve}
-use Rattle.basis.specs.declared.OptionDegree.TheVariants.{Some}
 use Rattle.value.specs.Absolute.{abs_f}
 use Rattle.value.specs.Total.{total_f}
 use Rattle.statistics.specs.Losses.{huber_loss, losses}
@@ -20,32 +21,34 @@ use Rattle.statistics.specs.Degrees.{max_degree}
 use Rattle.monomial.specs.Rows.{Row}
 use Rattle.score.specs.Score.{score_of}
 use Rattle.fit.specs.Residuals.{residual, residuals}
+use Rattle.refusal.specs.declared.refusals.Refusal.{Refusal}
+use Rattle.refusal.specs.Named.{refused_by}
 use Rattle.refusal.specs.Refusals.{settle}
 use Rattle.lent.specs.Slices.{contents_of}
 use Rattle.lent.specs.Written.{zeros}
 use Rattle.lent.specs.WrittenLaws.{over_by, over_cleared}
 use Rattle.settings.specs.declared.Settings.{Settings}
 use Rattle.reporting.specs.declared.Chosen.{Chosen}
+use Rattle.reporting.specs.declared.Found.{Found}
 use Rattle.reporting.specs.Chosen.{chosen_refusal, Chooses}
-use Rattle.reporting.specs.ChosenLaws.{of_late, of_told}
+use Rattle.reporting.specs.ChosenLaws.{of_late, of_told, none_found, one_found}
 use Rattle.report.specs.Reports.{report_choice}
 use Rattle.report.specs.ChosenLaws.{chosen_solved}
-use Rattle.losses.specs.declared.LossAnswer.{LossAnswer}
-use Rattle.losses.specs.declared.LossAnswer.TheVariants as answers
-use Rattle.losses.specs.Losses.{LossOut, LossIs, loss_refused, loss_late, losses_at, losses_by, loss_of, loss_past}
+use Rattle.losses.specs.Losses.{LossAnswer, LossOut, LossIs, loss_refused, loss_late, losses_at, losses_by, loss_of, loss_past}
 use Rattle.losses.specs.LossLaws.{length_losses_at}
 
--- n places are written: the losses of n numbers
-pub losses_written : (constant mad : Float) (n : ℕ) (a out : List Float) → n ≤ length a → n ≤ length out
-    → each (λ j _. huber_loss (get_or a j nan) constant mad) n out ≡ map (λ r. huber_loss r constant mad) (take n a) ++ drop n out
-losses_written constant mad n a out h k =
-    each_write (λ j. huber_loss (get_or a j nan) constant mad) n out k
-    ∙ ap (λ l. l ++ drop n out) (map_table (λ r. huber_loss r constant mad) (λ j. get_or a j nan) n ∙ ap (map (λ r. huber_loss r constant mad)) (table_take nan n a h))
+-- the losses of all numbers are written
+pub losses_written : (constant mad : Float) (a out : List Float) → length a ≤ length out
+    → each (λ j _. huber_loss (get_or a j nan) constant mad) (length a) out ≡ map (λ r. huber_loss r constant mad) a ++ drop (length a) out
+losses_written constant mad a out h =
+    let n = length a in
+    each_write (λ j. huber_loss (get_or a j nan) constant mad) n out h
+    ∙ ap (λ l. l ++ drop n out) (map_table (λ r. huber_loss r constant mad) (λ j. get_or a j nan) n ∙ ap (map (λ r. huber_loss r constant mad)) (table_take nan n a (le_refl n) ∙ take_all n a (le_refl n)))
 
--- refused by r, one of 1 to 9
-pub refused_early_lem : (r q : ℕ) (past : LossOut) (s l : List Float) → r ≡ q → (r ≡ 0 → ⊥) → LossIs (settle q past (loss_refused q)) (answers.Refused r) (contents_of s s) (contents_of l l)
-refused_early_lem zero q past s l e h = absurd (h refl)
-refused_early_lem (suc k) q past s l e h = rw (← e) (record { answer = refl; scratch = refl; losses = refl })
+-- refused by q, one of 1 to 9
+pub refused_early_lem : (q : ℕ) (past : LossOut) (s l : List Float) {r : LossAnswer} → (q ≡ 0 → ⊥) × (r ≡ refused_by q) → LossIs (settle q past (loss_refused q)) r (contents_of s s) (contents_of l l)
+refused_early_lem zero past s l h = absurd (h.0 refl)
+refused_early_lem (suc k) past s l h = record { answer = h.1; scratch = refl; losses = refl }
 
 -- let through by 1 to 9: the rows are those of the samples
 pub let_through : (q n : ℕ) (settings : Settings) (rows own : List Row) (sums : List Float) (r : LossAnswer) (s s' l l' : List Float) → q ≡ 0 → rows ≡ own
@@ -57,53 +60,54 @@ module _ (n : ℕ) (settings : Settings) (rows : List Row) (sums : List Float) w
   -- m is what was chosen, and u scratch after it
   module _ (s u : List Float) (m : Chosen) (ch : Chooses Curve (report_choice n settings rows sums) n rows sums s u m) where
     -- 11 or 12: scratch is cleared
-    pub refused_late_lem : (m.number ≡ 0 → ⊥) → (l t : List Float) → t ≡ zeros n ++ drop n u
-        → LossIs (loss_past n settings rows sums) (answers.Refused m.number) (contents_of s t) (contents_of l l)
+    pub refused_late_lem : {e : Refusal} {r : LossAnswer} → m.found ≡ Err e → r ≡ Err e → (l t : List Float) → t ≡ zeros n ++ drop n u
+        → LossIs (loss_past n settings rows sums) r (contents_of s t) (contents_of l l)
     unfolding loss_past loss_of
-    refused_late_lem h l t cleared =
-        rw (of_late Curve sums (loss_late n) (λ d. losses_by n settings rows sums d.0) (report_choice n settings rows sums).chosen m.number ch.number h)
-        (record { answer = refl; scratch = over_cleared n s u t ch.within cleared; losses = refl })
+    refused_late_lem h q l t cleared =
+        let o = (report_choice n settings rows sums).chosen in
+        let w = none_found Curve rows sums o ch.found h in
+        rw (of_late Curve sums (loss_late n) (λ d. losses_by n settings rows sums d.0) o (chosen_refusal Curve o sums) refl w.0)
+        (record { answer = q ∙ ap (λ d. Err d) w.1; scratch = over_cleared n s u t ch.within cleared; losses = refl })
 
-    module _ (z : m.number ≡ 0) where
+    module _ {f : Found} (z : m.found ≡ Ok f) where
       -- the chosen degree has at most 16 coefficients
-      pub few_terms : max_degree settings.bound n ≤ 15 → m.degree.0 ≤ 15
-      few_terms h = omega (arith, h, (chosen_solved n settings rows sums m.degree (ch.degree z)).0)
+      pub few_terms : max_degree settings.bound n ≤ 15 → f.degree.0 ≤ 15
+      few_terms h = omega (arith, h, (chosen_solved n settings rows sums f.degree (one_found Curve rows sums (report_choice n settings rows sums).chosen ch.found z).0).0)
 
-      told_by : loss_past n settings rows sums ≡ losses_by n settings rows sums m.degree.0
+      told_by : loss_past n settings rows sums ≡ losses_by n settings rows sums f.degree.0
       unfolding loss_past loss_of
       told_by =
-          let o = ch.degree z in
-          let e : chosen_refusal Curve (Some m.degree) sums ≡ 0 = ap (λ d. chosen_refusal Curve d sums) (sym o) ∙ sym ch.number ∙ z in
-          rw o (of_told Curve sums (loss_late n) (λ d. losses_by n settings rows sums d.0) m.degree e)
+          let o = one_found Curve rows sums (report_choice n settings rows sums).chosen ch.found z in
+          rw o.0 (of_told Curve sums (loss_late n) (λ d. losses_by n settings rows sums d.0) f.degree o.1)
 
       -- k is the count of its coefficients; the sizes of their residuals were written to scratch, which v is now
-      module _ (k : ℕ) (ek : k ≡ count_of Curve m.degree.0) (rowed : length rows ≡ n) (v : List Float) (written : v ≡ map abs_f (residuals k m.c rows) ++ drop n u) (h : n ≤ length u) where
-        length_sizes : length (map abs_f (residuals k m.c rows)) ≡ n
+      module _ (k : ℕ) (ek : k ≡ count_of Curve f.degree.0) (rowed : length rows ≡ n) (v : List Float) (written : v ≡ map abs_f (residuals k f.measured.c rows) ++ drop n u) (h : n ≤ length u) where
+        length_sizes : length (map abs_f (residuals k f.measured.c rows)) ≡ n
         unfolding residuals
-        length_sizes = length-map (residuals k m.c rows) abs_f ∙ length-map rows (residual k m.c) ∙ rowed
+        length_sizes = length-map (residuals k f.measured.c rows) abs_f ∙ length-map rows (residual k f.measured.c) ∙ rowed
 
-        pub sizes_within : Within n u v
-        sizes_within = within_written n u v (map abs_f (residuals k m.c rows)) written length_sizes h
+        sizes_within : Within n u v
+        sizes_within = within_written n u v (map abs_f (residuals k f.measured.c rows)) written length_sizes h
 
         -- their losses are the definition's
-        sizes_told : losses (take n v) ≡ losses_at sums rows (count_of Curve m.degree.0)
+        sizes_told : losses (take n v) ≡ losses_at sums rows (count_of Curve f.degree.0)
         unfolding losses_at
         sizes_told =
-            ap losses (front_written n u v (map abs_f (residuals k m.c rows)) written length_sizes) ∙ losses_sizes (residuals k m.c rows)
-            ∙ (rw (ek, ch.coefficients z))
+            ap losses (front_written n u v (map abs_f (residuals k f.measured.c rows)) written length_sizes) ∙ losses_sizes (residuals k f.measured.c rows)
+            ∙ (rw (ek, (one_found Curve rows sums (report_choice n settings rows sums).chosen ch.found z).2))
 
         -- they are told
         pub told_whole : (l l' t : List Float) (total score : Float) → total ≡ total_f (losses (take n v)) → l' ≡ losses (take n v) ++ drop n l
             → score ≡ score_of settings.criterion n k total → t ≡ zeros n ++ drop n v
-            → LossIs (loss_past n settings rows sums) (answers.Losses m.degree total score) (contents_of s t) (contents_of l l')
+            → LossIs (loss_past n settings rows sums) (Ok (record { degree = f.degree; total = total; score = score })) (contents_of s t) (contents_of l l')
         unfolding losses_by
         told_whole l l' t total score et el es cleared =
-            let told = losses_at sums rows (count_of Curve m.degree.0) in
+            let told = losses_at sums rows (count_of Curve f.degree.0) in
             let e : total ≡ total_f told = et ∙ ap total_f sizes_told in
-            let f : score ≡ score_of settings.criterion n (count_of Curve m.degree.0) (total_f told) = es ∙ ap₂ (λ j x. score_of settings.criterion n j x) ek e in
+            let q : score ≡ score_of settings.criterion n (count_of Curve f.degree.0) (total_f told) = es ∙ ap₂ (λ j x. score_of settings.criterion n j x) ek e in
             rw told_by
             (record {
-              answer = λ i. answers.Losses m.degree (e i) (f i);
+              answer = λ i. Ok (record { degree = f.degree; total = e i; score = q i });
               scratch = over_cleared n s v t (within_then ch.within sizes_within) cleared;
-              losses = over_by n told l l' (length_losses_at sums rows (count_of Curve m.degree.0) ∙ rowed) (el ∙ ap (λ a. a ++ drop n l) sizes_told);
+              losses = over_by n told l l' (length_losses_at sums rows (count_of Curve f.degree.0) ∙ rowed) (el ∙ ap (λ a. a ++ drop n l) sizes_told);
             })

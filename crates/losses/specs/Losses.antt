@@ -1,26 +1,31 @@
 -- Document 02's losses line by line: what the call answers and writes, from samples, sums and lengths. Definitions only.
-use Rattle.std.specs.Prelude.{◌≡◌, List, [], ℕ, length, take, Float}
+use Rattle.std.specs.Prelude.{◌≡◌, List, [], ℕ, length, take, Float, Option, Result, Ok}
+use Rattle.basis.specs.declared.Degree.{Degree}
 use Rattle.basis.specs.Counts.{count_of}
 use Rattle.basis.specs.Sizes.{sum_places}
 use Rattle.basis.specs.declared.Basis.TheVariants.{Curve}
-use Rattle.basis.specs.declared.OptionDegree.{OptionDegree}
 use Rattle.value.specs.Total.{total_f}
 use Rattle.statistics.specs.Losses.{losses}
-use Rattle.samples.specs.Samples.{Sample}
+use Rattle.samples.specs.declared.Sample.{Sample}
 use Rattle.samples.specs.Columns.{samples_of, Columns, lengths}
 use Rattle.monomial.specs.Rows.{Row, rows_of}
 use Rattle.solve.specs.Solve.{solve}
 use Rattle.score.specs.Score.{score_of}
 use Rattle.fit.specs.Residuals.{residuals}
+use Rattle.refusal.specs.declared.refusals.Refusal.{Refusal}
+use Rattle.refusal.specs.Named.{refused_by}
 use Rattle.refusal.specs.Refusals.{settle}
 use Rattle.lent.specs.Slices.{Contents}
 use Rattle.lent.specs.Written.{over, zeros}
 use Rattle.settings.specs.declared.Settings.{Settings}
 use Rattle.reporting.specs.Chosen.{of_chosen}
 use Rattle.report.specs.Reports.{report_choice}
-use Rattle.losses.specs.declared.LossAnswer.{LossAnswer}
-use Rattle.losses.specs.declared.LossAnswer.TheVariants as answers
+use Rattle.losses.specs.declared.LossTotals.{LossTotals}
 use Rattle.losses.specs.Refusals.{loss_refusal}
+
+-- what the call answers: the totals, or a refusal
+abbrev pub LossAnswer : Type 0
+LossAnswer = Result LossTotals Refusal
 
 -- the answer, and the values written to scratch and to the losses
 pub record LossOut : Type 0 where
@@ -28,18 +33,13 @@ pub record LossOut : Type 0 where
   pub scratch : List Float
   pub losses : List Float
 
--- document 01's number of an answer: 0 where the losses are told
-abbrev pub loss_number : LossAnswer → ℕ
-loss_number (answers.Losses d total score) = 0
-loss_number (answers.Refused k) = k
-
 -- refused by r, one of 1 to 9: nothing is written
 abbrev pub loss_refused : ℕ → LossOut
-loss_refused r = record { answer = answers.Refused r; scratch = []; losses = [] }
+loss_refused r = record { answer = refused_by r; scratch = []; losses = [] }
 
 -- refused by 11 or 12: nothing but scratch is written
 abbrev pub loss_late : ℕ → ℕ → LossOut
-loss_late n r = record { answer = answers.Refused r; scratch = zeros n; losses = [] }
+loss_late n r = record { answer = refused_by r; scratch = zeros n; losses = [] }
 
 -- the Huber loss of each sample at k coefficients, in order; weights are not seen
 unfoldable pub losses_at : List Float → List Row → ℕ → List Float
@@ -51,13 +51,13 @@ losses_by n settings rows sums degree =
     let k = count_of Curve degree in
     let told = losses_at sums rows k in
     record {
-      answer = answers.Losses (record { 0 = degree }) (total_f told) (score_of settings.criterion n k (total_f told));
+      answer = Ok (record { degree = record { 0 = degree }; total = total_f told; score = score_of settings.criterion n k (total_f told) });
       scratch = zeros n;
       losses = told;
     }
 
 -- past refusals 1 to 9, of a report's choice, and refused where a report is: 11 if no degree is chosen, 12 if an inverse pivot fails
-unfoldable pub loss_of : ℕ → Settings → List Row → List Float → OptionDegree → LossOut
+unfoldable pub loss_of : ℕ → Settings → List Row → List Float → Option Degree → LossOut
 loss_of n settings rows sums o = of_chosen Curve sums (loss_late n) (λ d. losses_by n settings rows sums d.0) o
 
 unfoldable pub loss_past : ℕ → Settings → List Row → List Float → LossOut

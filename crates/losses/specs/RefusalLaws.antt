@@ -4,7 +4,7 @@ use Rattle.std.proofs.Math.Path.{refl}
 use mathlib.Core.List.{List, [], ◌∷◌, Memᴰ}
 use Rattle.basis.specs.Sizes.{highest_degree}
 use Rattle.statistics.specs.Degrees.{max_degree}
-use Rattle.samples.specs.Samples.{Sample}
+use Rattle.samples.specs.declared.Sample.{Sample}
 use Rattle.refusal.specs.Refusals.{numbers_of, InOrder, those, is_among}
 use Rattle.refusal.specs.Laws.{numbered}
 use Rattle.refusal.specs.Rooms.{Room}

@@ -4,7 +4,7 @@
 
 mod refusals;
 
-ghost use Rattle.std.specs.Prelude.{◌≡◌, ◌++◌, ◌≤◌, length, take, drop};
+ghost use Rattle.std.specs.Prelude.{◌≡◌, ◌++◌, ◌≤◌, length, drop};
 ghost use Rattle.value.specs.Total.{total_f};
 ghost use Rattle.statistics.specs.Losses.{losses as losses_f};
 ghost use Rattle.samples.specs.Columns.{columns_of};
@@ -13,32 +13,31 @@ ghost use Rattle.losses.specs.Losses.{LossIs, loss_out};
 
 use basis::{Basis, Degree, SUMS};
 use book::Book;
+use refusal::Refusal;
 use settings::Settings;
 
-// What the call answers: the chosen degree, the total of its losses and the score that is made of it; or the number of a refusal.
+// What the call answers: the chosen degree, the total of its losses and the score that is made of it.
 #[derive(Clone, Copy)]
-pub enum LossAnswer {
-    Losses {
-        degree: Degree,
-        total: f64,
-        score: f64,
-    },
-    Refused(u8),
+pub struct LossTotals {
+    pub degree: Degree,
+    pub total: f64,
+    pub score: f64,
 }
 
-// The first n places become the losses of the first n numbers, residuals or their sizes. Answers the total, in index order from +0.
-fn put_losses(a: &[f64], n: usize, out: &mut [f64]) -> f64
-    requires { (n ≤ length a.now) × (n ≤ length out.old) }
-    ensures total { result ≡ total_f (losses_f (take n a.now)) }
-    ensures written { after out ≡ losses_f (take n a.now) ++ drop n (before out) }
+// The first places become the losses of residuals or of their sizes. Answers the total, in index order from +0.
+fn put_losses(a: &[f64], out: &mut [f64]) -> f64
+    requires { length a.now ≤ length out.old }
+    ensures total { result ≡ total_f (losses_f a.now) }
+    ensures written { after out ≡ losses_f a.now ++ drop (length a.now) (before out) }
 {
-    let mad = statistics::median_absolute_deviation(a, n);
+    let mad = statistics::median_absolute_deviation(a);
     let constant = statistics::huber_const();
     let mut v = 0.0;
-    for i in 0..n {
+    // by index: of an `iter_mut` behind a `zip` a proof knows no element
+    for i in 0..a.len() {
         let loss = statistics::huber_loss(a[i], constant, mad);
         out[i] = loss;
-        v = v + loss;
+        v += loss;
     }
     v
 }
@@ -53,11 +52,11 @@ pub fn losses(
     sums: &[f64],
     scratch: &mut [f64],
     losses: &mut [f64],
-) -> LossAnswer
+) -> Result<LossTotals, Refusal>
     ensures { LossIs (loss_out book.count settings (columns_of xs.now ys.now ws.now) sums.now (before scratch) (before losses)) result (contents scratch) (contents losses) }
 {
     let n = book.count;
-    let refusal = refusals::loss_refusal(
+    refusals::check_losses(
         n,
         settings,
         xs,
@@ -66,10 +65,7 @@ pub fn losses(
         sums.len(),
         scratch.len(),
         losses.len(),
-    );
-    if refusal != 0 {
-        return LossAnswer::Refused(refusal);
-    }
+    )?;
     let bound = settings.bound;
     let criterion = settings.criterion;
     let last = statistics::max_degree(bound, n);
@@ -84,19 +80,22 @@ pub fn losses(
         &sums[..SUMS],
         &mut *scratch,
     );
-    if m.number != 0 {
-        lent::clear(scratch, n);
-        return LossAnswer::Refused(m.number);
-    }
-    let degree = m.degree;
-    let c = m.c;
+    let found = match m.found {
+        Ok(found) => found,
+        Err(refusal) => {
+            lent::clear(scratch, n);
+            return Err(refusal);
+        }
+    };
+    let degree = found.degree;
+    let c = found.measured.c;
     let k = degree.k(Basis::Curve);
     fit::sizes(Basis::Curve, xs, xs, ys, n, k, &c, &mut *scratch);
-    let total = put_losses(&*scratch, n, losses);
+    let total = put_losses(&scratch[..n], losses);
     lent::clear(scratch, n);
-    LossAnswer::Losses {
+    Ok(LossTotals {
         degree,
         total,
         score: score::score(criterion, n, k, total),
-    }
+    })
 }

@@ -1,13 +1,14 @@
-// Refusals 1 to 9 of the losses: the number of the first test that holds, 0 if none does.
+// What refuses the losses by 1 to 9.
 ghost use Rattle.std.specs.Prelude.{◌≡◌};
 ghost use Rattle.samples.specs.Columns.{samples_of, columns_of, lengths};
-ghost use Rattle.lent.specs.Slices.{before};
+ghost use Rattle.refusal.specs.Named.{judged};
 ghost use Rattle.losses.specs.Refusals.{loss_refusal};
 
 use basis::SUMS;
+use refusal::Refusal;
 use settings::Settings;
 
-pub fn loss_refusal(
+pub fn check_losses(
     n: usize,
     settings: Settings,
     xs: &[f64],
@@ -16,16 +17,9 @@ pub fn loss_refusal(
     sums: usize,
     scratch: usize,
     losses: usize,
-) -> u8
-    ensures { result ≡ loss_refusal n settings (samples_of n (columns_of xs.now ys.now ws.now)) (lengths (columns_of xs.now ys.now ws.now)) sums scratch losses }
+) -> Result<(), Refusal>
+    ensures { result ≡ judged (loss_refusal n settings (samples_of n (columns_of xs.now ys.now ws.now)) (lengths (columns_of xs.now ys.now ws.now)) sums scratch losses) }
 {
-    let memory = refusal::short(
-        SUMS,
-        sums,
-        refusal::short(n, scratch, refusal::short(n, losses, false)),
-    );
-    if refusal::too_short(n, xs.len(), ys.len(), ws.len(), memory) {
-        return 1;
-    }
-    reporting::settings_refusal(n, settings, xs, ys, ws, n == 0)
+    let memories = [(SUMS, sums), (n, scratch), (n, losses)];
+    reporting::check_settings(n, settings, xs, ys, ws, &memories, n == 0)
 }

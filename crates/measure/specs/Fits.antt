@@ -1,5 +1,5 @@
 -- The fit of an asked degree: what it answers and writes, from rows and sums, of a curve and of a surface. Definitions only.
-use Rattle.std.specs.Prelude.{◌≡◌, cond, List, [], ℕ, take, Float}
+use Rattle.std.specs.Prelude.{◌≡◌, cond, List, [], ℕ, take, Float, Result, Ok}
 use Rattle.basis.specs.Counts.{count_of}
 use Rattle.basis.specs.declared.Basis.{Basis}
 use Rattle.monomial.specs.Rows.{Row}
@@ -7,9 +7,14 @@ use Rattle.solve.specs.Solve.{solve}
 use Rattle.fit.specs.Solved.{is_solved}
 use Rattle.lent.specs.Slices.{Contents}
 use Rattle.lent.specs.Written.{over, zeros}
-use Rattle.measure.specs.declared.FitAnswer.{FitAnswer}
-use Rattle.measure.specs.declared.FitAnswer.TheVariants as answers
+use Rattle.basis.specs.declared.Degree.{Degree}
+use Rattle.refusal.specs.declared.refusals.Refusal.{Refusal}
+use Rattle.refusal.specs.Named.{refused_by}
 use Rattle.measure.specs.Places.{term_places}
+
+-- what the call answers: the degree, or a refusal
+abbrev pub FitAnswer : Type 0
+FitAnswer = Result Degree Refusal
 
 -- the answer, and the values written to scratch and to the coefficients
 pub record FitOut : Type 0 where
@@ -17,25 +22,20 @@ pub record FitOut : Type 0 where
   pub scratch : List Float
   pub coefficients : List Float
 
--- document 01's number of an answer: 0 where it is a degree
-abbrev pub fit_number : FitAnswer → ℕ
-fit_number (answers.Fit d) = 0
-fit_number (answers.Refused k) = k
-
 -- refused by r, one of 1 to 9: nothing is written
 abbrev pub fit_refused : ℕ → FitOut
-fit_refused r = record { answer = answers.Refused r; scratch = []; coefficients = [] }
+fit_refused r = record { answer = refused_by r; scratch = []; coefficients = [] }
 
 -- past refusals 1 to 9, of the samples' rows: 10 if the asked degree is unsolved, else the degree and its 16 coefficients, of a surface 15, +0 from k on
 unfoldable pub fit_past : Basis → ℕ → ℕ → List Row → List Float → FitOut
 fit_past basis n degree rows sums =
     cond (is_solved sums rows (count_of basis degree))
     (record {
-      answer = answers.Fit (record { 0 = degree });
+      answer = Ok (record { 0 = degree });
       scratch = zeros n;
       coefficients = take (term_places basis) (solve sums (count_of basis degree)).c;
     })
-    (record { answer = answers.Refused 10; scratch = zeros n; coefficients = [] })
+    (record { answer = refused_by 10; scratch = zeros n; coefficients = [] })
 
 -- the promise: the answer is the definition's, and its values are written to scratch s and the coefficients c
 pub record FitIs (o : FitOut) (r : FitAnswer) (s c : Contents Float) : Type 0 where

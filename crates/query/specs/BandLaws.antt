@@ -6,10 +6,11 @@ use Rattle.std.proofs.Common.{⊎_elim}
 use Rattle.statistics.specs.declared.Confidence.{Confidence}
 use Rattle.statistics.specs.declared.Tolerance.{Tolerance}
 use Rattle.basis.specs.declared.Basis.TheVariants.{Curve}
-use Rattle.samples.specs.Samples.{Sample}
+use Rattle.samples.specs.declared.Sample.{Sample}
 use Rattle.monomial.specs.Rows.{rows_of}
-use Rattle.refusal.specs.Laws.{settled_among}
-use Rattle.measure.specs.Bands.{BandOut, band_number, band_past}
+use Rattle.refusal.specs.Named.{number_of}
+use Rattle.refusal.specs.NamedLaws.{answer_among}
+use Rattle.measure.specs.Bands.{BandOut, band_past}
 use Rattle.measure.specs.BandLaws.{band_past_number}
 use Rattle.query.specs.Refusals.{band_refusal}
 use Rattle.query.specs.RefusalLaws.{band_numbers_lem}
@@ -22,9 +23,9 @@ past_among k h =
 
 -- what a band may answer, by document 01's numbers
 pub band_answers : (n : ℕ) (x : Float) (degree : ℕ) (confidence : Confidence) (tolerance : Tolerance) (samples : List Sample) (sums : List Float) (columns : List ℕ) (places scratch : ℕ)
-    → Memᴰ (band_number (band_for n x degree confidence tolerance samples sums columns places scratch).answer) (0 ∷ 1 ∷ 4 ∷ 7 ∷ 8 ∷ 9 ∷ 10 ∷ 12 ∷ [])
+    → Memᴰ (number_of (band_for n x degree confidence tolerance samples sums columns places scratch).answer) (0 ∷ 1 ∷ 4 ∷ 7 ∷ 8 ∷ 9 ∷ 10 ∷ 12 ∷ [])
 unfolding band_for
 band_answers n x degree confidence tolerance samples sums columns places scratch =
-    settled_among (λ (o : BandOut). band_number o.answer) (band_refusal n x degree confidence tolerance samples columns places scratch)
-    (band_past Curve n x x degree confidence tolerance (rows_of samples) sums) _ (0 ∷ 1 ∷ 4 ∷ 7 ∷ 8 ∷ 9 ∷ []) (10 ∷ 12 ∷ [])
-    (band_numbers_lem n samples columns places scratch x degree confidence tolerance) (past_among _ (band_past_number Curve n x x degree confidence tolerance (rows_of samples) sums)) refl
+    answer_among (λ (o : BandOut). o.answer) (band_refusal n x degree confidence tolerance samples columns places scratch)
+    (band_past Curve n x x degree confidence tolerance (rows_of samples) sums) _ (0 ∷ 1 ∷ 4 ∷ 7 ∷ 8 ∷ 9 ∷ []) (10 ∷ 12 ∷ []) refl
+    (band_numbers_lem n samples columns places scratch x degree confidence tolerance) refl (past_among _ (band_past_number Curve n x x degree confidence tolerance (rows_of samples) sums))

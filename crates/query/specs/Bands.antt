@@ -4,7 +4,7 @@ use Rattle.basis.specs.Sizes.{sum_places}
 use Rattle.basis.specs.declared.Basis.TheVariants.{Curve}
 use Rattle.statistics.specs.declared.Confidence.{Confidence}
 use Rattle.statistics.specs.declared.Tolerance.{Tolerance}
-use Rattle.samples.specs.Samples.{Sample}
+use Rattle.samples.specs.declared.Sample.{Sample}
 use Rattle.samples.specs.Columns.{samples_of, Columns, lengths}
 use Rattle.monomial.specs.Rows.{rows_of}
 use Rattle.refusal.specs.Refusals.{settle}

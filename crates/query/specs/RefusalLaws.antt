@@ -9,7 +9,7 @@ use Rattle.statistics.specs.Degrees.{max_degree}
 use Rattle.statistics.specs.declared.Confidence.{Confidence}
 use Rattle.statistics.specs.declared.DegreeBound.{DegreeBound}
 use Rattle.statistics.specs.declared.Tolerance.{Tolerance}
-use Rattle.samples.specs.Samples.{Sample}
+use Rattle.samples.specs.declared.Sample.{Sample}
 use Rattle.refusal.specs.Refusals.{numbers_of, InOrder, those, is_among}
 use Rattle.refusal.specs.Laws.{numbered, first_none}
 use Rattle.refusal.specs.Rooms.{Room}

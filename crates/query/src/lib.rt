@@ -11,9 +11,10 @@ ghost use Rattle.measure.specs.Bands.{BandIs};
 ghost use Rattle.query.specs.Fits.{fit_out, validate_out};
 ghost use Rattle.query.specs.Bands.{band_out};
 
-use basis::{Basis, Degree, OptionDegree, SUMS};
+use basis::{Basis, Degree, SUMS};
 use book::Book;
-use measure::{BandAnswer, FitAnswer};
+use covariance::Band;
+use refusal::Refusal;
 use score::Criterion;
 use statistics::{Confidence, DegreeBound, Tolerance};
 
@@ -27,11 +28,11 @@ pub fn fit(
     sums: &[f64],
     scratch: &mut [f64],
     coefficients: &mut [f64],
-) -> FitAnswer
+) -> Result<Degree, Refusal>
     ensures { FitIs (fit_out book.count (columns_of xs.now ys.now ws.now) sums.now (before scratch) (before coefficients) degree.0) result (contents scratch) (contents coefficients) }
 {
     let n = book.count;
-    let refusal = refusals::fit_refusal(
+    refusals::check_fit(
         n,
         degree,
         xs,
@@ -40,10 +41,7 @@ pub fn fit(
         sums.len(),
         scratch.len(),
         coefficients.len(),
-    );
-    if refusal != 0 {
-        return FitAnswer::Refused(refusal);
-    }
+    )?;
     measure::solve_at(
         Basis::Curve,
         n,
@@ -69,11 +67,11 @@ pub fn validate(
     sums: &[f64],
     scratch: &mut [f64],
     coefficients: &mut [f64],
-) -> FitAnswer
+) -> Result<Degree, Refusal>
     ensures { FitIs (validate_out book.count (columns_of xs.now ys.now ws.now) sums.now (before scratch) (before coefficients) folds bound criterion) result (contents scratch) (contents coefficients) }
 {
     let n = book.count;
-    let refusal = refusals::validate_refusal(
+    refusals::check_validate(
         n,
         folds,
         bound,
@@ -83,15 +81,12 @@ pub fn validate(
         sums.len(),
         scratch.len(),
         coefficients.len(),
-    );
-    if refusal != 0 {
-        return FitAnswer::Refused(refusal);
-    }
+    )?;
     let most = statistics::max_degree(bound, n);
     let chosen = folds::choose_by_folds(xs, ys, ws, n, folds, most, criterion, &mut *scratch);
-    let OptionDegree::Some(degree) = chosen else {
+    let Some(degree) = chosen else {
         lent::clear(scratch, n);
-        return FitAnswer::Refused(11);
+        return Err(Refusal::NoneChosen);
     };
     measure::solve_at(
         Basis::Curve,
@@ -118,11 +113,11 @@ pub fn band(
     ws: &[f64],
     sums: &[f64],
     scratch: &mut [f64],
-) -> BandAnswer
+) -> Result<Band, Refusal>
     ensures { BandIs (band_out book.count x degree.0 confidence tolerance (columns_of xs.now ys.now ws.now) sums.now (before scratch)) result (contents scratch) }
 {
     let n = book.count;
-    let refusal = refusals::band_refusal(
+    refusals::check_band(
         n,
         x,
         degree,
@@ -133,10 +128,7 @@ pub fn band(
         ws,
         sums.len(),
         scratch.len(),
-    );
-    if refusal != 0 {
-        return BandAnswer::Refused(refusal);
-    }
+    )?;
     measure::band_of(
         Basis::Curve,
         n,

@@ -1,9 +1,8 @@
 -- Laws of a report's choice.
-use Rattle.std.specs.Prelude.{◌≡◌, true, List, ℕ, ◌≤◌, Float}
+use Rattle.std.specs.Prelude.{◌≡◌, true, List, ℕ, ◌≤◌, Float, Some}
 use Rattle.basis.specs.Counts.{count_of}
 use Rattle.basis.specs.declared.Basis.TheVariants.{Curve}
 use Rattle.basis.specs.declared.Degree.{Degree}
-use Rattle.basis.specs.declared.OptionDegree.TheVariants.{Some}
 use Rattle.statistics.specs.Degrees.{max_degree}
 use Rattle.monomial.specs.Rows.{Row}
 use Rattle.fit.specs.Solved.{is_solved}

@@ -2,7 +2,7 @@
 use Rattle.std.specs.Prelude.{List, ℕ, length, take, Float}
 use Rattle.basis.specs.Sizes.{sum_places}
 use Rattle.basis.specs.declared.Basis.TheVariants.{Curve}
-use Rattle.samples.specs.Samples.{Sample}
+use Rattle.samples.specs.declared.Sample.{Sample}
 use Rattle.samples.specs.Columns.{samples_of, Columns, lengths}
 use Rattle.monomial.specs.Rows.{Row, rows_of}
 use Rattle.refusal.specs.Refusals.{settle}

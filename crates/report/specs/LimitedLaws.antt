@@ -4,7 +4,7 @@ use Rattle.std.proofs.Common.{ap, arith}
 use Rattle.basis.specs.CountLaws.{curve_count}
 use Rattle.basis.specs.declared.Basis.TheVariants.{Curve}
 use Rattle.statistics.specs.Degrees.{max_degree}
-use Rattle.samples.specs.Samples.{Sample}
+use Rattle.samples.specs.declared.Sample.{Sample}
 use Rattle.monomial.specs.Rows.{Row, rows_of}
 use Rattle.fit.specs.Chosen.{choice_of}
 use Rattle.refusal.specs.Refusals.{settle}

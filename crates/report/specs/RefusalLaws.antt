@@ -2,7 +2,7 @@
 use Rattle.std.specs.Prelude.{◌≡◌, ℕ}
 use Rattle.std.proofs.Math.Path.{refl}
 use mathlib.Core.List.{List, [], ◌∷◌, Memᴰ}
-use Rattle.samples.specs.Samples.{Sample}
+use Rattle.samples.specs.declared.Sample.{Sample}
 use Rattle.refusal.specs.Refusals.{numbers_of, InOrder, those, is_among}
 use Rattle.refusal.specs.Laws.{numbered}
 use Rattle.settings.specs.declared.Settings.{Settings}

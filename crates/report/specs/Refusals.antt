@@ -2,8 +2,8 @@
 -- memory. Definitions only.
 use Rattle.std.specs.Prelude.{List, [], ◌∷◌, ℕ}
 use Rattle.basis.specs.Sizes.{max_terms, sum_places}
-use Rattle.samples.specs.Samples.{Sample}
-use Rattle.refusal.specs.Refusals.{Refusal, by, first_of}
+use Rattle.samples.specs.declared.Sample.{Sample}
+use Rattle.refusal.specs.Refusals.{Test, by, first_of}
 use Rattle.refusal.specs.Tests.{Needed, needed, too_short, no_samples}
 use Rattle.settings.specs.declared.Settings.{Settings}
 use Rattle.reporting.specs.declared.Places.{Places}
@@ -15,7 +15,7 @@ report_needs n sums p =
     needed sum_places sums ∷ needed n p.scratch ∷ needed max_terms p.coefficients ∷ needed max_terms p.errors ∷ needed max_terms p.pruned
     ∷ needed n p.lower ∷ needed n p.upper ∷ needed n p.outliers ∷ []
 
-abbrev pub report_tests : ℕ → Settings → List Sample → List ℕ → ℕ → Places → List Refusal
+abbrev pub report_tests : ℕ → Settings → List Sample → List ℕ → ℕ → Places → List Test
 report_tests n settings samples columns sums places =
     by (too_short n columns (report_needs n sums places)) 1 ∷ settings_tests n settings samples (no_samples n)
 

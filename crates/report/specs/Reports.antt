@@ -3,7 +3,7 @@ use Rattle.std.specs.Prelude.{List, ℕ, length, take, Float}
 use Rattle.basis.specs.Sizes.{sum_places}
 use Rattle.basis.specs.declared.Basis.TheVariants.{Curve}
 use Rattle.statistics.specs.Degrees.{max_degree}
-use Rattle.samples.specs.Samples.{Sample}
+use Rattle.samples.specs.declared.Sample.{Sample}
 use Rattle.samples.specs.Columns.{samples_of, Columns, lengths}
 use Rattle.monomial.specs.Rows.{Row, rows_of}
 use Rattle.fit.specs.Chosen.{choice_of, counts_of}
@@ -11,9 +11,8 @@ use Rattle.fit.specs.declared.Choice.{Choice}
 use Rattle.refusal.specs.Refusals.{settle}
 use Rattle.settings.specs.declared.Settings.{Settings}
 use Rattle.reporting.specs.declared.Places.{Places}
-use Rattle.reporting.specs.declared.ReportAnswer.{ReportAnswer}
 use Rattle.reporting.specs.Outputs.{LentOutputs, places_of}
-use Rattle.reporting.specs.Reports.{ReportOut, refused_early, report_of, Does}
+use Rattle.reporting.specs.Reports.{ReportAnswer, ReportOut, refused_early, report_of, Does}
 use Rattle.report.specs.Refusals.{report_refusal}
 
 -- A report's bound is `max_degree` for its setting and n, and its degrees run from 0 to the bound.

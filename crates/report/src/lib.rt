@@ -12,8 +12,9 @@ ghost use Rattle.report.specs.Limited.{WithinIs};
 
 use basis::{Basis, SUMS};
 use book::Book;
+use refusal::Refusal;
 pub use refusals::report_short;
-use reporting::{Counted, Places, ReportAnswer};
+use reporting::{Counted, Places, Report};
 use settings::Settings;
 
 // A report of the book within a limit of pivot tests. Nothing but scratch is written before 12 is ruled out.
@@ -45,15 +46,13 @@ pub fn report_within(
         upper: upper.len(),
         outliers: outliers.len(),
     };
-    let refusal = refusals::report_refusal(n, settings, xs, ys, ws, sums.len(), places);
-    if refusal != 0 {
+    if let Err(refusal) = refusals::check_report(n, settings, xs, ys, ws, sums.len(), places) {
         return Counted {
-            answer: ReportAnswer::Refused(refusal),
+            answer: Err(refusal),
             tests: 0,
         };
     }
-    let bound = settings.bound;
-    let last = statistics::max_degree(bound, n);
+    let last = statistics::max_degree(settings.bound, n);
     reporting::report_rows(
         Basis::Curve,
         n,
@@ -89,10 +88,10 @@ pub fn report(
     lower: &mut [f64],
     upper: &mut [f64],
     outliers: &mut [u8],
-) -> ReportAnswer
+) -> Result<Report, Refusal>
     ensures { ReportIs book.count settings (columns_of xs.now ys.now ws.now) sums.now result (outputs scratch coefficients errors pruned lower upper outliers) }
 {
-    let done = report_within(
+    report_within(
         book,
         settings,
         reporting::NO_LIMIT,
@@ -107,6 +106,6 @@ pub fn report(
         lower,
         upper,
         outliers,
-    );
-    done.answer
+    )
+    .answer
 }

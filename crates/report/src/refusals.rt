@@ -1,38 +1,39 @@
-// Refusals 1 to 9 of a report: the number of the first test that holds, 0 if none does.
-ghost use Rattle.std.specs.Prelude.{◌≡◌, [], ◌∷◌};
+// Refusals 1 to 9 of a report: the tests in checking order, of which the first that holds refuses.
+ghost use Rattle.std.specs.Prelude.{◌≡◌};
 ghost use Rattle.samples.specs.Columns.{samples_of, columns_of, lengths};
+ghost use Rattle.refusal.specs.Named.{judged, memories_of};
 ghost use Rattle.refusal.specs.Tests.{too_short};
-ghost use Rattle.lent.specs.Slices.{before};
 ghost use Rattle.report.specs.Refusals.{report_needs, report_refusal};
 
 use basis::{SUMS, TERMS};
-use reporting::Places;
+use refusal::{Refusal, too_short};
+use reporting::{Places, check_settings};
 use settings::Settings;
 
-// 1, of a report: the sums, and all that it writes.
-pub fn report_short(n: usize, xs: usize, ys: usize, ws: usize, sums: usize, p: Places) -> bool
-    ensures { result ≡ too_short n (xs ∷ ys ∷ ws ∷ []) (report_needs n sums p) }
+// The sums, and all that a report writes: of each memory, how many places it needs and how many are lent.
+fn report_memories(n: usize, sums: usize, p: Places) -> [(usize, usize); 8]
+    ensures { memories_of result ≡ report_needs n sums p }
 {
-    let bands = refusal::short(
-        n,
-        p.lower,
-        refusal::short(n, p.upper, refusal::short(n, p.outliers, false)),
-    );
-    let terms = refusal::short(
-        16,
-        p.coefficients,
-        refusal::short(TERMS, p.errors, refusal::short(TERMS, p.pruned, bands)),
-    );
-    refusal::too_short(
-        n,
-        xs,
-        ys,
-        ws,
-        refusal::short(SUMS, sums, refusal::short(n, p.scratch, terms)),
-    )
+    [
+        (SUMS, sums),
+        (n, p.scratch),
+        (TERMS, p.coefficients),
+        (TERMS, p.errors),
+        (TERMS, p.pruned),
+        (n, p.lower),
+        (n, p.upper),
+        (n, p.outliers),
+    ]
 }
 
-pub fn report_refusal(
+// 1, of a report.
+pub fn report_short(n: usize, columns: &[usize], sums: usize, p: Places) -> bool
+    ensures { result ≡ too_short n columns.now (report_needs n sums p) }
+{
+    too_short(n, columns, &report_memories(n, sums, p))
+}
+
+pub fn check_report(
     n: usize,
     settings: Settings,
     xs: &[f64],
@@ -40,11 +41,9 @@ pub fn report_refusal(
     ws: &[f64],
     sums: usize,
     places: Places,
-) -> u8
-    ensures { result ≡ report_refusal n settings (samples_of n (columns_of xs.now ys.now ws.now)) (lengths (columns_of xs.now ys.now ws.now)) sums places }
+) -> Result<(), Refusal>
+    ensures { result ≡ judged (report_refusal n settings (samples_of n (columns_of xs.now ys.now ws.now)) (lengths (columns_of xs.now ys.now ws.now)) sums places) }
 {
-    if report_short(n, xs.len(), ys.len(), ws.len(), sums, places) {
-        return 1;
-    }
-    reporting::settings_refusal(n, settings, xs, ys, ws, n == 0)
+    let memories = report_memories(n, sums, places);
+    check_settings(n, settings, xs, ys, ws, &memories, n == 0)
 }

@@ -1,5 +1,6 @@
 -- What a report within a limit comes to past 1 to 9: refused by 16, refused by 11 or 12, or written.
-use mathlib.Core.Path.{◌≡◌, refl, sym, ap, ◌∙◌}
+use Rattle.std.specs.Prelude.{Ok, Err}
+use mathlib.Core.Path.{◌≡◌, refl, ap, ◌∙◌}
 use mathlib.Core.List.{List, ◌++◌}
 use Prim.Native.Nat.{ℕ, ◌≤◌, ◌<◌}
 use borrow.Author.Tests.{lt-ltb}
@@ -8,7 +9,6 @@ use lib.Ieee.{Float}
 use Rattle.basis.specs.Counts.{count_of}
 use Rattle.basis.specs.CountLaws.{count_mono}
 use Rattle.basis.specs.declared.Basis.{Basis}
-use Rattle.basis.specs.declared.OptionDegree.TheVariants.{Some}
 use Rattle.monomial.specs.Rows.{Row}
 use Rattle.fit.specs.Chosen.{choice_of, counts_of}
 use Rattle.fit.specs.declared.Choice.{Choice}
@@ -16,11 +16,13 @@ use Rattle.score.specs.declared.Criterion.{Criterion}
 use Rattle.lent.specs.Written.{zeros}
 use Rattle.lent.specs.WrittenLaws.{over_cleared}
 use Rattle.settings.specs.declared.Settings.{Settings}
+use Rattle.refusal.specs.declared.refusals.Refusal.{Refusal}
+use Rattle.refusal.specs.Named.{refused_by}
+use Rattle.reporting.specs.declared.Found.{Found}
 use Rattle.reporting.specs.declared.Chosen.{Chosen}
-use Rattle.reporting.specs.declared.ReportAnswer.{ReportAnswer}
-use Rattle.reporting.specs.declared.ReportAnswer.TheVariants as answers
+use Rattle.reporting.specs.declared.Report.{Report}
 use Rattle.reporting.specs.Chosen.{chosen_refusal, Chooses}
-use Rattle.reporting.specs.ChosenLaws.{last_solved}
+use Rattle.reporting.specs.ChosenLaws.{last_solved, none_found, one_found}
 use Rattle.reporting.specs.Limited.{limited_of, DoesWithin}
 use Rattle.reporting.specs.LimitedLaws.{within_limit}
 use Rattle.reporting.specs.Outputs.{Outputs}
@@ -36,7 +38,7 @@ with_scratch w t =
 module _ (basis : Basis) (n : ℕ) (settings : Settings) (limit : ℕ) (rows : List Row) (sums : List Float) (o : Choice) (w : Outputs) (m : Chosen) (u : List Float)
     (ch : Chooses basis o n rows sums w.scratch u m) where
   -- scratch is cleared, and nothing else written
-  late : (k : ℕ) (t : List Float) → t ≡ zeros n ++ drop n u → Does (refused_late n k) (answers.Refused k) (record { found = w; left = with_scratch w t })
+  late : (k : ℕ) (t : List Float) → t ≡ zeros n ++ drop n u → Does (refused_late n k) (refused_by k) (record { found = w; left = with_scratch w t })
   late k t cleared =
       let q = over_cleared n w.scratch u t ch.within cleared in
       record { answer = refl; outputs = λ i. with_scratch w (q i) }
@@ -46,7 +48,7 @@ module _ (basis : Basis) (n : ℕ) (settings : Settings) (limit : ℕ) (rows : L
 
   -- 16
   pub over_limit : limit < m.choice.tests → (t : List Float) → t ≡ zeros n ++ drop n u
-      → DoesWithin (limited_of basis n settings limit rows sums o) (record { answer = answers.Refused 16; tests = 0 }) (record { found = w; left = with_scratch w t })
+      → DoesWithin (limited_of basis n settings limit rows sums o) (record { answer = refused_by 16; tests = 0 }) (record { found = w; left = with_scratch w t })
   unfolding limited_of
   over_limit h t cleared =
       let l : limit < o.tests = rw same_tests at h in
@@ -58,43 +60,45 @@ module _ (basis : Basis) (n : ℕ) (settings : Settings) (limit : ℕ) (rows : L
     enough = rw same_tests at within
 
     -- 11 or 12
-    pub limited_late : (m.number ≡ 0 → ⊥) → (t : List Float) → t ≡ zeros n ++ drop n u
-        → DoesWithin (limited_of basis n settings limit rows sums o) (record { answer = answers.Refused m.number; tests = m.choice.tests })
-        (record { found = w; left = with_scratch w t })
+    pub limited_late : {e : Refusal} → m.found ≡ Err e → (t : List Float) → t ≡ zeros n ++ drop n u
+        → DoesWithin (limited_of basis n settings limit rows sums o) (record { answer = Err e; tests = m.choice.tests }) (record { found = w; left = with_scratch w t })
     limited_late h t cleared =
-        rw (within_limit basis n settings limit rows sums o enough, late_refused basis n settings rows sums o.solved o.chosen m.number ch.number h)
-        (record { does = late m.number t cleared; taken = same_tests })
+        let k = chosen_refusal basis o.chosen sums in
+        let q = none_found basis rows sums o.chosen ch.found h in
+        rw (within_limit basis n settings limit rows sums o enough, late_refused basis n settings rows sums o.solved o.chosen k refl q.0, q.1)
+        (record { does = late k t cleared; taken = same_tests })
 
     -- what is answered of the chosen degree
-    whole_chosen : m.number ≡ 0
-        → report_of basis n settings rows sums o.solved o.chosen ≡ written_by basis n settings rows m.degree.0 m.choice.solved m.c m.covariance
-    whole_chosen h =
-        let d = ch.degree h in
-        let z : chosen_refusal basis (Some m.degree) sums ≡ 0 = ap (λ e. chosen_refusal basis e sums) (sym d) ∙ sym ch.number ∙ h in
-        let s : m.choice.solved ≡ o.solved = ap (λ (a : Choice). a.solved) ch.choice in
-        rw (d, ← s, ch.coefficients h, ch.covariance h) (chosen_whole basis n settings rows sums m.choice.solved m.degree z)
+    module _ {f : Found} (h : m.found ≡ Ok f) where
+      whole_chosen : report_of basis n settings rows sums o.solved o.chosen ≡ written_by basis n settings rows f.degree.0 m.choice.solved f.measured.c f.measured.covariance
+      whole_chosen =
+          let d = one_found basis rows sums o.chosen ch.found h in
+          let s : m.choice.solved ≡ o.solved = ap (λ (a : Choice). a.solved) ch.choice in
+          rw (d.0, ← s, d.2, d.3) (chosen_whole basis n settings rows sums m.choice.solved f.degree d.1)
 
-    -- the report is written
-    pub limited_whole : m.number ≡ 0 → (a : ReportAnswer) (w' : Outputs)
-        → Does (written_by basis n settings rows m.degree.0 m.choice.solved m.c m.covariance) a (record { found = with_scratch w u; left = w' })
-        → DoesWithin (limited_of basis n settings limit rows sums o) (record { answer = a; tests = m.choice.tests }) (record { found = w; left = w' })
-    limited_whole h a w' d =
-        let v = written_by basis n settings rows m.degree.0 m.choice.solved m.c m.covariance in
-        rw (within_limit basis n settings limit rows sums o enough, whole_chosen h)
-        (record {
-          does =
-              record {
-                answer = d.answer;
-                outputs =
-                    d.outputs ∙ used_scratch n w.scratch u ch.within v.written w (written_scratch basis n settings rows m.degree.0 m.choice.solved m.c m.covariance);
-              };
-          taken = same_tests;
-        })
+      -- the report is written
+      pub limited_whole : (a : Report) (w' : Outputs)
+          → Does (written_by basis n settings rows f.degree.0 m.choice.solved f.measured.c f.measured.covariance) (Ok a) (record { found = with_scratch w u; left = w' })
+          → DoesWithin (limited_of basis n settings limit rows sums o) (record { answer = Ok a; tests = m.choice.tests }) (record { found = w; left = w' })
+      limited_whole a w' d =
+          let v = written_by basis n settings rows f.degree.0 m.choice.solved f.measured.c f.measured.covariance in
+          rw (within_limit basis n settings limit rows sums o enough, whole_chosen)
+          (record {
+            does =
+                record {
+                  answer = d.answer;
+                  outputs =
+                      d.outputs
+                      ∙ used_scratch n w.scratch u ch.within v.written w (written_scratch basis n settings rows f.degree.0 m.choice.solved f.measured.c f.measured.covariance);
+                };
+            taken = same_tests;
+          })
 
 -- the degree that a report is written of is at most the last one tried, and has no more terms
 pub chosen_fits : (basis : Basis) (criterion : Criterion) (n last : ℕ) (rows : List Row) (sums s t : List Float) (m : Chosen)
-    → Chooses basis (choice_of criterion sums rows (counts_of basis last)) n rows sums s t m → m.number ≡ 0
-    → (m.degree.0 ≤ last) × (count_of basis m.degree.0 ≤ count_of basis last)
-chosen_fits basis criterion n last rows sums s t m w z =
-    let d = last_solved basis criterion rows sums last m.degree (w.degree z) in
-    (d.0, count_mono basis m.degree.0 last d.0)
+    → Chooses basis (choice_of criterion sums rows (counts_of basis last)) n rows sums s t m → {f : Found} → m.found ≡ Ok f
+    → (f.degree.0 ≤ last) × (count_of basis f.degree.0 ≤ count_of basis last)
+chosen_fits basis criterion n last rows sums s t m w {f} z =
+    let o = one_found basis rows sums _ w.found z in
+    let d = last_solved basis criterion rows sums last f.degree o.0 in
+    (d.0, count_mono basis f.degree.0 last d.0)

@@ -1,12 +1,11 @@
 -- What a report comes to past 1 to 9: refused by 11 or 12, or written.
+use Rattle.std.specs.Prelude.{Option, Some}
 use mathlib.Core.Path.{◌≡◌, refl, sym, ap, ◌∙◌}
 use mathlib.Core.List.{List}
 use Prim.Native.Nat.{ℕ}
 use lib.Ieee.{Float}
 use Rattle.basis.specs.Counts.{count_of}
 use Rattle.basis.specs.declared.Basis.{Basis}
-use Rattle.basis.specs.declared.OptionDegree.{OptionDegree}
-use Rattle.basis.specs.declared.OptionDegree.TheVariants.{Some}
 use Rattle.basis.specs.declared.Degree.{Degree}
 use Rattle.monomial.specs.Rows.{Row}
 use Rattle.solve.specs.Solve.{solve}
@@ -22,7 +21,7 @@ use Rattle.reporting.specs.Reports.{refused_late, written_by, report_of}
 
 module _ (basis : Basis) (n : ℕ) (settings : Settings) (rows : List Row) (sums : List Float) (solved : ℕ) where
   -- a number that is not 0 is what the report is refused by
-  pub late_refused : (o : OptionDegree) (r : ℕ) → r ≡ chosen_refusal basis o sums → (r ≡ 0 → ⊥) → report_of basis n settings rows sums solved o ≡ refused_late n r
+  pub late_refused : (o : Option Degree) (r : ℕ) → r ≡ chosen_refusal basis o sums → (r ≡ 0 → ⊥) → report_of basis n settings rows sums solved o ≡ refused_late n r
   unfolding report_of
   late_refused = of_late basis sums (refused_late n) _
 

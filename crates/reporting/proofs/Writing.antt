@@ -1,12 +1,10 @@
 -- What the writes of a report come to.
 use mathlib.Core.Path.{◌≡◌, ap, ap₂, ◌∙◌}
 use mathlib.Core.List.{List, ◌++◌, map}
-use Prim.Native.Nat.{ℕ, ◌≤◌}
-use native.Mathlib.Omega.{arith}
-use lib.ListN.{length, take, drop, replicate, length-map, length-replicate}
-use lib.Seq.{length-take-le}
+use Prim.Native.Nat.{ℕ}
+use lib.ListN.{length, take, drop, length-map, length-replicate}
 use lib.Ieee.{Float}
-use Rattle.loops.specs.PlaceLaws.{length_each, length_table}
+use Rattle.loops.specs.PlaceLaws.{length_table}
 use Rattle.value.specs.Numbers.{zero_f}
 use Rattle.statistics.specs.Scores.{z_score, t_score, degrees_of_freedom}
 use Rattle.statistics.specs.Variances.{stddev_and_mean}
@@ -23,16 +21,12 @@ use Rattle.measure.specs.Places.{term_places}
 use Rattle.lent.specs.Written.{over, zeros}
 use Rattle.lent.specs.WrittenLaws.{over_by}
 use Rattle.settings.specs.declared.Settings.{Settings}
-use Rattle.reporting.specs.declared.ReportAnswer.TheVariants as answers
+use Rattle.std.specs.Prelude.{Ok}
 use Rattle.reporting.specs.Outputs.{Outputs}
 use Rattle.reporting.specs.Reports.{Does, written_by}
 
-length_errors : (k : ℕ) (v : List Float) → length (errors_of k v) ≡ 16
-unfolding errors_of
-length_errors k v = length_each _ k (replicate 16 zero_f) ∙ length-replicate 16 zero_f
-
-module _ (basis : Basis) (n : ℕ) (settings : Settings) (rows : List Row) (degree solved : ℕ) (c v : List Float) (sized : length c ≡ 16)
-    (m : ℕ) (em : m ≡ term_places basis) (most : m ≤ 16) (k : ℕ) (ek : k ≡ count_of basis degree) (counted : length rows ≡ n)
+module _ (basis : Basis) (n : ℕ) (settings : Settings) (rows : List Row) (degree solved : ℕ) (c v : List Float)
+    (m : ℕ) (em : m ≡ term_places basis) (k : ℕ) (ek : k ≡ count_of basis degree) (counted : length rows ≡ n)
     (t z sd : Float) (e : List Float) (et : t ≡ t_score settings.confidence (degrees_of_freedom n k))
     (ez : z ≡ z_score settings.confidence) (es : DoesFor settings.tolerance sd (stddev_and_mean (ys_in rows)).stddev) (ee : e ≡ errors_of k v) where
   -- a value of each sample was written
@@ -42,11 +36,11 @@ module _ (basis : Basis) (n : ℕ) (settings : Settings) (rows : List Row) (degr
   pub writes_is : (marks terms : ℕ) (w w' : Outputs)
       → marks ≡ ones (outliers_of k c v settings.tolerance z sd rows) → terms ≡ ones (pruned_bytes m settings.pruning k c e t)
       → w'.scratch ≡ zeros n ++ drop n w.scratch
-      → w'.coefficients ≡ take m c ++ drop m w.coefficients → w'.errors ≡ take m e ++ drop m w.errors → w'.pruned ≡ pruned_bytes m settings.pruning k c e t ++ drop m w.pruned
+      → w'.coefficients ≡ over (take m c) w.coefficients → w'.errors ≡ over (take m e) w.errors → w'.pruned ≡ pruned_bytes m settings.pruning k c e t ++ drop m w.pruned
       → w'.lower ≡ lowers_of k c v settings.tolerance z sd rows ++ drop n w.lower
       → w'.upper ≡ uppers_of k c v settings.tolerance z sd rows ++ drop n w.upper
       → w'.outliers ≡ outliers_of k c v settings.tolerance z sd rows ++ drop n w.outliers
-      → Does (written_by basis n settings rows degree solved c v) (answers.Report (record { 0 = degree }) solved marks terms) (record { found = w; left = w' })
+      → Does (written_by basis n settings rows degree solved c v) (Ok (record { degree = record { 0 = degree }; solved = solved; outliers = marks; pruned = terms })) (record { found = w; left = w' })
   unfolding written_by
   writes_is marks terms w w' hm ht hs hc he hp hl hu hb =
       let own = (stddev_and_mean (ys_in rows)).stddev in
@@ -56,11 +50,11 @@ module _ (basis : Basis) (n : ℕ) (settings : Settings) (rows : List Row) (degr
       let oo = same_outlier k c v z tolerance sd own es in
       rw (← em, ← ek, ← et, ← ez, ← ee)
       (record {
-        answer = ap₂ (λ o p. answers.Report (record { 0 = degree }) solved o p) (hm ∙ ap (λ f. ones (map f rows)) oo) ht;
+        answer = ap₂ (λ o p. Ok (record { degree = record { 0 = degree }; solved = solved; outliers = o; pruned = p })) (hm ∙ ap (λ f. ones (map f rows)) oo) ht;
         outputs = λ i. record {
           scratch = over_by n (zeros n) w.scratch w'.scratch (length-replicate n zero_f) hs i;
-          coefficients = over_by m (take m c) w.coefficients w'.coefficients (length-take-le m c (omega (arith, sized))) hc i;
-          errors = over_by m (take m e) w.errors w'.errors (length-take-le m e (omega (arith, ap length ee ∙ length_errors k v))) he i;
+          coefficients = hc i;
+          errors = he i;
           pruned = over_by m (pruned_bytes m settings.pruning k c e t) w.pruned w'.pruned (length_table (pruned_at settings.pruning k c e t) m) hp i;
           lower = rows_over (lower_of k c v tolerance z own) w.lower w'.lower (hl ∙ ap (λ f. map f rows ++ drop n w.lower) ol) i;
           upper = rows_over (upper_of k c v tolerance z own) w.upper w'.upper (hu ∙ ap (λ f. map f rows ++ drop n w.upper) ou) i;

@@ -1,33 +1,39 @@
 -- What is chosen among the degrees to try, and measured, for rows of any basis. Definitions only.
-use Rattle.std.specs.Prelude.{◌≡◌, cond, List, ℕ, Float}
+use Rattle.std.specs.Prelude.{◌≡◌, cond, List, ℕ, Float, Option, Some, None, Result, Ok}
 use Rattle.loops.specs.Within.{Within}
 use Rattle.basis.specs.Counts.{count_of}
 use Rattle.basis.specs.declared.Basis.{Basis}
 use Rattle.basis.specs.declared.Degree.{Degree}
-use Rattle.basis.specs.declared.OptionDegree.{OptionDegree}
-use Rattle.basis.specs.declared.OptionDegree.TheVariants.{Some, None}
 use Rattle.monomial.specs.Rows.{Row}
 use Rattle.solve.specs.Solve.{solve}
 use Rattle.fit.specs.declared.Choice.{Choice}
+use Rattle.refusal.specs.declared.refusals.Refusal.{Refusal}
+use Rattle.refusal.specs.Named.{refused_by}
 use Rattle.measure.specs.Measures.{inverse_fails, covariance_at}
+use Rattle.reporting.specs.declared.Found.{Found}
 use Rattle.reporting.specs.declared.Chosen.{Chosen}
 
 -- 11: no degree is chosen; 12: an inverse pivot fails
-unfoldable pub chosen_refusal : Basis → OptionDegree → List Float → ℕ
+unfoldable pub chosen_refusal : Basis → Option Degree → List Float → ℕ
 chosen_refusal basis None sums = 11
 chosen_refusal basis (Some d) sums = cond (inverse_fails sums (count_of basis d.0)) 12 0
 
 -- what a call makes of the chosen degree or none, past refusals 1 to 9: it is refused by 11 if no degree is chosen, by 12 if an inverse pivot fails, and else
 -- told of the chosen degree
-abbrev pub of_chosen : {A : Type 0} → Basis → List Float → (ℕ → A) → (Degree → A) → OptionDegree → A
+abbrev pub of_chosen : {A : Type 0} → Basis → List Float → (ℕ → A) → (Degree → A) → Option Degree → A
 of_chosen basis sums late told None = late 11
 of_chosen basis sums late told (Some d) = cond (inverse_fails sums (count_of basis d.0)) (late 12) (told d)
 
+-- what is found of it: the coefficients of the chosen degree and their covariance, or the refusal
+abbrev pub found_of : Basis → List Row → List Float → Option Degree → Result Found Refusal
+found_of basis rows sums o =
+    of_chosen basis sums refused_by
+    (λ d.
+    let k = count_of basis d.0 in
+    Ok (record { degree = d; measured = record { c = (solve sums k).c; covariance = covariance_at sums rows k } })) o
+
 -- the promise of the code's choice: r, where the choice is o, and scratch s before and t after
 pub record Chooses (basis : Basis) (o : Choice) (n : ℕ) (rows : List Row) (sums s t : List Float) (r : Chosen) : Type 0 where
-  pub number : r.number ≡ chosen_refusal basis o.chosen sums
   pub choice : r.choice ≡ o
-  pub degree : r.number ≡ 0 → o.chosen ≡ Some r.degree
-  pub coefficients : r.number ≡ 0 → r.c ≡ (solve sums (count_of basis r.degree.0)).c
-  pub covariance : r.number ≡ 0 → r.covariance ≡ covariance_at sums rows (count_of basis r.degree.0)
+  pub found : r.found ≡ found_of basis rows sums o.chosen
   pub within : Within n s t

@@ -1,5 +1,5 @@
 -- Laws of a report within a limit: no report makes more than 256 pivot tests, within such a limit it is the report, and no report past the limit is refused by 16.
-use Rattle.std.specs.Prelude.{◌≡◌, refl, Bool, true, false, cond, List, Float}
+use Rattle.std.specs.Prelude.{◌≡◌, refl, Bool, true, false, cond, List, Float, Option, Some, None}
 use Rattle.std.proofs.Math.Path.{ap}
 use Rattle.std.proofs.Common.{◌∙◌, mul-le-mul_right, le-ltb}
 use Prim.Native.Nat.{ℕ, zero, suc, ◌+◌, ◌*◌, ◌≤◌, ◌<◌}
@@ -8,21 +8,21 @@ use Rattle.loops.specs.Fold.{fold}
 use Rattle.loops.specs.FoldLaws.{fold_table}
 use Rattle.loops.specs.Places.{table}
 use Rattle.loops.specs.PlaceLaws.{map_table}
+use Rattle.basis.specs.declared.Degree.{Degree}
 use Rattle.basis.specs.Counts.{count_of}
 use Rattle.basis.specs.CountLaws.{count_mono}
 use Rattle.basis.specs.declared.Basis.{Basis}
-use Rattle.basis.specs.declared.OptionDegree.{OptionDegree}
-use Rattle.basis.specs.declared.OptionDegree.TheVariants.{Some, None}
 use Rattle.monomial.specs.Rows.{Row}
 use Rattle.fit.specs.Chosen.{counts_of, tests_of}
 use Rattle.fit.specs.Solved.{pivot_tests}
 use Rattle.fit.specs.declared.Choice.{Choice}
+use Rattle.refusal.specs.Named.{number_of}
 use Rattle.measure.specs.Measures.{inverse_fails}
 use Rattle.settings.specs.declared.Settings.{Settings}
 use Rattle.reporting.specs.Limited.{limited_of}
 use Rattle.reporting.specs.Chosen.{chosen_refusal}
 use Rattle.reporting.specs.ChosenLaws.{of_number}
-use Rattle.reporting.specs.Reports.{report_number, refused_late, written_by, report_of}
+use Rattle.reporting.specs.Reports.{refused_late, written_by, report_of}
 
 at_most : (sums : List Float) (k : ℕ) → pivot_tests sums k ≤ k
 unfolding pivot_tests
@@ -60,19 +60,19 @@ within_limit basis n settings limit rows sums choice h = rw (le-ltb limit choice
 -- ---- a report's number past 1 to 9
 
 written_number : (basis : Basis) (n : ℕ) (settings : Settings) (rows : List Row) (degree solved : ℕ) (c v : List Float)
-    → report_number (written_by basis n settings rows degree solved c v).answer ≡ 0
+    → number_of (written_by basis n settings rows degree solved c v).answer ≡ 0
 unfolding written_by
 written_number basis n settings rows degree solved c v = refl
 
 -- it is that of the choice,
-pub report_number_lem : (basis : Basis) (n : ℕ) (settings : Settings) (rows : List Row) (sums : List Float) (solved : ℕ) (o : OptionDegree)
-    → report_number (report_of basis n settings rows sums solved o).answer ≡ chosen_refusal basis o sums
+pub report_number_lem : (basis : Basis) (n : ℕ) (settings : Settings) (rows : List Row) (sums : List Float) (solved : ℕ) (o : Option Degree)
+    → number_of (report_of basis n settings rows sums solved o).answer ≡ chosen_refusal basis o sums
 unfolding report_of
 report_number_lem basis n settings rows sums solved =
-    of_number basis sums (refused_late n) _ (λ w. report_number w.answer) (λ r. refl) (λ d. written_number basis n settings rows d.0 solved _ _)
+    of_number basis sums (refused_late n) _ (λ w. number_of w.answer) refl refl (λ d. written_number basis n settings rows d.0 solved _ _)
 
 -- which is never 16
-pub chosen_not_16 : (basis : Basis) (o : OptionDegree) (sums : List Float) → chosen_refusal basis o sums ≡ 16 → ⊥
+pub chosen_not_16 : (basis : Basis) (o : Option Degree) (sums : List Float) → chosen_refusal basis o sums ≡ 16 → ⊥
 unfolding chosen_refusal
 chosen_not_16 basis None sums e = omega arith
 chosen_not_16 basis (Some d) sums e = go (inverse_fails sums (count_of basis d.0)) e

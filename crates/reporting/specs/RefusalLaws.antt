@@ -4,7 +4,7 @@ use Rattle.std.proofs.Common.{arith, ltb-false}
 use Rattle.std.proofs.lemmas.Bool.{eqb-false}
 use Rattle.basis.specs.Sizes.{highest_degree}
 use Rattle.statistics.specs.Degrees.{max_degree}
-use Rattle.samples.specs.Samples.{Sample}
+use Rattle.samples.specs.declared.Sample.{Sample}
 use Rattle.refusal.specs.Refusals.{by, first_of}
 use Rattle.refusal.specs.Laws.{first_none}
 use Rattle.refusal.specs.Tests.{Needed, too_short, no_samples}

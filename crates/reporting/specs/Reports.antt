@@ -1,8 +1,8 @@
 -- A report of the chosen degree: what it answers and writes, from rows and sums, of a curve and of a surface. Definitions only.
-use Rattle.std.specs.Prelude.{◌≡◌, List, ℕ, take, Float}
+use Rattle.std.specs.Prelude.{◌≡◌, List, ℕ, take, Float, Option, Result, Ok}
+use Rattle.basis.specs.declared.Degree.{Degree}
 use Rattle.basis.specs.Counts.{count_of}
 use Rattle.basis.specs.declared.Basis.{Basis}
-use Rattle.basis.specs.declared.OptionDegree.{OptionDegree}
 use Rattle.statistics.specs.Scores.{z_score, t_score, degrees_of_freedom}
 use Rattle.statistics.specs.Variances.{stddev_and_mean}
 use Rattle.monomial.specs.Rows.{Row, ys_in}
@@ -15,20 +15,20 @@ use Rattle.measure.specs.Places.{term_places}
 use Rattle.measure.specs.Measures.{covariance_at}
 use Rattle.lent.specs.Written.{zeros}
 use Rattle.settings.specs.declared.Settings.{Settings}
-use Rattle.reporting.specs.declared.ReportAnswer.{ReportAnswer}
-use Rattle.reporting.specs.declared.ReportAnswer.TheVariants as answers
+use Rattle.refusal.specs.declared.refusals.Refusal.{Refusal}
+use Rattle.refusal.specs.Named.{refused_by}
+use Rattle.reporting.specs.declared.Report.{Report}
 use Rattle.reporting.specs.Chosen.{of_chosen}
 use Rattle.reporting.specs.Outputs.{Outputs, LentOutputs, nothing, scratch_alone, over_all}
+
+-- what the call answers: the report, or a refusal
+abbrev pub ReportAnswer : Type 0
+ReportAnswer = Result Report Refusal
 
 -- the answer, and the values written
 pub record ReportOut : Type 0 where
   pub answer : ReportAnswer
   pub written : Outputs
-
--- document 01's number of an answer: 0 where it is a report
-abbrev pub report_number : ReportAnswer → ℕ
-report_number (answers.Report d s o p) = 0
-report_number (answers.Refused k) = k
 
 -- Report returns degree, number of solved degrees, outliers and pruned terms. It writes unpruned coefficients and errors (16 places each, of a surface 15,
 -- +0 from k on), as many pruning bytes (1 pruned, else 0), and per sample lower, upper and an outlier byte; scratch ends as +0 in its first n places. Bands
@@ -44,7 +44,7 @@ written_by basis n settings rows degree solved c v =
     let pruned = pruned_bytes m settings.pruning k c e (t_score settings.confidence (degrees_of_freedom n k)) in
     let outliers = outliers_of k c v settings.tolerance z sd rows in
     record {
-      answer = answers.Report (record { 0 = degree }) solved (ones outliers) (ones pruned);
+      answer = Ok (record { degree = record { 0 = degree }; solved = solved; outliers = ones outliers; pruned = ones pruned });
       written =
           record {
             scratch = zeros n;
@@ -59,14 +59,14 @@ written_by basis n settings rows degree solved c v =
 
 -- refused by 11 or 12: nothing but scratch is written
 abbrev pub refused_late : ℕ → ℕ → ReportOut
-refused_late n r = record { answer = answers.Refused r; written = scratch_alone n }
+refused_late n r = record { answer = refused_by r; written = scratch_alone n }
 
 -- refused by 1 to 9: nothing is written
 abbrev pub refused_early : ℕ → ReportOut
-refused_early r = record { answer = answers.Refused r; written = nothing }
+refused_early r = record { answer = refused_by r; written = nothing }
 
 -- past refusals 1 to 9, of the chosen degree or none: 11 if no degree is chosen, 12 if an inverse pivot fails, else the report of the chosen degree
-unfoldable pub report_of : Basis → ℕ → Settings → List Row → List Float → ℕ → OptionDegree → ReportOut
+unfoldable pub report_of : Basis → ℕ → Settings → List Row → List Float → ℕ → Option Degree → ReportOut
 report_of basis n settings rows sums solved o =
     of_chosen basis sums (refused_late n)
     (λ d.

@@ -4,7 +4,7 @@
 
 mod refusals;
 
-ghost use Rattle.std.specs.Prelude.{◌+◌, ◌≤◌, length};
+ghost use Rattle.std.specs.Prelude.{◌≤◌, length, Ok};
 ghost use Rattle.basis.specs.Sizes.{highest_degree, max_terms, sum_places};
 ghost use Rattle.basis.specs.Counts.{count_of};
 ghost use Rattle.monomial.specs.Rows.{rows_at};
@@ -16,9 +16,11 @@ ghost use Rattle.reporting.specs.Outputs.{outputs};
 ghost use Rattle.reporting.specs.Reports.{Does, written_by};
 ghost use Rattle.reporting.specs.Limited.{DoesWithin, limited_up_to};
 
-use basis::{Basis, Degree, MATRIX, OptionDegree, TERMS};
+use basis::{Basis, Degree};
 use fit::Choice;
-pub use refusals::settings_refusal;
+use measure::Measured;
+use refusal::Refusal;
+pub use refusals::check_settings;
 use score::Criterion;
 use settings::Settings;
 
@@ -34,16 +36,13 @@ pub struct Places {
     pub outliers: usize,
 }
 
-// What a report answers: the chosen degree, the number of solved degrees, of outliers and of pruned terms; or the number of a refusal.
+// What a report answers: the chosen degree, the number of solved degrees, of outliers and of pruned terms.
 #[derive(Clone, Copy)]
-pub enum ReportAnswer {
-    Report {
-        degree: Degree,
-        solved: usize,
-        outliers: usize,
-        pruned: usize,
-    },
-    Refused(u8),
+pub struct Report {
+    pub degree: Degree,
+    pub solved: usize,
+    pub outliers: usize,
+    pub pruned: usize,
 }
 
 // More pivot tests than any report makes: 16 degrees of at most 16 terms.
@@ -52,18 +51,22 @@ pub const NO_LIMIT: usize = 256;
 // What a report within a limit answers, and the pivot tests that it takes: none where it is refused by 1 to 9 or by 16.
 #[derive(Clone, Copy)]
 pub struct Counted {
-    pub answer: ReportAnswer,
+    pub answer: Result<Report, Refusal>,
     pub tests: usize,
 }
 
-// The choice, with the coefficients of the chosen degree and their covariance. A number other than 0 is that of a refusal, 11 or 12.
+// A chosen degree, with its coefficients and their covariance.
+#[derive(Clone, Copy)]
+pub struct Found {
+    pub degree: Degree,
+    pub measured: Measured,
+}
+
+// The choice, and what it found; or the refusal, 11 or 12.
 #[derive(Clone, Copy)]
 pub struct Chosen {
-    pub number: u8,
     pub choice: Choice,
-    pub degree: Degree,
-    pub c: [f64; TERMS],
-    pub covariance: [f64; MATRIX],
+    pub found: Result<Found, Refusal>,
 }
 
 // Chooses among the degrees 0 to the last one, solves the chosen one again and measures it. Of scratch, only the first n places change.
@@ -82,29 +85,17 @@ pub fn choose(
     ensures { Chooses basis (choice_of criterion sums.now (rows_at basis n xs.now zs.now ys.now) (counts_of basis last.0)) n (rows_at basis n xs.now zs.now ys.now) sums.now (before scratch) (after scratch) result }
 {
     let choice = fit::choose(basis, xs, zs, ys, n, sums, last, criterion, &mut *scratch);
-    let chosen = choice.chosen;
-    match chosen {
-        OptionDegree::None => Chosen {
-            number: 11,
-            choice,
-            degree: Degree(0),
-            c: [0.0; TERMS],
-            covariance: [0.0; MATRIX],
-        },
-        OptionDegree::Some(degree) => {
+    let found = match choice.chosen {
+        None => Err(Refusal::NoneChosen),
+        Some(degree) => {
             let k = degree.k(basis);
-            let m = measure::measure(basis, xs, zs, ys, n, sums, k, &mut *scratch);
-            let c = m.c;
-            let covariance = m.covariance;
-            Chosen {
-                number: m.number,
-                choice,
+            measure::measure(basis, xs, zs, ys, n, sums, k, scratch).map(|measured| Found {
                 degree,
-                c,
-                covariance,
-            }
+                measured,
+            })
         }
-    }
+    };
+    Chosen { choice, found }
 }
 
 // Writes what a report of this degree writes, and answers it.
@@ -112,10 +103,8 @@ pub fn write(
     basis: Basis,
     n: usize,
     settings: Settings,
-    degree: Degree,
+    found: Found,
     solved: usize,
-    c: [f64; TERMS],
-    v: [f64; MATRIX],
     xs: &[f64],
     zs: &[f64],
     ys: &[f64],
@@ -126,29 +115,31 @@ pub fn write(
     lower: &mut [f64],
     upper: &mut [f64],
     outliers: &mut [u8],
-) -> ReportAnswer
-    requires n_in_bounds { (n ≤ length xs.now) × (n ≤ length zs.now) × (n ≤ length ys.now) × (degree.0 ≤ highest_degree) × (count_of basis degree.0 ≤ n) × (count_of basis degree.0 ≤ max_terms) }
+) -> Report
+    requires n_in_bounds { (n ≤ length xs.now) × (n ≤ length zs.now) × (n ≤ length ys.now) × (found.degree.0 ≤ highest_degree) × (count_of basis found.degree.0 ≤ n) × (count_of basis found.degree.0 ≤ max_terms) }
     requires outputs_fit { (n ≤ length scratch.old) × (term_places basis ≤ length coefficients.old) × (term_places basis ≤ length errors.old) × (term_places basis ≤ length pruned.old) × (n ≤ length lower.old) × (n ≤ length upper.old) × (n ≤ length outliers.old) }
-    ensures { Does (written_by basis n settings (rows_at basis n xs.now zs.now ys.now) degree.0 solved c v) result (outputs scratch coefficients errors pruned lower upper outliers) }
+    ensures { Does (written_by basis n settings (rows_at basis n xs.now zs.now ys.now) found.degree.0 solved found.measured.c found.measured.covariance) (Ok result) (outputs scratch coefficients errors pruned lower upper outliers) }
 {
     let places = measure::term_places(basis);
+    let degree = found.degree;
+    let c = found.measured.c;
+    let v = found.measured.covariance;
     let k = degree.k(basis);
     let df = n - k.0;
     let confidence = settings.confidence;
     let tolerance = settings.tolerance;
-    let rule = settings.pruning;
     let t = statistics::t_score(confidence, df);
     let z = statistics::z_score(confidence);
-    let sd = covariance::deviation_read(tolerance, ys, n);
+    let sd = covariance::deviation_read(tolerance, &ys[..n]);
     let e = covariance::errors(k, &v);
     lent::clear(scratch, n);
-    lent::put_first(c, places, coefficients);
-    lent::put_first(e, places, errors);
-    let terms = covariance::put_pruned(rule, k, &c, &e, t, places, pruned);
+    lent::put_first(&c[..places], coefficients);
+    lent::put_first(&e[..places], errors);
+    let terms = covariance::put_pruned(settings.pruning, k, &c, &e, t, places, pruned);
     let marks = covariance::put_bands(
         basis, k, &c, &v, tolerance, z, sd, xs, zs, ys, n, lower, upper, outliers,
     );
-    ReportAnswer::Report {
+    Report {
         degree,
         solved,
         outliers: marks,
@@ -181,31 +172,29 @@ pub fn report_rows(
 {
     let criterion = settings.criterion;
     let m = choose(basis, n, last, criterion, xs, zs, ys, sums, &mut *scratch);
-    let choice = m.choice;
-    if limit < choice.tests {
+    if limit < m.choice.tests {
         lent::clear(scratch, n);
         return Counted {
-            answer: ReportAnswer::Refused(16),
+            answer: Err(Refusal::OverLimit),
             tests: 0,
         };
     }
-    if m.number != 0 {
-        lent::clear(scratch, n);
-        return Counted {
-            answer: ReportAnswer::Refused(m.number),
-            tests: choice.tests,
-        };
-    }
-    let c = m.c;
-    let v = m.covariance;
-    let answer = write(
+    let found = match m.found {
+        Ok(found) => found,
+        Err(refusal) => {
+            lent::clear(scratch, n);
+            return Counted {
+                answer: Err(refusal),
+                tests: m.choice.tests,
+            };
+        }
+    };
+    let report = write(
         basis,
         n,
         settings,
-        m.degree,
-        choice.solved,
-        c,
-        v,
+        found,
+        m.choice.solved,
         xs,
         zs,
         ys,
@@ -218,7 +207,7 @@ pub fn report_rows(
         outliers,
     );
     Counted {
-        answer,
-        tests: choice.tests,
+        answer: Ok(report),
+        tests: m.choice.tests,
     }
 }

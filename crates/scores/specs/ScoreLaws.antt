@@ -1,6 +1,6 @@
 -- Laws of Scores.antt: what the scores may answer, that they answer where a report does and of the degree that it tells, and what the 16 bytes and the 16
 -- scores hold.
-use Rattle.std.specs.Prelude.{◌≡◌, Bool, cond, length, get_or, drop, replicate, Float}
+use Rattle.std.specs.Prelude.{◌≡◌, Bool, cond, length, get_or, drop, replicate, Float, Some, Ok}
 use Rattle.std.proofs.Math.Path.{refl, sym, ap}
 use Rattle.std.proofs.Common.{◌∙◌, add-one, arith}
 use Rattle.std.proofs.Math.Bool.{true, false}
@@ -19,10 +19,9 @@ use Rattle.loops.specs.PlaceLaws.{length_each, each_at, each_past, each_write, l
 use Rattle.basis.specs.Counts.{count_of}
 use Rattle.basis.specs.declared.Basis.TheVariants.{Curve}
 use Rattle.basis.specs.declared.Degree.{Degree}
-use Rattle.basis.specs.declared.OptionDegree.TheVariants.{Some}
 use Rattle.value.specs.Numbers.{zero_f}
 use Rattle.statistics.specs.Degrees.{max_degree}
-use Rattle.samples.specs.Samples.{Sample}
+use Rattle.samples.specs.declared.Sample.{Sample}
 use Rattle.monomial.specs.Rows.{Row, rows_of}
 use Rattle.choice.specs.Choice.{solved_count}
 use Rattle.choice.specs.Laws.{none_below, score_some}
@@ -32,45 +31,45 @@ use Rattle.fit.specs.declared.Choice.{Choice}
 use Rattle.covariance.specs.Marks.{mark, ones}
 use Rattle.covariance.specs.MarkLaws.{ones_again}
 use Rattle.refusal.specs.Refusals.{settle, first_of}
+use Rattle.refusal.specs.Named.{refused_by, number_of}
+use Rattle.refusal.specs.NamedLaws.{answer_among}
 use Rattle.refusal.specs.Tests.{too_short}
-use Rattle.refusal.specs.Laws.{settled_among}
 use Rattle.refusal.specs.RoomLaws.{long_enough}
 use Rattle.lent.specs.Written.{zeros}
 use Rattle.settings.specs.declared.Settings.{Settings}
 use Rattle.reporting.specs.declared.Places.{Places}
-use Rattle.reporting.specs.declared.ReportAnswer.TheVariants as reports
+use Rattle.reporting.specs.declared.Report.{Report}
 use Rattle.reporting.specs.Chosen.{chosen_refusal}
 use Rattle.reporting.specs.ChosenLaws.{of_either, of_number, chosen_numbers}
-use Rattle.reporting.specs.Reports.{report_number}
 use Rattle.report.specs.Refusals.{report_needs, report_refusal}
 use Rattle.report.specs.RefusalLaws.{report_room}
 use Rattle.report.specs.Reports.{report_choice, report_on}
 use Rattle.report.specs.ReportLaws.{number_alike, told_alike}
 use Rattle.report.specs.ChosenLaws.{chosen_solved}
-use Rattle.scores.specs.declared.ScoresAnswer.TheVariants as answers
+use Rattle.scores.specs.declared.ScoreTable.{ScoreTable}
 use Rattle.scores.specs.Refusals.{scores_needs, scores_refusal}
 use Rattle.scores.specs.RefusalLaws.{scores_numbers, scores_room}
-use Rattle.scores.specs.Scores.{ScoresOut, scores_number, scores_refused, scores_late, scores_by, scores_of, scores_past, scores_on}
+use Rattle.scores.specs.Scores.{ScoresAnswer, ScoresOut, scores_refused, scores_late, scores_by, scores_of, scores_past, scores_on}
 
 -- ---- what they may answer, by document 01's numbers
 
-by_number : (n bound : ℕ) (choice : Choice) (d : Degree) → scores_number (scores_by n bound choice d).answer ≡ 0
+by_number : (n bound : ℕ) (choice : Choice) (d : Degree) → number_of (scores_by n bound choice d).answer ≡ 0
 unfolding scores_by
 by_number n bound choice d = refl
 
 -- past 1 to 9 it is the number of the choice
-past_number : (n bound : ℕ) (sums : List Float) (choice : Choice) → scores_number (scores_of n bound sums choice).answer ≡ chosen_refusal Curve choice.chosen sums
+past_number : (n bound : ℕ) (sums : List Float) (choice : Choice) → number_of (scores_of n bound sums choice).answer ≡ chosen_refusal Curve choice.chosen sums
 unfolding scores_of
 past_number n bound sums choice =
-    of_number Curve sums (scores_late n) (scores_by n bound choice) (λ w. scores_number w.answer) (λ r. refl) (by_number n bound choice) choice.chosen
+    of_number Curve sums (scores_late n) (scores_by n bound choice) (λ w. number_of w.answer) refl refl (by_number n bound choice) choice.chosen
 
 pub scores_answers : (n : ℕ) (settings : Settings) (samples : List Sample) (sums : List Float) (columns : List ℕ) (places scratch solved scores : ℕ)
-    → Memᴰ (scores_number (scores_on n settings samples sums columns places scratch solved scores).answer) (0 ∷ 1 ∷ 4 ∷ 7 ∷ 8 ∷ 11 ∷ 12 ∷ [])
+    → Memᴰ (number_of (scores_on n settings samples sums columns places scratch solved scores).answer) (0 ∷ 1 ∷ 4 ∷ 7 ∷ 8 ∷ 11 ∷ 12 ∷ [])
 unfolding scores_on scores_past
 scores_answers n settings samples sums columns places scratch solved scores =
-    settled_among (λ (o : ScoresOut). scores_number o.answer) (scores_refusal n settings samples columns places scratch solved scores) (scores_past n settings (rows_of samples) sums) _
-    (0 ∷ 1 ∷ 4 ∷ 7 ∷ 8 ∷ []) (11 ∷ 12 ∷ []) (scores_numbers n settings samples columns places scratch solved scores)
-    (rw (past_number n (max_degree settings.bound n) sums (report_choice n settings (rows_of samples) sums)) (chosen_numbers Curve _ sums)) refl
+    answer_among (λ (o : ScoresOut). o.answer) (scores_refusal n settings samples columns places scratch solved scores) (scores_past n settings (rows_of samples) sums) _
+    (0 ∷ 1 ∷ 4 ∷ 7 ∷ 8 ∷ []) (11 ∷ 12 ∷ []) refl (scores_numbers n settings samples columns places scratch solved scores) refl
+    (rw (past_number n (max_degree settings.bound n) sums (report_choice n settings (rows_of samples) sums)) (chosen_numbers Curve _ sums))
 
 -- ---- they answer where a report answers, and are refused by its number where it is refused
 
@@ -84,17 +83,17 @@ same_refusal n settings samples columns places scratch solved scores lent h q = 
 module _ (n : ℕ) (settings : Settings) (samples : List Sample) (sums : List Float) (columns : List ℕ) (places scratch solved scores : ℕ) (lent : Places)
     (enough : too_short n columns (scores_needs n places scratch solved scores) ≡ false) where
   pub same_answer : too_short n columns (report_needs n places lent) ≡ false
-      → scores_number (scores_on n settings samples sums columns places scratch solved scores).answer ≡ report_number (report_on n settings samples sums columns places lent).answer
+      → number_of (scores_on n settings samples sums columns places scratch solved scores).answer ≡ number_of (report_on n settings samples sums columns places lent).answer
   unfolding scores_on scores_past scores_of
   same_answer q =
       number_alike n settings samples sums columns places lent (scores_refusal n settings samples columns places scratch solved scores) scores_refused (scores_late n)
-      (scores_by n (max_degree settings.bound n) (report_choice n settings (rows_of samples) sums)) (λ w. scores_number w.answer) (λ r. refl) (λ r. refl)
+      (scores_by n (max_degree settings.bound n) (report_choice n settings (rows_of samples) sums)) (λ w. w.answer) (λ r. refl) (λ r. refl)
       (by_number n (max_degree settings.bound n) (report_choice n settings (rows_of samples) sums)) (same_refusal n settings samples columns places scratch solved scores lent enough q)
 
   -- where a report tells a degree, it is the chosen one, and the scores are told with it
-  pub told_with_report : (d : Degree) (s u p : ℕ) → (report_on n settings samples sums columns places lent).answer ≡ reports.Report d s u p
-      → ((report_choice n settings (rows_of samples) sums).chosen ≡ Some d)
-      × (scores_on n settings samples sums columns places scratch solved scores ≡ scores_by n (max_degree settings.bound n) (report_choice n settings (rows_of samples) sums) d)
+  pub told_with_report : {a : Report} → (report_on n settings samples sums columns places lent).answer ≡ Ok a
+      → ((report_choice n settings (rows_of samples) sums).chosen ≡ Some a.degree)
+      × (scores_on n settings samples sums columns places scratch solved scores ≡ scores_by n (max_degree settings.bound n) (report_choice n settings (rows_of samples) sums) a.degree)
   unfolding scores_on scores_past scores_of
   told_with_report =
       told_alike n settings samples sums columns places lent (scores_refusal n settings samples columns places scratch solved scores) scores_refused (scores_late n)
@@ -234,12 +233,12 @@ module _ (n : ℕ) (settings : Settings) (rows : List Row) (sums : List Float) w
 
 abbrev Told : Float → ScoresOut → Type 0
 Told score o =
-    (d bound : Degree) (s : ℕ) (least : Float) (tests : ℕ) → o.answer ≡ answers.Scores d bound s least tests
-    → (s ≡ ones o.solved) × (length o.solved ≡ 16) × (length o.scores ≡ 16) × (get_or o.scores d.0 nan ≡ score)
-    × ((e : ℕ) → get_or o.solved e 0 ≡ 1 → lt (get_or o.scores e nan) least ≡ false)
+    (a : ScoreTable) → o.answer ≡ Ok a
+    → (a.solved ≡ ones o.solved) × (length o.solved ≡ 16) × (length o.scores ≡ 16) × (get_or o.scores a.degree.0 nan ≡ score)
+    × ((e : ℕ) → get_or o.solved e 0 ≡ 1 → lt (get_or o.scores e nan) a.least ≡ false)
 
-none_told : (score : Float) (r : ℕ) (s : List Float) → Told score (record { answer = answers.Refused r; scratch = s; solved = []; scores = [] })
-none_told score r s d bound k least tests h = absurd (let z : ◌≡◌ {A = ℕ} 0 1 = cc in omega arith)
+none_told : (score : Float) (r : ℕ) (s : List Float) → Told score (record { answer = refused_by r; scratch = s; solved = []; scores = [] })
+none_told score r s a h = absurd cc
 
 marked : (l : List Bool) (e : ℕ) → get_or (map mark l) e 0 ≡ 1 → get_or l e false ≡ true
 marked [] e h = absurd (omega arith)
@@ -251,12 +250,14 @@ module _ (n : ℕ) (settings : Settings) (rows : List Row) (sums : List Float) (
   by_told : (d : Degree) → (report_choice n settings rows sums).chosen ≡ Some d
       → Told (report_choice n settings rows sums).score (scores_by n (max_degree settings.bound n) (report_choice n settings rows sums) d)
   unfolding scores_by
-  by_told d chosen d' bound k least tests h =
+  by_told d chosen a h =
       let o = report_choice n settings rows sums in
-      let same : d ≡ d' = cc in
-      let count : k ≡ o.solved = cc in
-      let lowest : o.least ≡ least = cc in
-      (count ∙ solved_ones n settings rows sums most, length-map o.flags mark ∙ length_flags n settings rows sums, length_scores n settings rows sums, rw (← same) (chosen_score_lem n settings rows sums most d chosen), λ e q. rw (← lowest) (none_less n settings rows sums most e (marked o.flags e q)))
+      let same = table_of h in
+      rw (← same)
+      (solved_ones n settings rows sums most, length-map o.flags mark ∙ length_flags n settings rows sums, length_scores n settings rows sums, chosen_score_lem n settings rows sums most d chosen, λ e q. none_less n settings rows sums most e (marked o.flags e q))
+    where
+      table_of : {b : ScoreTable} → ◌≡◌ {A = ScoresAnswer} (Ok b) (Ok a) → b ≡ a
+      table_of q = cc
 
   past_told : Told (report_choice n settings rows sums).score (scores_past n settings rows sums)
   unfolding scores_past scores_of
@@ -269,11 +270,10 @@ settled_told score zero w h = h refl
 settled_told score (suc r) w h = none_told score (suc r) []
 
 pub scores_told : (n : ℕ) (settings : Settings) (samples : List Sample) (sums : List Float) (columns : List ℕ) (places scratch solved scores : ℕ)
-    (d bound : Degree) (s : ℕ) (least : Float) (tests : ℕ)
-    → (scores_on n settings samples sums columns places scratch solved scores).answer ≡ answers.Scores d bound s least tests
+    (a : ScoreTable) → (scores_on n settings samples sums columns places scratch solved scores).answer ≡ Ok a
     → (let o = scores_on n settings samples sums columns places scratch solved scores in
-    (s ≡ ones o.solved) × (length o.solved ≡ 16) × (length o.scores ≡ 16) × (get_or o.scores d.0 nan ≡ (report_choice n settings (rows_of samples) sums).score)
-    × ((e : ℕ) → get_or o.solved e 0 ≡ 1 → lt (get_or o.scores e nan) least ≡ false))
+    (a.solved ≡ ones o.solved) × (length o.solved ≡ 16) × (length o.scores ≡ 16) × (get_or o.scores a.degree.0 nan ≡ (report_choice n settings (rows_of samples) sums).score)
+    × ((e : ℕ) → get_or o.solved e 0 ≡ 1 → lt (get_or o.scores e nan) a.least ≡ false))
 unfolding scores_on
 scores_told n settings samples sums columns places scratch solved scores =
     settled_told _ (scores_refusal n settings samples columns places scratch solved scores) _

@@ -1,23 +1,28 @@
 -- The scores by degree: what the call answers and writes, from samples, sums and lengths. Definitions only.
-use Rattle.std.specs.Prelude.{◌≡◌, List, [], map, ℕ, length, take, Float}
+use Rattle.std.specs.Prelude.{◌≡◌, List, [], map, ℕ, length, take, Float, Result, Ok}
 use Rattle.basis.specs.Sizes.{sum_places}
 use Rattle.basis.specs.declared.Basis.TheVariants.{Curve}
 use Rattle.basis.specs.declared.Degree.{Degree}
 use Rattle.statistics.specs.Degrees.{max_degree}
-use Rattle.samples.specs.Samples.{Sample}
+use Rattle.samples.specs.declared.Sample.{Sample}
 use Rattle.samples.specs.Columns.{samples_of, Columns, lengths}
 use Rattle.monomial.specs.Rows.{Row, rows_of}
 use Rattle.fit.specs.declared.Choice.{Choice}
 use Rattle.covariance.specs.Marks.{mark}
+use Rattle.refusal.specs.declared.refusals.Refusal.{Refusal}
+use Rattle.refusal.specs.Named.{refused_by}
 use Rattle.refusal.specs.Refusals.{settle}
 use Rattle.lent.specs.Slices.{Contents}
 use Rattle.lent.specs.Written.{over, zeros}
 use Rattle.settings.specs.declared.Settings.{Settings}
 use Rattle.reporting.specs.Chosen.{of_chosen}
 use Rattle.report.specs.Reports.{report_choice}
-use Rattle.scores.specs.declared.ScoresAnswer.{ScoresAnswer}
-use Rattle.scores.specs.declared.ScoresAnswer.TheVariants as answers
+use Rattle.scores.specs.declared.ScoreTable.{ScoreTable}
 use Rattle.scores.specs.Refusals.{scores_refusal}
+
+-- what the call answers: the table, or a refusal
+abbrev pub ScoresAnswer : Type 0
+ScoresAnswer = Result ScoreTable Refusal
 
 -- the answer, and the values written to scratch, to the solved bytes and to the scores
 pub record ScoresOut : Type 0 where
@@ -26,25 +31,20 @@ pub record ScoresOut : Type 0 where
   pub solved : List ℕ
   pub scores : List Float
 
--- document 01's number of an answer: 0 where the scores are told
-abbrev pub scores_number : ScoresAnswer → ℕ
-scores_number (answers.Scores d b s least tests) = 0
-scores_number (answers.Refused k) = k
-
 -- refused by r, one of 1 to 9: nothing is written
 abbrev pub scores_refused : ℕ → ScoresOut
-scores_refused r = record { answer = answers.Refused r; scratch = []; solved = []; scores = [] }
+scores_refused r = record { answer = refused_by r; scratch = []; solved = []; scores = [] }
 
 -- refused by 11 or 12: nothing but scratch is written
 abbrev pub scores_late : ℕ → ℕ → ScoresOut
-scores_late n r = record { answer = answers.Refused r; scratch = zeros n; solved = []; scores = [] }
+scores_late n r = record { answer = refused_by r; scratch = zeros n; solved = []; scores = [] }
 
 -- of a choice of the degree d among those from 0 to the bound: the degree, the bound, the number of solved degrees, the least score and the number of
 -- pivot tests; of each degree 1 where it is solved, else 0, and its score, +0 where there is none, 16 places each
 unfoldable pub scores_by : ℕ → ℕ → Choice → Degree → ScoresOut
 scores_by n bound choice d =
     record {
-      answer = answers.Scores d (record { 0 = bound }) choice.solved choice.least choice.tests;
+      answer = Ok (record { degree = d; bound = record { 0 = bound }; solved = choice.solved; least = choice.least; tests = choice.tests });
       scratch = zeros n;
       solved = map mark choice.flags;
       scores = choice.scores;

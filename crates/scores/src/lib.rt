@@ -13,20 +13,17 @@ ghost use Rattle.scores.specs.Scores.{ScoresIs, scores_out};
 
 use basis::{Basis, Degree, SUMS, TERMS};
 use book::Book;
+use refusal::Refusal;
 use settings::Settings;
 
-// What the call answers: the chosen degree, the bound, the number of solved degrees, the least score and the number of pivot tests; or the number of a
-// refusal.
+// What the call answers: the chosen degree, the bound, the number of solved degrees, the least score and the number of pivot tests.
 #[derive(Clone, Copy)]
-pub enum ScoresAnswer {
-    Scores {
-        degree: Degree,
-        bound: Degree,
-        solved: usize,
-        least: f64,
-        tests: usize,
-    },
-    Refused(u8),
+pub struct ScoreTable {
+    pub degree: Degree,
+    pub bound: Degree,
+    pub solved: usize,
+    pub least: f64,
+    pub tests: usize,
 }
 
 // The first 16 places become 1 where a flag is set, else 0.
@@ -34,9 +31,12 @@ fn put_flags(flags: [bool; TERMS], out: &mut [u8])
     requires { max_terms ≤ length out.old }
     ensures { after out ≡ map mark flags ++ drop max_terms (before out) }
 {
-    for i in 0..TERMS {
-        out[i] = flags[i] as u8;
-    }
+    let bytes = flags.map(
+        |flag: bool| -> u8
+            ensures { result ≡ mark flag }
+        { flag as u8 },
+    );
+    out[..TERMS].copy_from_slice(&bytes);
 }
 
 // The scores of the book. Nothing but scratch is written before 12 is ruled out.
@@ -50,11 +50,11 @@ pub fn scores(
     scratch: &mut [f64],
     solved: &mut [u8],
     scores: &mut [f64],
-) -> ScoresAnswer
+) -> Result<ScoreTable, Refusal>
     ensures { ScoresIs (scores_out book.count settings (columns_of xs.now ys.now ws.now) sums.now (before scratch) (before solved) (before scores)) result (contents scratch) (contents solved) (contents scores) }
 {
     let n = book.count;
-    let refusal = refusals::scores_refusal(
+    refusals::check_scores(
         n,
         settings,
         xs,
@@ -64,10 +64,7 @@ pub fn scores(
         scratch.len(),
         solved.len(),
         scores.len(),
-    );
-    if refusal != 0 {
-        return ScoresAnswer::Refused(refusal);
-    }
+    )?;
     let bound = settings.bound;
     let criterion = settings.criterion;
     let last = statistics::max_degree(bound, n);
@@ -83,20 +80,15 @@ pub fn scores(
         &mut *scratch,
     );
     lent::clear(scratch, n);
-    if m.number != 0 {
-        return ScoresAnswer::Refused(m.number);
-    }
-    let degree = m.degree;
+    let found = m.found?;
     let choice = m.choice;
-    let flags = choice.flags;
-    let values = choice.scores;
-    put_flags(flags, solved);
-    lent::put_terms(values, scores);
-    ScoresAnswer::Scores {
-        degree,
+    put_flags(choice.flags, solved);
+    lent::put_first(&choice.scores, scores);
+    Ok(ScoreTable {
+        degree: found.degree,
         bound: last,
         solved: choice.solved,
         least: choice.least,
         tests: choice.tests,
-    }
+    })
 }

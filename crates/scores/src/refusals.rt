@@ -1,13 +1,14 @@
-// Refusals 1 to 9 of the scores: the number of the first test that holds, 0 if none does.
+// What refuses the scores by 1 to 9.
 ghost use Rattle.std.specs.Prelude.{◌≡◌};
 ghost use Rattle.samples.specs.Columns.{samples_of, columns_of, lengths};
-ghost use Rattle.lent.specs.Slices.{before};
+ghost use Rattle.refusal.specs.Named.{judged};
 ghost use Rattle.scores.specs.Refusals.{scores_refusal};
 
 use basis::{SUMS, TERMS};
+use refusal::Refusal;
 use settings::Settings;
 
-pub fn scores_refusal(
+pub fn check_scores(
     n: usize,
     settings: Settings,
     xs: &[f64],
@@ -17,13 +18,9 @@ pub fn scores_refusal(
     scratch: usize,
     solved: usize,
     scores: usize,
-) -> u8
-    ensures { result ≡ scores_refusal n settings (samples_of n (columns_of xs.now ys.now ws.now)) (lengths (columns_of xs.now ys.now ws.now)) sums scratch solved scores }
+) -> Result<(), Refusal>
+    ensures { result ≡ judged (scores_refusal n settings (samples_of n (columns_of xs.now ys.now ws.now)) (lengths (columns_of xs.now ys.now ws.now)) sums scratch solved scores) }
 {
-    let tables = refusal::short(TERMS, solved, refusal::short(TERMS, scores, false));
-    let memory = refusal::short(SUMS, sums, refusal::short(n, scratch, tables));
-    if refusal::too_short(n, xs.len(), ys.len(), ws.len(), memory) {
-        return 1;
-    }
-    reporting::settings_refusal(n, settings, xs, ys, ws, n == 0)
+    let memories = [(SUMS, sums), (n, scratch), (TERMS, solved), (TERMS, scores)];
+    reporting::check_settings(n, settings, xs, ys, ws, &memories, n == 0)
 }

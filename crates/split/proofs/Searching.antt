@@ -16,17 +16,20 @@ use Rattle.statistics.specs.declared.DegreeBound.{DegreeBound}
 use Rattle.monomial.specs.Rows.{WeightedRow, weighted_rows_at}
 use Rattle.monomial.specs.RowLaws.{length_weighted_at}
 use Rattle.score.specs.declared.Criterion.{Criterion}
-use Rattle.refusal.specs.Refusals.{first_of}
+use Rattle.std.specs.Prelude.{Option, None, Some, Result, ok_or}
+use Rattle.refusal.specs.declared.refusals.Refusal.TheVariants.{NoneChosen}
+use Rattle.refusal.specs.declared.refusals.Refusal.{Refusal}
+use Rattle.refusal.specs.Named.{refused_by}
 use Rattle.fit.specs.declared.Choice.{Choice}
 use Rattle.split.specs.declared.Best.{Best}
-use Rattle.split.specs.Search.{no_break, better, best_of, left_of, right_of, best_break, break_tests, search_tests}
+use Rattle.split.specs.Search.{better, best_of, left_of, right_of, best_break, break_tests, search_tests}
 use Rattle.split.specs.SearchLaws.{break_tests_lem, count_range}
-use Rattle.split.specs.Refusals.{search_refusal}
+use Rattle.split.specs.Refusals.{found_in, searched}
 use Rattle.split.specs.Splits.{taken_of, Searches}
 
 -- what is left of the search at break b
 module _ (bound : DegreeBound) (criterion : Criterion) (rows : List WeightedRow) where
-  unfoldable pub best_from : ℕ → ℕ → Best → Best
+  unfoldable pub best_from : ℕ → ℕ → Option Best → Option Best
   best_from b last best = from (λ j s. better j (left_of bound criterion rows j) (right_of bound criterion rows j) s) b last best
 
   unfoldable pub tests_from : ℕ → ℕ → ℕ → ℕ
@@ -34,10 +37,10 @@ module _ (bound : DegreeBound) (criterion : Criterion) (rows : List WeightedRow)
 
   -- one break
   module _ (b last : ℕ) (l r : Choice) (el : l ≡ left_of bound criterion rows b) (er : r ≡ right_of bound criterion rows b) where
-    pub best_again : b < last → (best u : Best) → u ≡ better b l r best → best_from (b + 1) last u ≡ best_from b last best
+    pub best_again : b < last → (best u : Option Best) → u ≡ better b l r best → best_from (b + 1) last u ≡ best_from b last best
     unfolding best_from
     best_again h best u e =
-        ap (λ (v : Best). from (λ j s. better j (left_of bound criterion rows j) (right_of bound criterion rows j) s) (b + 1) last v)
+        ap (λ (v : Option Best). from (λ j s. better j (left_of bound criterion rows j) (right_of bound criterion rows j) s) (b + 1) last v)
         (e ∙ ap₂ (λ x y. better b x y best) el er)
         ∙ again (λ j s. better j (left_of bound criterion rows j) (right_of bound criterion rows j) s) b last best h
 
@@ -55,7 +58,7 @@ module _ (bound : DegreeBound) (criterion : Criterion) (rows : List WeightedRow)
     tests_few h = omega (arith, sides_tests, break_tests_lem bound criterion rows h b)
 
   -- no break is left
-  pub best_done : (b last : ℕ) (best : Best) → last ≤ b → best_from b last best ≡ best
+  pub best_done : (b last : ℕ) (best : Option Best) → last ≤ b → best_from b last best ≡ best
   unfolding best_from
   best_done b last best h = done (λ j s. better j (left_of bound criterion rows j) (right_of bound criterion rows j) s) b last best h
 
@@ -64,7 +67,7 @@ module _ (bound : DegreeBound) (criterion : Criterion) (rows : List WeightedRow)
   tests_done b last tests h = done (λ j t. t + break_tests bound criterion rows j) b last tests h
 
   -- none is tried yet
-  pub best_whole : (n : ℕ) → length rows ≡ n → best_from 2 (n - 1) no_break ≡ best_break bound criterion rows
+  pub best_whole : (n : ℕ) → length rows ≡ n → best_from 2 (n - 1) None ≡ best_break bound criterion rows
   unfolding best_from best_break best_of
   best_whole n e = rw e
 
@@ -79,34 +82,33 @@ module _ (bound : DegreeBound) (criterion : Criterion) (rows : List WeightedRow)
 
   -- ---- what the search comes to
 
-  module _ (limit n : ℕ) (s t : List Float) (w : Within n s t) (tests : ℕ) (best : Best) where
+  module _ (limit n : ℕ) (s t : List Float) (w : Within n s t) (tests : ℕ) where
     -- the count passes the limit
     pub searches_over : limit < tests → tests ≤ search_tests bound criterion rows
-        → Searches limit bound criterion rows n s t (record { number = 16; tests = 0; best = best })
-    unfolding search_refusal first_of taken_of
+        → Searches limit bound criterion rows n s t (record { tests = 0; best = refused_by 16 })
+    unfolding searched taken_of
     searches_over h g =
         record {
-          number = rw (lt-ltb limit (search_tests bound criterion rows) (omega arith));
+          best = rw (lt-ltb limit (search_tests bound criterion rows) (omega arith));
           tests = rw (lt-ltb limit (search_tests bound criterion rows) (omega arith));
-          best = λ z. absurd (z refl);
           within = w;
         }
 
-    module _ (h : tests ≤ limit) (et : tests ≡ search_tests bound criterion rows) (eb : best ≡ best_break bound criterion rows) where
-      -- every break is passed over
-      pub searches_none : best.found ≡ false → Searches limit bound criterion rows n s t (record { number = 11; tests = tests; best = best })
-      unfolding search_refusal first_of taken_of
-      searches_none f =
-          record {
-            number = rw (← et, ← eb, le-ltb limit tests h, f);
-            tests = rw (← et, le-ltb limit tests h);
-            best = λ _. eb;
-            within = w;
-          }
+    -- every break is tried: r is the best one, or that there is none
+    pub searches_done : tests ≤ limit → tests ≡ search_tests bound criterion rows → (best : Option Best) → best ≡ best_break bound criterion rows
+        → (r : Result Best Refusal) → r ≡ found_in best → Searches limit bound criterion rows n s t (record { tests = tests; best = r })
+    unfolding searched taken_of
+    searches_done h et best eb r er =
+        record {
+          best = rw (← et, ← eb, le-ltb limit tests h) er;
+          tests = rw (← et, le-ltb limit tests h);
+          within = w;
+        }
 
-      pub searches_found : best.found ≡ true → Searches limit bound criterion rows n s t (record { number = 0; tests = tests; best = best })
-      unfolding search_refusal first_of taken_of
-      searches_found f = record { number = rw (← et, ← eb, le-ltb limit tests h, f); tests = rw (← et, le-ltb limit tests h); best = λ _. eb; within = w }
+-- the best break, or 11, as the code says it
+pub found_or : (o : Option Best) → ok_or o NoneChosen ≡ found_in o
+found_or None = refl
+found_or (Some s) = refl
 
 -- the bound for n samples is that for their rows
 pub rows_bound : (bound : DegreeBound) (n : ℕ) (xs ys ws : List Float) → max_degree bound n ≤ 15 → max_degree bound (length (weighted_rows_at Curve n xs xs ys ws)) ≤ 15

@@ -1,9 +1,12 @@
 -- What a split comes to: refused by 1 to 9, refused by 16 or 11, or written.
 use mathlib.Core.Path.{◌≡◌, refl, sym, subst, ◌∙◌}
-use mathlib.Core.List.{List, ◌++◌}
+use mathlib.Core.List.{List, [], ◌++◌}
 use Prim.Native.Nat.{ℕ, zero, suc, ◌≤◌}
 use native.Mathlib.Omega.{arith}
-use borrow.Author.Tests.{not-false}
+use Rattle.std.specs.Prelude.{false, ltb, Option, Some, Ok, Err}
+use Rattle.refusal.specs.declared.refusals.Refusal.{Refusal}
+use Rattle.refusal.specs.Named.{refused_by}
+use Rattle.refusal.specs.Refusals.{settle}
 use lib.ListN.{length, take, drop, length-replicate}
 use lib.Ieee.{Float}
 use Rattle.value.specs.Numbers.{zero_f}
@@ -23,14 +26,12 @@ use Rattle.statistics.specs.Degrees.{max_degree}
 use Rattle.split.specs.declared.Best.{Best}
 use Rattle.split.specs.declared.Places.{Places}
 use Rattle.split.specs.declared.Searched.{Searched}
-use Rattle.split.specs.declared.SplitAnswer.{SplitAnswer}
-use Rattle.split.specs.declared.SplitAnswer.TheVariants as answers
 use Rattle.split.specs.Search.{side_fit, best_break, search_tests}
 use Rattle.split.specs.SearchLaws.{found_room}
-use Rattle.split.specs.Refusals.{split_refusal, search_refusal}
-use Rattle.split.specs.RefusalLaws.{split_room, search_within, search_found}
+use Rattle.split.specs.Refusals.{split_refusal, searched}
+use Rattle.split.specs.RefusalLaws.{split_room, searched_ok}
 use Rattle.split.specs.Rooms.{SplitRoom, FoundRoom}
-use Rattle.split.specs.Splits.{LentSplit, Does, Searches, taken_of, split_at, split_past, split_on, split_taken, split_out}
+use Rattle.split.specs.Splits.{SplitAnswer, SplitOut, split_refused, LentSplit, Does, Searches, taken_of, split_at, split_past, split_on, split_taken, split_out}
 
 length_fit : (rows : List WeightedRow) (d : Degree) → d.0 ≤ 15 → length (side_fit rows d) ≡ 16
 unfolding side_fit
@@ -54,28 +55,32 @@ module _ (n : ℕ) (settings : Settings) (limit : ℕ) (columns : Columns) (sums
   abbrev taken : ℕ
   taken = split_taken n settings limit (samples_of n columns) (lengths columns) sums places
 
-  -- r is the number of a refusal from 1 to 9
-  pub split_refused_lem : (r : ℕ) → r ≡ refusal → (r ≡ 0 → ⊥) → out (answers.Refused r) s b a
+  -- refused by one of 1 to 9
+  pub split_refused_lem : {r : SplitAnswer} → (refusal ≡ 0 → ⊥) × (r ≡ refused_by refusal) → out r s b a
   unfolding split_on
-  split_refused_lem zero q h = absurd (h refl)
-  split_refused_lem (suc k) q h = rw (← q) (record { answer = refl; scratch = refl; before = refl; after = refl })
+  split_refused_lem h = go refusal h
+    where
+      go : (k : ℕ) {r : SplitAnswer} → (k ≡ 0 → ⊥) × (r ≡ refused_by k)
+          → Does (settle k (split_past n settings.bound settings.criterion limit (weighted_rows (samples_of n columns))) (split_refused k [])) r (lent s s b b a a)
+      go zero h = absurd (h.0 refl)
+      go (suc k) h = record { answer = h.1; scratch = refl; before = refl; after = refl }
 
-  pub taken_refused : (r : ℕ) → r ≡ refusal → (r ≡ 0 → ⊥) → 0 ≡ taken
+  pub taken_refused : (refusal ≡ 0 → ⊥) → 0 ≡ taken
   unfolding split_taken
-  taken_refused zero q h = absurd (h refl)
-  taken_refused (suc k) q h = rw (← q)
+  taken_refused h = go refusal h
+    where
+      go : (k : ℕ) → (k ≡ 0 → ⊥) → 0 ≡ settle k (taken_of limit (search_tests settings.bound settings.criterion (weighted_rows (samples_of n columns)))) 0
+      go zero h = absurd (h refl)
+      go (suc k) h = refl
 
   -- none of them holds
-  module _ (r : ℕ) (is : r ≡ refusal) (none : r ≡ 0) where
-    past : refusal ≡ 0
-    past = sym is ∙ none
-
+  module _ (past : refusal ≡ 0) where
     pub has_room : SplitRoom n settings (lengths columns) sums places
     has_room = split_room n settings (samples_of n columns) (lengths columns) sums places past
 
     -- m is what the search came to; scratch was used, and then cleared
     module _ (rows : List WeightedRow) (are : rows ≡ weighted_rows (samples_of n columns)) (m : Searched) (s' t : List Float) (se : Searches limit settings.bound settings.criterion rows n s s' m) (cleared : t ≡ zeros n ++ drop n s') where
-      abbrev best : Best
+      abbrev best : Option Best
       best = best_break settings.bound settings.criterion rows
 
       abbrev tests : ℕ
@@ -86,39 +91,33 @@ module _ (n : ℕ) (settings : Settings) (limit : ℕ) (columns : Columns) (sums
       taken_past = rw (past, ← are) se.tests
 
       -- 16 or 11
-      pub split_late : (m.number ≡ 0 → ⊥) → out (answers.Refused m.number) t b a
+      pub split_late : (e : Refusal) {r : SplitAnswer} → m.best ≡ Err e → r ≡ Err e → out r t b a
       unfolding split_on split_past
-      split_late h = rw (past, ← are) (go m.number se.number h)
-        where
-          go : (k : ℕ) → k ≡ search_refusal limit tests best → (k ≡ 0 → ⊥) → Does (split_past n settings.bound settings.criterion limit rows) (answers.Refused k) (lent s t b b a a)
-          go zero q h = absurd (h refl)
-          go (suc k) q h = rw (← q) (record { answer = refl; scratch = over_cleared n s s' t se.within cleared; before = refl; after = refl })
+      split_late e h q = rw (past, ← are, ← se.best, h) (record { answer = q; scratch = over_cleared n s s' t se.within cleared; before = refl; after = refl })
 
       -- a break is found
-      module _ (found : m.number ≡ 0) (long : length rows ≡ n) where
-        not_16 : m.number ≡ 16 → ⊥
-        not_16 e = let z : ◌≡◌ {A = ℕ} 0 16 = sym found ∙ e in omega arith
+      module _ (k : Best) (found : m.best ≡ Ok k) (long : length rows ≡ n) where
+        is_found : (ltb limit tests ≡ false) × (best ≡ Some k)
+        is_found = searched_ok limit tests best k (sym se.best ∙ found)
 
         all_taken : m.tests ≡ tests
         unfolding taken_of
-        all_taken = rw (search_within limit tests best (sym se.number ∙ found)) at se.tests
+        all_taken = rw is_found.0 at se.tests
 
-        pub best_room : FoundRoom n m.best
+        pub best_room : FoundRoom n k
         best_room =
-            let f = not-false _ (search_found limit tests best (sym se.number ∙ found)) in
             let most : max_degree settings.bound (length rows) ≤ 15 = rw long has_room.most in
-            rw (se.best not_16) (subst (λ (k : ℕ). FoundRoom k best) long (found_room settings.bound settings.criterion rows most f))
+            subst (λ (j : ℕ). FoundRoom j k) long (found_room settings.bound settings.criterion rows most k is_found.1)
 
-        pub split_whole : (b' a' : List Float) → b' ≡ side_fit (take m.best.at rows) m.best.before ++ drop 16 b
-            → a' ≡ side_fit (drop m.best.at rows) m.best.after ++ drop 16 a
-            → out (answers.Split m.best.total m.best.at m.tests m.best.before m.best.after) t b' a'
+        pub split_whole : (b' a' : List Float) → b' ≡ side_fit (take k.at rows) k.before ++ drop 16 b
+            → a' ≡ side_fit (drop k.at rows) k.after ++ drop 16 a
+            → out (Ok (record { total = k.total; at = k.at; tests = m.tests; before = k.before; after = k.after })) t b' a'
         unfolding split_on split_past split_at
         split_whole b' a' eb ea =
-            let z : search_refusal limit tests best ≡ 0 = sym se.number ∙ found in
-            rw (past, ← are, z, ← (se.best not_16), ← all_taken)
+            rw (past, ← are, ← se.best, found, ← all_taken)
             (record {
               answer = refl;
               scratch = over_cleared n s s' t se.within cleared;
-              before = over_by 16 (side_fit (take m.best.at rows) m.best.before) b b' (length_fit (take m.best.at rows) m.best.before best_room.before) eb;
-              after = over_by 16 (side_fit (drop m.best.at rows) m.best.after) a a' (length_fit (drop m.best.at rows) m.best.after best_room.after) ea;
+              before = over_by 16 (side_fit (take k.at rows) k.before) b b' (length_fit (take k.at rows) k.before best_room.before) eb;
+              after = over_by 16 (side_fit (drop k.at rows) k.after) a a' (length_fit (drop k.at rows) k.after best_room.after) ea;
             })

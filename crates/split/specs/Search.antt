@@ -1,15 +1,12 @@
 -- Document 02's search (E8), over the rows of a list with their weights: every break b, the number of rows before it, that leaves at least two on each
 -- side, in list order. Definitions only.
-use Rattle.std.specs.Prelude.{true, false, cond, not, ◌&&◌, List, ℕ, ◌+◌, ◌-◌, length, take, drop, Float}
+use Rattle.std.specs.Prelude.{Bool, false, cond, not, List, ℕ, ◌+◌, ◌-◌, length, take, drop, Float, Option, Some, None}
 use Rattle.std.specs.Float.{binary64}
 use Rattle.std.specs.Float.Ieee.{add, lt}
 use Rattle.loops.specs.Loop.{from}
-use Rattle.value.specs.Numbers.{zero_f}
 use Rattle.basis.specs.Counts.{count_of}
 use Rattle.basis.specs.declared.Basis.TheVariants.{Curve}
 use Rattle.basis.specs.declared.Degree.{Degree}
-use Rattle.basis.specs.declared.OptionDegree.{OptionDegree}
-use Rattle.basis.specs.declared.OptionDegree.TheVariants.{Some, None}
 use Rattle.statistics.specs.Degrees.{max_degree}
 use Rattle.statistics.specs.declared.DegreeBound.{DegreeBound}
 use Rattle.monomial.specs.Rows.{WeightedRow, rows_in}
@@ -36,23 +33,23 @@ side_fit rows d = (solve (sums_of rows) (count_of Curve d.0)).c
 abbrev pub total_of : Choice → Choice → Float
 total_of left right = add binary64 left.score right.score
 
--- no break yet
-abbrev pub no_break : Best
-no_break = record { found = false; at = 0; total = zero_f; before = record { 0 = 0 }; after = record { 0 = 0 } }
+-- the best so far stands against a total that is no less
+abbrev pub stands : Float → Option Best → Bool
+stands total None = false
+stands total (Some s) = not (lt total s.total)
 
 -- A break with both sides chosen takes the place of none, and of one whose total is greater. One with an unchosen side is passed over.
-unfoldable pub better_by : ℕ → OptionDegree → OptionDegree → Float → Best → Best
-better_by b (Some d) (Some e) total best =
-    cond (best.found && not (lt total best.total)) best (record { found = true; at = b; total = total; before = d; after = e })
+unfoldable pub better_by : ℕ → Option Degree → Option Degree → Float → Option Best → Option Best
+better_by b (Some d) (Some e) total best = cond (stands total best) best (Some (record { at = b; total = total; before = d; after = e }))
 better_by b (Some d) None total best = best
 better_by b None right total best = best
 
-unfoldable pub better : ℕ → Choice → Choice → Best → Best
+unfoldable pub better : ℕ → Choice → Choice → Option Best → Option Best
 better b left right best = better_by b left.chosen right.chosen (total_of left right) best
 
--- the best of the breaks from i on and below m, one after the other
-unfoldable pub best_of : (ℕ → Choice) → (ℕ → Choice) → ℕ → ℕ → Best
-best_of L R i m = from (λ b best. better b (L b) (R b) best) i m no_break
+-- the best of the breaks from i on and below m, if there is one, one after the other
+unfoldable pub best_of : (ℕ → Choice) → (ℕ → Choice) → ℕ → ℕ → Option Best
+best_of L R i m = from (λ b best. better b (L b) (R b) best) i m None
 
 -- ---- the search
 
@@ -65,7 +62,7 @@ module _ (bound : DegreeBound) (criterion : Criterion) (rows : List WeightedRow)
   right_of b = side_choice bound criterion (drop b rows)
 
   -- b from 2 to n − 2
-  unfoldable pub best_break : Best
+  unfoldable pub best_break : Option Best
   best_break = best_of left_of right_of 2 (length rows - 1)
 
   -- the pivots compared at a break: of both sides, whatever they choose, and of every degree within that side's bound

@@ -1,5 +1,5 @@
 -- What the search comes to, of any choices and any floats.
-use Rattle.std.specs.Prelude.{◌≡◌, Bool, cond, not, ◌&&◌, List, ◌⊎◌, length, take, drop, Float}
+use Rattle.std.specs.Prelude.{◌≡◌, Bool, cond, not, ◌&&◌, List, ◌⊎◌, length, take, drop, Float, Option, Some, None}
 use Rattle.std.proofs.Math.Path.{refl}
 use Rattle.std.proofs.Common.{sym, ap, ◌∙◌, inl, inr, mul-le-mul_right, length-take, length-drop}
 use Rattle.std.proofs.Math.Bool.{true, false}
@@ -20,8 +20,6 @@ use Rattle.basis.specs.Counts.{count_of}
 use Rattle.basis.specs.CountLaws.{curve_count}
 use Rattle.basis.specs.declared.Basis.TheVariants.{Curve}
 use Rattle.basis.specs.declared.Degree.{Degree}
-use Rattle.basis.specs.declared.OptionDegree.{OptionDegree}
-use Rattle.basis.specs.declared.OptionDegree.TheVariants.{Some, None}
 use Rattle.statistics.specs.Degrees.{max_degree}
 use Rattle.statistics.specs.DegreeLaws.{max_degree_grows}
 use Rattle.statistics.specs.declared.DegreeBound.{DegreeBound}
@@ -33,15 +31,17 @@ use Rattle.fit.specs.Solved.{pivot_tests}
 use Rattle.fit.specs.Chosen.{choice_of, counts_of, tests_of}
 use Rattle.fit.specs.declared.Choice.{Choice}
 use Rattle.split.specs.declared.Best.{Best}
-use Rattle.split.specs.Search.{side_choice, total_of, no_break, better_by, better, best_of, left_of, right_of, best_break, break_tests, search_tests}
+use Rattle.split.specs.Search.{side_choice, total_of, better_by, better, best_of, left_of, right_of, best_break, break_tests, search_tests}
 use Rattle.split.specs.Words.{both, IsBest, AllPassed}
 use Rattle.split.specs.Rooms.{FoundRoom, most_tests}
 
 -- ---- the best break
 
 module _ (L R : ℕ → Choice) (i : ℕ) where
-  Known : ℕ → Best → Type 0
-  Known m s = (s.found ≡ true → IsBest L R i m s) × (s.found ≡ false → AllPassed L R i m)
+  -- what is known of the breaks below m by the best one so far
+  Known : ℕ → Option Best → Type 0
+  Known m None = AllPassed L R i m
+  Known m (Some s) = IsBest L R i m s
 
   same_or_below : (b m : ℕ) → b < m + 1 → (b ≡ m) ⊎ (b < m)
   same_or_below b m h = go (ltb b m) refl
@@ -68,84 +68,79 @@ module _ (L R : ℕ → Choice) (i : ℕ) where
       least_of_lem b a c (inr l) = w.least b a l c
 
   -- break m is passed over
-  passed : (m : ℕ) (s : Best) → both L R m ≡ false → Known m s → Known (m + 1) s
+  passed : (m : ℕ) (o : Option Best) → both L R m ≡ false → Known m o → Known (m + 1) o
   unfolding Known
-  passed m s q k =
-      (λ f. kept m s (λ c. never (sym q ∙ c)) (k.0 f), λ f b a h. by_place b a (k.1 f) (same_or_below b m h))
+  passed m None q k = λ b a h. by_place b a (same_or_below b m h)
     where
-      by_place : (b : ℕ) → i ≤ b → AllPassed L R i m → (b ≡ m) ⊎ (b < m) → both L R b ≡ false
-      by_place b a o (inl e) = rw e q
-      by_place b a o (inr l) = o b a l
-
-  -- it totals no less than s
-  not_less : (m : ℕ) (s : Best) → s.found ≡ true → lt (total_of (L m) (R m)) s.total ≡ false → Known m s → Known (m + 1) s
-  unfolding Known
-  not_less m s f q k = (λ _. kept m s (λ _. q) (k.0 f), λ g. never (sym g ∙ f))
+      by_place : (b : ℕ) → i ≤ b → (b ≡ m) ⊎ (b < m) → both L R b ≡ false
+      by_place b a (inl e) = rw e q
+      by_place b a (inr l) = k b a l
+  passed m (Some s) q k = kept m s (λ c. never (sym q ∙ c)) k
 
   -- it is the best now
   new_best : (m : ℕ) (d e : Degree) → i ≤ m → (L m).chosen ≡ Some d → (R m).chosen ≡ Some e
       → ((b : ℕ) → i ≤ b → b < m → both L R b ≡ true → le (total_of (L b) (R b)) (total_of (L m) (R m)) ≡ false)
       → ((b : ℕ) → i ≤ b → b < m → both L R b ≡ true → lt (total_of (L b) (R b)) (total_of (L m) (R m)) ≡ false)
-      → Known (m + 1) (record { found = true; at = m; total = total_of (L m) (R m); before = d; after = e })
-  unfolding Known
-  new_best m d e a p q le_not lt_not = (
-    λ _. record {
-      after_first = a;
-      before_last = omega arith;
-      left = p;
-      right = q;
-      totals = refl;
-      least = λ b k h c. by_place b k c (same_or_below b m h);
-      first = le_not;
-    },
-    λ g. never (sym g),
-  )
+      → IsBest L R i (m + 1) (record { at = m; total = total_of (L m) (R m); before = d; after = e })
+  new_best m d e a p q le_not lt_not =
+      record {
+        after_first = a;
+        before_last = omega arith;
+        left = p;
+        right = q;
+        totals = refl;
+        least = λ b k h c. by_place b k c (same_or_below b m h);
+        first = le_not;
+      }
     where
       by_place : (b : ℕ) → i ≤ b → both L R b ≡ true → (b ≡ m) ⊎ (b < m) → lt (total_of (L b) (R b)) (total_of (L m) (R m)) ≡ false
       by_place b k c (inl z) = rw z (lt_itself (total_of (L m) (R m)))
       by_place b k c (inr l) = lt_not b k l c
 
   -- one break more
-  known_again : (m : ℕ) (s : Best) → i ≤ m → Known m s → Known (m + 1) (better m (L m) (R m) s)
+  known_again : (m : ℕ) (o : Option Best) → i ≤ m → Known m o → Known (m + 1) (better m (L m) (R m) o)
   unfolding better better_by Known
-  known_again m s a k = by_left (L m).chosen refl
+  known_again m o a k = by_left (L m).chosen refl
     where
       -- against what was the best
-      below_old : s.found ≡ true → lt (total_of (L m) (R m)) s.total ≡ true → (b : ℕ) → i ≤ b → b < m → both L R b ≡ true
+      below_old : (s : Best) → IsBest L R i m s → lt (total_of (L m) (R m)) s.total ≡ true → (b : ℕ) → i ≤ b → b < m → both L R b ≡ true
           → (t : Bool) → lt (total_of (L b) (R b)) (total_of (L m) (R m)) ≡ t → t ≡ false
-      below_old f q b l h c false z = refl
-      below_old f q b l h c true z = never (sym ((k.0 f).least b l h c) ∙ lt_trans _ _ _ z q)
+      below_old s w q b l h c false z = refl
+      below_old s w q b l h c true z = never (sym (w.least b l h c) ∙ lt_trans _ _ _ z q)
 
-      most_old : s.found ≡ true → lt (total_of (L m) (R m)) s.total ≡ true → (b : ℕ) → i ≤ b → b < m → both L R b ≡ true
+      most_old : (s : Best) → IsBest L R i m s → lt (total_of (L m) (R m)) s.total ≡ true → (b : ℕ) → i ≤ b → b < m → both L R b ≡ true
           → (t : Bool) → le (total_of (L b) (R b)) (total_of (L m) (R m)) ≡ t → t ≡ false
-      most_old f q b l h c false z = refl
-      most_old f q b l h c true z = never (sym ((k.0 f).least b l h c) ∙ le_lt _ _ _ z q)
+      most_old s w q b l h c false z = refl
+      most_old s w q b l h c true z = never (sym (w.least b l h c) ∙ le_lt _ _ _ z q)
 
-      by_test : (d e : Degree) → (L m).chosen ≡ Some d → (R m).chosen ≡ Some e → (f t : Bool) → s.found ≡ f → lt (total_of (L m) (R m)) s.total ≡ t
-          → Known (m + 1) (cond (f && not t) s (record { found = true; at = m; total = total_of (L m) (R m); before = d; after = e }))
-      by_test d e p q true false f t = not_less m s f t k
-      by_test d e p q true true f t =
-          new_best m d e a p q (λ b l h c. most_old f t b l h c _ refl) (λ b l h c. below_old f t b l h c _ refl)
-      by_test d e p q false t f u =
-          new_best m d e a p q (λ b l h c. never (sym (k.1 f b l h) ∙ c)) (λ b l h c. never (sym (k.1 f b l h) ∙ c))
+      by_test : (d e : Degree) → (L m).chosen ≡ Some d → (R m).chosen ≡ Some e → (s : Best) → IsBest L R i m s → (t : Bool) → lt (total_of (L m) (R m)) s.total ≡ t
+          → Known (m + 1) (cond (not t) (Some s) (Some (record { at = m; total = total_of (L m) (R m); before = d; after = e })))
+      by_test d e p q s w false t = kept m s (λ _. t) w
+      by_test d e p q s w true t =
+          new_best m d e a p q (λ b l h c. most_old s w t b l h c _ refl) (λ b l h c. below_old s w t b l h c _ refl)
 
-      by_right : (d : Degree) → (L m).chosen ≡ Some d → (o : OptionDegree) → (R m).chosen ≡ o → Known (m + 1) (better_by m (Some d) o (total_of (L m) (R m)) s)
-      by_right d p None q = passed m s (rw (p, q)) k
-      by_right d p (Some e) q = by_test d e p q s.found (lt (total_of (L m) (R m)) s.total) refl refl
+      by_best : (d e : Degree) → (L m).chosen ≡ Some d → (R m).chosen ≡ Some e → (u : Option Best) → Known m u
+          → Known (m + 1) (better_by m (Some d) (Some e) (total_of (L m) (R m)) u)
+      by_best d e p q None w = new_best m d e a p q (λ b l h c. never (sym (w b l h) ∙ c)) (λ b l h c. never (sym (w b l h) ∙ c))
+      by_best d e p q (Some s) w = by_test d e p q s w (lt (total_of (L m) (R m)) s.total) refl
 
-      by_left : (o : OptionDegree) → (L m).chosen ≡ o → Known (m + 1) (better_by m o (R m).chosen (total_of (L m) (R m)) s)
-      by_left None p = passed m s (rw p) k
+      by_right : (d : Degree) → (L m).chosen ≡ Some d → (u : Option Degree) → (R m).chosen ≡ u → Known (m + 1) (better_by m (Some d) u (total_of (L m) (R m)) o)
+      by_right d p None q = passed m o (rw (p, q)) k
+      by_right d p (Some e) q = by_best d e p q o k
+
+      by_left : (u : Option Degree) → (L m).chosen ≡ u → Known (m + 1) (better_by m u (R m).chosen (total_of (L m) (R m)) o)
+      by_left None p = passed m o (rw p) k
       by_left (Some d) p = by_right d p (R m).chosen refl
 
   known : (n : ℕ) → Known (i + n) (best_of L R i (i + n))
   unfolding best_of Known
   known zero =
       let z : i + 0 ≡ i = omega arith in
-      rw (z, done (λ b s. better b (L b) (R b) s) i i no_break (omega arith)) (λ f. never f, λ f b a h. absurd (omega arith))
+      rw (z, done (λ b s. better b (L b) (R b) s) i i None (omega arith)) (λ b a h. absurd (omega arith))
   known (suc n) =
       let z : i + suc n ≡ suc (i + n) = omega arith in
       let y : i + n + 1 ≡ suc (i + n) = omega arith in
-      rw (z, last_from (λ b s. better b (L b) (R b) s) i (i + n) no_break (omega arith)) (rw y at (known_again (i + n) (best_of L R i (i + n)) (omega arith) (known n)))
+      rw (z, last_from (λ b s. better b (L b) (R b) s) i (i + n) None (omega arith)) (rw y at (known_again (i + n) (best_of L R i (i + n)) (omega arith) (known n)))
 
 module _ (L R : ℕ → Choice) (i m : ℕ) where
   by_range : Known L R i m (best_of L R i m)
@@ -159,27 +154,27 @@ module _ (L R : ℕ → Choice) (i m : ℕ) where
           rw z at (known L R i (m - i))
       go false q =
           let l : m ≤ i = ltb-false i m q in
-          rw (done (λ b s. better b (L b) (R b) s) i m no_break l) (λ f. never f, λ f b a h. absurd (omega arith))
+          rw (done (λ b s. better b (L b) (R b) s) i m None l) (λ b a h. absurd (omega arith))
 
   -- a break that is found is the best
-  pub found_best : (best_of L R i m).found ≡ true → IsBest L R i m (best_of L R i m)
+  pub found_best : (s : Best) → best_of L R i m ≡ Some s → IsBest L R i m s
   unfolding Known
-  found_best = by_range.0
+  found_best s e = rw e at by_range
 
   -- none is found exactly if all are passed over
-  pub none_found : (best_of L R i m).found ≡ false → AllPassed L R i m
+  pub none_found : best_of L R i m ≡ None → AllPassed L R i m
   unfolding Known
-  none_found = by_range.1
+  none_found e = rw e at by_range
 
-  pub none_found_only : AllPassed L R i m → (best_of L R i m).found ≡ false
-  none_found_only p = go (best_of L R i m).found refl
+  pub none_found_only : AllPassed L R i m → best_of L R i m ≡ None
+  none_found_only p = go (best_of L R i m) refl
     where
-      go : (t : Bool) → (best_of L R i m).found ≡ t → t ≡ false
-      go false q = refl
-      go true q =
-          let w = found_best q in
-          let c : both L R (best_of L R i m).at ≡ true = rw (w.left, w.right) in
-          never (sym (p (best_of L R i m).at w.after_first w.before_last) ∙ c)
+      go : (o : Option Best) → best_of L R i m ≡ o → o ≡ None
+      go None q = refl
+      go (Some s) q =
+          let w = found_best s q in
+          let c : both L R s.at ≡ true = rw (w.left, w.right) in
+          never (sym (p s.at w.after_first w.before_last) ∙ c)
 
 -- ---- pivot tests
 
@@ -258,12 +253,11 @@ side_degree bound criterion rows d h =
     omega (arith, (chosen _ _ d.0 h).within, length_table (count_of Curve) (max_degree bound (length rows) + 1))
 
 -- a break that is found has a place in the list, and its degrees are at most 15
-pub found_room : (bound : DegreeBound) (criterion : Criterion) (rows : List WeightedRow) → max_degree bound (length rows) ≤ 15 → (best_break bound criterion rows).found ≡ true
-    → FoundRoom (length rows) (best_break bound criterion rows)
+pub found_room : (bound : DegreeBound) (criterion : Criterion) (rows : List WeightedRow) → max_degree bound (length rows) ≤ 15 → (best : Best)
+    → best_break bound criterion rows ≡ Some best → FoundRoom (length rows) best
 unfolding best_break left_of right_of
-found_room bound criterion rows h f =
-    let w = found_best (left_of bound criterion rows) (right_of bound criterion rows) 2 (length rows - 1) f in
-    let best = best_break bound criterion rows in
+found_room bound criterion rows h best f =
+    let w = found_best (left_of bound criterion rows) (right_of bound criterion rows) 2 (length rows - 1) best f in
     record {
       place = omega (arith, w.before_last);
       before = omega (arith, side_degree bound criterion (take best.at rows) best.before w.left, left_bound bound criterion rows h best.at);

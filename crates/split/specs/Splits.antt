@@ -1,11 +1,13 @@
 -- Document 02's split (E8): what it answers and writes, from samples and lengths. Definitions only.
-use Rattle.std.specs.Prelude.{◌≡◌, cond, List, [], ℕ, ltb, length, take, drop, Float}
+use Rattle.std.specs.Prelude.{◌≡◌, cond, List, [], ℕ, ltb, length, take, drop, Float, Result, Ok, Err}
 use Rattle.loops.specs.Within.{Within}
 use Rattle.statistics.specs.declared.DegreeBound.{DegreeBound}
-use Rattle.samples.specs.Samples.{Sample}
+use Rattle.samples.specs.declared.Sample.{Sample}
 use Rattle.samples.specs.Columns.{samples_of, Columns, lengths}
 use Rattle.monomial.specs.Rows.{WeightedRow, weighted_rows}
 use Rattle.score.specs.declared.Criterion.{Criterion}
+use Rattle.refusal.specs.declared.refusals.Refusal.{Refusal}
+use Rattle.refusal.specs.Named.{refused_by}
 use Rattle.refusal.specs.Refusals.{settle}
 use Rattle.lent.specs.Slices.{Contents, Slice, contents}
 use Rattle.lent.specs.Written.{over, zeros}
@@ -14,10 +16,13 @@ use Rattle.split.specs.declared.Best.{Best}
 use Rattle.split.specs.declared.CountedSplit.{CountedSplit}
 use Rattle.split.specs.declared.Places.{Places}
 use Rattle.split.specs.declared.Searched.{Searched}
-use Rattle.split.specs.declared.SplitAnswer.{SplitAnswer}
-use Rattle.split.specs.declared.SplitAnswer.TheVariants as answers
+use Rattle.split.specs.declared.Break.{Break}
 use Rattle.split.specs.Search.{side_fit, best_break, search_tests}
-use Rattle.split.specs.Refusals.{split_refusal, search_refusal}
+use Rattle.split.specs.Refusals.{split_refusal, searched}
+
+-- what a split answers: the break, or a refusal
+abbrev pub SplitAnswer : Type 0
+SplitAnswer = Result Break Refusal
 
 -- the answer, and the values written to scratch and as the two fits
 pub record SplitOut : Type 0 where
@@ -26,32 +31,30 @@ pub record SplitOut : Type 0 where
   pub before : List Float
   pub after : List Float
 
--- the number of an answer: 0 where it is a split
-abbrev pub split_number : SplitAnswer → ℕ
-split_number (answers.Split total at tests d e) = 0
-split_number (answers.Refused k) = k
-
 -- refused by r: neither fit is written
 abbrev pub split_refused : ℕ → List Float → SplitOut
-split_refused r scratch = record { answer = answers.Refused r; scratch = scratch; before = []; after = [] }
+split_refused r scratch = record { answer = refused_by r; scratch = scratch; before = []; after = [] }
 
 -- the best break: its total, how many samples are before it, the pivot tests of the whole search, and both fits, each a degree and 16 coefficients
 unfoldable pub split_at : ℕ → ℕ → List WeightedRow → Best → SplitOut
 split_at n tests rows best =
     record {
-      answer = answers.Split best.total best.at tests best.before best.after;
+      answer = Ok (record { total = best.total; at = best.at; tests = tests; before = best.before; after = best.after });
       scratch = zeros n;
       before = side_fit (take best.at rows) best.before;
       after = side_fit (drop best.at rows) best.after;
     }
 
+-- of what a search came to: refused, or the best break
+abbrev pub split_by : ℕ → ℕ → List WeightedRow → Result Best Refusal → SplitOut
+split_by n tests rows (Ok best) = split_at n tests rows best
+split_by n tests rows (Err e) = record { answer = Err e; scratch = zeros n; before = []; after = [] }
+
 -- past refusals 1 to 9: 16, 11, or the best break. Scratch is left as a report leaves it.
 unfoldable pub split_past : ℕ → DegreeBound → Criterion → ℕ → List WeightedRow → SplitOut
 split_past n bound criterion limit rows =
-    let best = best_break bound criterion rows in
     let tests = search_tests bound criterion rows in
-    let r = search_refusal limit tests best in
-    settle r (split_at n tests rows best) (split_refused r (zeros n))
+    split_by n tests rows (searched limit tests (best_break bound criterion rows))
 
 -- a split of a book of n samples; columns, sums and the memory that is written have these lengths. The sums are judged and not read.
 unfoldable pub split_on : ℕ → Settings → ℕ → List Sample → List ℕ → ℕ → Places → SplitOut
@@ -103,9 +106,8 @@ pub record SplitWithinIs (n : ℕ) (settings : Settings) (limit : ℕ) (columns 
   pub does : SplitIs n settings limit columns sums r.answer w
   pub taken : r.tests ≡ split_taken n settings limit (samples_of n columns) (lengths columns) (length sums) (places_of w)
 
--- of the code's search: r, and scratch s before and t after. Past the limit only 16 is said.
+-- of the code's search: r, and scratch s before and t after
 pub record Searches (limit : ℕ) (bound : DegreeBound) (criterion : Criterion) (rows : List WeightedRow) (n : ℕ) (s t : List Float) (r : Searched) : Type 0 where
-  pub number : r.number ≡ search_refusal limit (search_tests bound criterion rows) (best_break bound criterion rows)
+  pub best : r.best ≡ searched limit (search_tests bound criterion rows) (best_break bound criterion rows)
   pub tests : r.tests ≡ taken_of limit (search_tests bound criterion rows)
-  pub best : (r.number ≡ 16 → ⊥) → r.best ≡ best_break bound criterion rows
   pub within : Within n s t

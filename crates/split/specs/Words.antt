@@ -1,18 +1,17 @@
 -- Document 02's words on what a search finds, of any choices for the two sides and any floats. Definitions only.
-use Rattle.std.specs.Prelude.{◌≡◌, Bool, true, false, ◌&&◌, List, ℕ, ◌+◌, ◌≤◌, ◌<◌, length, Float}
+use Rattle.std.specs.Prelude.{◌≡◌, Bool, true, false, ◌&&◌, List, ℕ, ◌+◌, ◌≤◌, ◌<◌, length, Float, Option, Some, None}
 use Rattle.std.specs.Float.Ieee.{lt, le}
 use Rattle.basis.specs.declared.Degree.{Degree}
-use Rattle.basis.specs.declared.OptionDegree.{OptionDegree}
-use Rattle.basis.specs.declared.OptionDegree.TheVariants.{Some, None}
 use Rattle.statistics.specs.declared.DegreeBound.{DegreeBound}
 use Rattle.monomial.specs.Rows.{WeightedRow}
 use Rattle.score.specs.declared.Criterion.{Criterion}
 use Rattle.fit.specs.declared.Choice.{Choice}
 use Rattle.split.specs.declared.Best.{Best}
+use Rattle.split.specs.declared.Break.{Break}
 use Rattle.split.specs.Search.{total_of, left_of, right_of, search_tests}
 
 -- a side is chosen
-abbrev pub is_some : OptionDegree → Bool
+abbrev pub is_some : Option Degree → Bool
 is_some (Some d) = true
 is_some None = false
 
@@ -38,18 +37,18 @@ module _ (L R : ℕ → Choice) (i m : ℕ) where
 module _ (bound : DegreeBound) (criterion : Criterion) (limit : ℕ) (rows : List WeightedRow) where
   -- What a split answers: a break that leaves at least two samples on each side, and both sides' chosen degrees; the total is the sum of the two
   -- chosen scores; no other break totals less, and none before it as little; the number of pivot tests is the definition's, and within the limit.
-  pub record Answered (total : Float) (at tests : ℕ) (before after : Degree) : Type 0 where
-    pub two_before : 2 ≤ at
-    pub two_after : at + 2 ≤ length rows
-    pub left : (left_of bound criterion rows at).chosen ≡ Some before
-    pub right : (right_of bound criterion rows at).chosen ≡ Some after
-    pub totals : total ≡ total_of (left_of bound criterion rows at) (right_of bound criterion rows at)
-    pub least : (b : ℕ) → 2 ≤ b → b + 2 ≤ length rows → both (left_of bound criterion rows) (right_of bound criterion rows) b ≡ true
-        → lt (total_of (left_of bound criterion rows b) (right_of bound criterion rows b)) total ≡ false
-    pub first : (b : ℕ) → 2 ≤ b → b < at → both (left_of bound criterion rows) (right_of bound criterion rows) b ≡ true
-        → le (total_of (left_of bound criterion rows b) (right_of bound criterion rows b)) total ≡ false
-    pub number : tests ≡ search_tests bound criterion rows
-    pub few : tests ≤ limit
+  pub record Answered (b : Break) : Type 0 where
+    pub two_before : 2 ≤ b.at
+    pub two_after : b.at + 2 ≤ length rows
+    pub left : (left_of bound criterion rows b.at).chosen ≡ Some b.before
+    pub right : (right_of bound criterion rows b.at).chosen ≡ Some b.after
+    pub totals : b.total ≡ total_of (left_of bound criterion rows b.at) (right_of bound criterion rows b.at)
+    pub least : (c : ℕ) → 2 ≤ c → c + 2 ≤ length rows → both (left_of bound criterion rows) (right_of bound criterion rows) c ≡ true
+        → lt (total_of (left_of bound criterion rows c) (right_of bound criterion rows c)) b.total ≡ false
+    pub first : (c : ℕ) → 2 ≤ c → c < b.at → both (left_of bound criterion rows) (right_of bound criterion rows) c ≡ true
+        → le (total_of (left_of bound criterion rows c) (right_of bound criterion rows c)) b.total ≡ false
+    pub number : b.tests ≡ search_tests bound criterion rows
+    pub few : b.tests ≤ limit
 
   -- every break that leaves at least two samples on each side is passed over
   abbrev pub NoneChosen : Type 0

@@ -19,18 +19,18 @@ ghost use Rattle.lent.specs.Slices.{before, after};
 ghost use Rattle.split.specs.Search.{side_fit, better as better_f, left_of, right_of};
 ghost use Rattle.split.specs.Splits.{Searches, SplitIs, SplitWithinIs, lent_split};
 
-use basis::{Basis, CoefficientCount, Degree, OptionDegree, SUMS, TERMS};
+use basis::{Basis, CoefficientCount, Degree, SUMS, TERMS};
 use book::Book;
 use fit::Choice;
+use refusal::Refusal;
 pub use refusals::split_short;
 use score::Criterion;
 use settings::Settings;
 use statistics::DegreeBound;
 
-// The best break so far: how many samples are before it, the total, and the degrees of its two sides. Nothing is said of them where none is found.
+// The best break so far: how many samples are before it, the total, and the degrees of its two sides.
 #[derive(Clone, Copy)]
 pub struct Best {
-    pub found: bool,
     pub at: usize,
     pub total: f64,
     pub before: Degree,
@@ -45,43 +45,35 @@ pub struct Places {
     pub after: usize,
 }
 
-// What a split answers: the total, how many samples are before the break, the number of pivot tests, and the degrees of its two sides; or the number
-// of a refusal.
+// What a split answers: the total, how many samples are before the break, the number of pivot tests, and the degrees of its two sides.
 #[derive(Clone, Copy)]
-pub enum SplitAnswer {
-    Split {
-        total: f64,
-        at: usize,
-        tests: usize,
-        before: Degree,
-        after: Degree,
-    },
-    Refused(u8),
+pub struct Break {
+    pub total: f64,
+    pub at: usize,
+    pub tests: usize,
+    pub before: Degree,
+    pub after: Degree,
 }
 
 // A break with both sides chosen takes the place of none, and of one whose total is greater.
-fn better(b: usize, left: Choice, right: Choice, best: Best) -> Best
+fn better(b: usize, left: Choice, right: Choice, best: Option<Best>) -> Option<Best>
     ensures { result ≡ better_f b left right best }
 {
-    let l = left.chosen;
-    let r = right.chosen;
-    let OptionDegree::Some(before) = l else {
-        return best;
-    };
-    let OptionDegree::Some(after) = r else {
+    let (Some(before), Some(after)) = (left.chosen, right.chosen) else {
         return best;
     };
     let total = left.score + right.score;
-    if best.found & !(total < best.total) {
-        return best;
+    if let Some(held) = best {
+        if !(total < held.total) {
+            return best;
+        }
     }
-    Best {
-        found: true,
+    Some(Best {
         at: b,
         total,
         before,
         after,
-    }
+    })
 }
 
 // The sums over the samples from start on and before end, from +0. Only the corner of k rows and columns is made, which is all that k coefficients read.
@@ -164,16 +156,15 @@ fn tests_of(left: Choice, right: Choice) -> usize
 // What a split within a limit answers, and the pivot tests that it takes: none where it is refused by 1 to 9 or by 16.
 #[derive(Clone, Copy)]
 pub struct CountedSplit {
-    pub answer: SplitAnswer,
+    pub answer: Result<Break, Refusal>,
     pub tests: usize,
 }
 
-// What a search comes to: the number of the refusal, 16 or 11, or 0; the pivot tests that it takes, none at 16; and but for 16 the best break.
+// What a search comes to: the pivot tests that it takes, none at 16; and the best break, or the refusal, 16 or 11.
 #[derive(Clone, Copy)]
 pub struct Searched {
-    pub number: u8,
     pub tests: usize,
-    pub best: Best,
+    pub best: Result<Best, Refusal>,
 }
 
 // Tries every break. The left side's sums grow by one sample a break; the search ends where the pivot tests pass the limit.
@@ -194,13 +185,7 @@ fn search(
     let most = statistics::max_degree(bound, n);
     let k = most.k(Basis::Curve);
     let mut sums = side_sums(xs, ys, ws, 0, 2, k);
-    let mut best = Best {
-        found: false,
-        at: 0,
-        total: 0.0,
-        before: Degree(0),
-        after: Degree(0),
-    };
+    let mut best: Option<Best> = None;
     let mut tests = 0;
     for b in 2..last {
         let s = choose_sides(n, b, &sums, bound, criterion, xs, ys, ws, &mut *scratch);
@@ -210,24 +195,15 @@ fn search(
         best = better(b, left, right, best);
         if limit < tests {
             return Searched {
-                number: 16,
                 tests: 0,
-                best,
+                best: Err(Refusal::OverLimit),
             };
         }
         monomial::add_corner(Basis::Curve, xs, xs, ys, ws, b, b + 1, k, &mut sums);
     }
-    if !best.found {
-        return Searched {
-            number: 11,
-            tests,
-            best,
-        };
-    }
     Searched {
-        number: 0,
         tests,
-        best,
+        best: best.ok_or(Refusal::NoneChosen),
     }
 }
 
@@ -266,8 +242,8 @@ fn write(
     let at = best.at;
     let d = best.before;
     let e = best.after;
-    lent::put_terms(side_fit(xs, ys, ws, 0, at, d), earlier);
-    lent::put_terms(side_fit(xs, ys, ws, at, n, e), later);
+    lent::put_first(&side_fit(xs, ys, ws, 0, at, d), earlier);
+    lent::put_first(&side_fit(xs, ys, ws, at, n, e), later);
 }
 
 // A split of the book, with the pivot tests that it takes. The lent sums are judged and not read.
@@ -291,10 +267,9 @@ pub fn split_within(
         before: earlier.len(),
         after: later.len(),
     };
-    let refusal = refusals::split_refusal(n, settings, xs, ys, ws, sums.len(), places);
-    if refusal != 0 {
+    if let Err(refusal) = refusals::check_split(n, settings, xs, ys, ws, sums.len(), places) {
         return CountedSplit {
-            answer: SplitAnswer::Refused(refusal),
+            answer: Err(refusal),
             tests: 0,
         };
     }
@@ -302,24 +277,24 @@ pub fn split_within(
     let criterion = settings.criterion;
     let s = search(n, bound, criterion, limit, xs, ys, ws, &mut *scratch);
     lent::clear(scratch, n);
-    if s.number != 0 {
-        return CountedSplit {
-            answer: SplitAnswer::Refused(s.number),
-            tests: s.tests,
-        };
-    }
-    let best = s.best;
+    let best = match s.best {
+        Ok(best) => best,
+        Err(refusal) => {
+            return CountedSplit {
+                answer: Err(refusal),
+                tests: s.tests,
+            };
+        }
+    };
     write(n, best, xs, ys, ws, earlier, later);
-    let d = best.before;
-    let e = best.after;
     CountedSplit {
-        answer: SplitAnswer::Split {
+        answer: Ok(Break {
             total: best.total,
             at: best.at,
             tests: s.tests,
-            before: d,
-            after: e,
-        },
+            before: best.before,
+            after: best.after,
+        }),
         tests: s.tests,
     }
 }
@@ -336,7 +311,7 @@ pub fn split(
     scratch: &mut [f64],
     earlier: &mut [f64],
     later: &mut [f64],
-) -> SplitAnswer
+) -> Result<Break, Refusal>
     ensures { SplitIs book.count settings limit (columns_of xs.now ys.now ws.now) sums.now result (lent_split scratch earlier later) }
 {
     let done = split_within(

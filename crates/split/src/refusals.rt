@@ -1,29 +1,36 @@
-// Refusals 1 to 9 of a split: the number of the first test that holds, 0 if none does.
-ghost use Rattle.std.specs.Prelude.{◌≡◌, [], ◌∷◌};
+// Refusals 1 to 9 of a split: the tests in checking order, of which the first that holds refuses.
+ghost use Rattle.std.specs.Prelude.{◌≡◌};
 ghost use Rattle.samples.specs.Columns.{samples_of, columns_of, lengths};
+ghost use Rattle.refusal.specs.Named.{judged, memories_of};
 ghost use Rattle.refusal.specs.Tests.{too_short};
-ghost use Rattle.lent.specs.Slices.{before};
 ghost use Rattle.split.specs.Refusals.{split_needs, split_refusal};
 
 use crate::Places;
 use basis::{SUMS, TERMS};
+use refusal::{Refusal, too_short};
+use reporting::check_settings;
 use settings::Settings;
 
-// 1, of a split: the sums, and all that it writes.
-pub fn split_short(n: usize, xs: usize, ys: usize, ws: usize, sums: usize, p: Places) -> bool
-    ensures { result ≡ too_short n (xs ∷ ys ∷ ws ∷ []) (split_needs n sums p) }
+// The sums, and all that a split writes: of each memory, how many places it needs and how many are lent.
+fn split_memories(n: usize, sums: usize, p: Places) -> [(usize, usize); 4]
+    ensures { memories_of result ≡ split_needs n sums p }
 {
-    let fits = refusal::short(TERMS, p.before, refusal::short(TERMS, p.after, false));
-    refusal::too_short(
-        n,
-        xs,
-        ys,
-        ws,
-        refusal::short(SUMS, sums, refusal::short(n, p.scratch, fits)),
-    )
+    [
+        (SUMS, sums),
+        (n, p.scratch),
+        (TERMS, p.before),
+        (TERMS, p.after),
+    ]
 }
 
-pub fn split_refusal(
+// 1, of a split.
+pub fn split_short(n: usize, columns: &[usize], sums: usize, p: Places) -> bool
+    ensures { result ≡ too_short n columns.now (split_needs n sums p) }
+{
+    too_short(n, columns, &split_memories(n, sums, p))
+}
+
+pub fn check_split(
     n: usize,
     settings: Settings,
     xs: &[f64],
@@ -31,11 +38,9 @@ pub fn split_refusal(
     ws: &[f64],
     sums: usize,
     places: Places,
-) -> u8
-    ensures { result ≡ split_refusal n settings (samples_of n (columns_of xs.now ys.now ws.now)) (lengths (columns_of xs.now ys.now ws.now)) sums places }
+) -> Result<(), Refusal>
+    ensures { result ≡ judged (split_refusal n settings (samples_of n (columns_of xs.now ys.now ws.now)) (lengths (columns_of xs.now ys.now ws.now)) sums places) }
 {
-    if split_short(n, xs.len(), ys.len(), ws.len(), sums, places) {
-        return 1;
-    }
-    reporting::settings_refusal(n, settings, xs, ys, ws, n < 4)
+    let memories = split_memories(n, sums, places);
+    check_settings(n, settings, xs, ys, ws, &memories, n < 4)
 }

@@ -9,7 +9,7 @@ use Rattle.statistics.specs.Degrees.{max_degree}
 use Rattle.statistics.specs.declared.Confidence.{Confidence}
 use Rattle.statistics.specs.declared.DegreeBound.{DegreeBound}
 use Rattle.statistics.specs.declared.Tolerance.{Tolerance}
-use Rattle.refusal.specs.Refusals.{Refusal, by, first_of}
+use Rattle.refusal.specs.Refusals.{Test, by, first_of}
 use Rattle.refusal.specs.Tests.{Needed, needed, too_short, score_finite, tolerance_finite, no_samples, outside}
 use Rattle.settings.specs.declared.Settings.{Settings}
 use Rattle.measure.specs.Places.{term_places}
@@ -57,17 +57,17 @@ outside_points x z points = outside x (xs_in points) || outside z (zs_in points)
 -- ---- each call's tests, in checking order
 
 module _ (n : ℕ) (points : List Point) (columns : List ℕ) where
-  abbrev pub surface_fit_tests : ℕ → ℕ → ℕ → List Refusal
+  abbrev pub surface_fit_tests : ℕ → ℕ → ℕ → List Test
   surface_fit_tests degree scratch coefficients =
       by (too_short n columns (surface_fit_needs n scratch coefficients)) 1 ∷ by (not (points_finite points)) 4 ∷ by (no_samples n) 7 ∷ by (total_too_high n degree) 8 ∷ []
 
-  abbrev pub surface_report_tests : Settings → Places → List Refusal
+  abbrev pub surface_report_tests : Settings → Places → List Test
   surface_report_tests settings places =
       by (too_short n columns (surface_report_needs n places)) 1
       ∷ by (not (score_finite settings.confidence && tolerance_finite settings.tolerance && points_finite points)) 4 ∷ by (no_samples n) 7
       ∷ by (total_bound_too_high settings.bound n) 8 ∷ []
 
-  abbrev pub surface_band_tests : Float → Float → ℕ → Confidence → Tolerance → ℕ → List Refusal
+  abbrev pub surface_band_tests : Float → Float → ℕ → Confidence → Tolerance → ℕ → List Test
   surface_band_tests x z degree confidence tolerance scratch =
       by (too_short n columns (surface_band_needs n scratch)) 1
       ∷ by (not (finite x && finite z && score_finite confidence && tolerance_finite tolerance && points_finite points)) 4 ∷ by (no_samples n) 7

@@ -14,9 +14,8 @@ use Rattle.settings.specs.declared.Settings.{Settings}
 use Rattle.measure.specs.Fits.{FitOut, fit_refused, fit_past}
 use Rattle.measure.specs.Bands.{BandOut, band_refused, band_past}
 use Rattle.reporting.specs.declared.Places.{Places}
-use Rattle.reporting.specs.declared.ReportAnswer.{ReportAnswer}
 use Rattle.reporting.specs.Outputs.{LentOutputs, places_of}
-use Rattle.reporting.specs.Reports.{ReportOut, refused_early, report_of, Does}
+use Rattle.reporting.specs.Reports.{ReportAnswer, ReportOut, refused_early, report_of, Does}
 use Rattle.surface.specs.Points.{Point, PointColumns, point_lengths, points_of, rows_of_points, surface_sums}
 use Rattle.surface.specs.Refusals.{surface_fit_refusal, surface_report_refusal, surface_band_refusal}
 

@@ -4,7 +4,7 @@
 
 mod refusals;
 
-ghost use Rattle.std.specs.Prelude.{◌≡◌, cond, [], ◌≤◌, length};
+ghost use Rattle.std.specs.Prelude.{◌≡◌, [], ◌≤◌, length};
 ghost use Rattle.basis.specs.Sizes.{sum_places};
 ghost use Rattle.basis.specs.declared.Basis.TheVariants.{Surface};
 ghost use Rattle.monomial.specs.Rows.{weighted_rows_at};
@@ -19,9 +19,10 @@ ghost use Rattle.surface.specs.Limited.{SurfaceWithinIs};
 ghost use Rattle.surface.specs.Surfaces.{last_tried, surface_fit_out, surface_band_out, SurfaceReportIs};
 
 use basis::{Basis, Degree, SUMS};
-use measure::{BandAnswer, FitAnswer};
+use covariance::Band;
+use refusal::Refusal;
 pub use refusals::report_short as surface_short;
-use reporting::{Counted, Places, ReportAnswer};
+use reporting::{Counted, Places, Report};
 use settings::Settings;
 use statistics::{Confidence, Tolerance};
 
@@ -39,26 +40,21 @@ fn sums_of(n: usize, xs: &[f64], zs: &[f64], ys: &[f64]) -> [f64; SUMS]
     sums
 }
 
-// d if the test holds, else the last one before it.
-fn later(test: bool, d: usize, last: usize) -> usize
-    ensures { result ≡ cond test d last }
-{
-    if test { d } else { last }
-}
-
 // The last total degree up to the bound that has at most n terms.
 fn last_tried(n: usize, bound: Degree) -> Degree
     requires { bound.0 ≤ highest_total }
     ensures { result.0 ≡ last_tried n bound.0 }
 {
-    let most = bound.0;
-    let mut last = 0;
-    for d in 0..most {
-        let next = d + 1;
-        let k = Degree(next).k(Basis::Surface);
-        last = later(k.0 <= n, next, last);
+    let mut last = Degree(0);
+    for d in 0..bound.0 {
+        let next = Degree(d + 1);
+        let k = next.k(Basis::Surface);
+        let fits = k.0 <= n;
+        if fits {
+            last = next;
+        }
     }
-    Degree(last)
+    last
 }
 
 // The fit of the asked total degree: its 15 coefficients are written, +0 from k on.
@@ -70,21 +66,10 @@ pub fn surface_fit(
     ys: &[f64],
     scratch: &mut [f64],
     coefficients: &mut [f64],
-) -> FitAnswer
+) -> Result<Degree, Refusal>
     ensures { FitIs (surface_fit_out count degree.0 (point_columns xs.now zs.now ys.now) (before scratch) (before coefficients)) result (contents scratch) (contents coefficients) }
 {
-    let refusal = refusals::fit_refusal(
-        count,
-        degree,
-        xs,
-        zs,
-        ys,
-        scratch.len(),
-        coefficients.len(),
-    );
-    if refusal != 0 {
-        return FitAnswer::Refused(refusal);
-    }
+    refusals::check_fit(count, degree, xs, zs, ys, scratch.len(), coefficients.len())?;
     let sums = sums_of(count, xs, zs, ys);
     measure::solve_at(
         Basis::Surface,
@@ -111,10 +96,10 @@ pub fn surface_band(
     zs: &[f64],
     ys: &[f64],
     scratch: &mut [f64],
-) -> BandAnswer
+) -> Result<Band, Refusal>
     ensures { BandIs (surface_band_out count x z degree.0 confidence tolerance (point_columns xs.now zs.now ys.now) (before scratch)) result (contents scratch) }
 {
-    let refusal = refusals::band_refusal(
+    refusals::check_band(
         count,
         x,
         z,
@@ -125,10 +110,7 @@ pub fn surface_band(
         zs,
         ys,
         scratch.len(),
-    );
-    if refusal != 0 {
-        return BandAnswer::Refused(refusal);
-    }
+    )?;
     let sums = sums_of(count, xs, zs, ys);
     measure::band_of(
         Basis::Surface,
@@ -173,10 +155,9 @@ pub fn surface_report_within(
         upper: upper.len(),
         outliers: outliers.len(),
     };
-    let refusal = refusals::report_refusal(count, settings, xs, zs, ys, places);
-    if refusal != 0 {
+    if let Err(refusal) = refusals::check_report(count, settings, xs, zs, ys, places) {
         return Counted {
-            answer: ReportAnswer::Refused(refusal),
+            answer: Err(refusal),
             tests: 0,
         };
     }
@@ -218,10 +199,10 @@ pub fn surface_report(
     lower: &mut [f64],
     upper: &mut [f64],
     outliers: &mut [u8],
-) -> ReportAnswer
+) -> Result<Report, Refusal>
     ensures { SurfaceReportIs count settings (point_columns xs.now zs.now ys.now) result (outputs scratch coefficients errors pruned lower upper outliers) }
 {
-    let done = surface_report_within(
+    surface_report_within(
         count,
         settings,
         reporting::NO_LIMIT,
@@ -235,6 +216,6 @@ pub fn surface_report(
         lower,
         upper,
         outliers,
-    );
-    done.answer
+    )
+    .answer
 }

@@ -1,8 +1,14 @@
-use Rattle.allowance.proofs.Charging.{renew_short, table_renewed}
+-- `allowance::renew` meets its contract.
+use Rattle.std.proofs.Common.{refl}
+use Rattle.refusal.specs.NamedLaws.{passed, refused_on}
+use Rattle.allowance.specs.Table.{renew_out, renewed}
+use Rattle.allowance.proofs.Charging.{table_refused}
 use Rattle.allowance.proofs.renew.Goals as goal
 
-pub returns-then-table-lt-TABLE : goal.returns-then-table-lt-TABLE
-returns-then-table-lt-TABLE c = renew_short _ c.if-table-lt-TABLE.true
+pub returns-in_err-check_table : goal.returns-in_err-check_table
+unfolding renew_out
+returns-in_err-check_table c = table_refused _ _ _ (refused_on c.check_table.ensures c.in_err-check_table.was c.from_residual.ensures.1)
 
 pub returns : goal.returns
-returns c = table_renewed _ _ c.if-table-lt-TABLE.false c.fill.ensures
+unfolding renew_out renewed
+returns c = rw (passed c.check_table.ensures c.in_ok-check_table.was) (record { answer = refl; table = c.fill.ensures })

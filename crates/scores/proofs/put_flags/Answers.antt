@@ -1,22 +1,18 @@
--- `scores::put_flags` meets its contract. The loop's invariant: the places passed hold their bytes.
-use mathlib.Core.Path.{◌≡◌, refl, ◌∙◌}
-use mathlib.Core.Bool.{false}
-use native.Mathlib.Omega.{arith}
-use borrow.Author.Rules.{rules}
-use lib.ListN.{get_or, length-set}
-use Rattle.loops.specs.Places.{each}
-use Rattle.loops.specs.PlaceLaws.{each_again}
-use Rattle.scores.proofs.Scoring.{byte_is, marks_written}
+-- `scores::put_flags` meets its contract.
+use Rattle.std.proofs.Common.{◌≡◌, sym, ap, ◌∙◌, ◌++◌, map, ◌<◌, ℕ, length, drop, get_or, false, arith, rules}
+use Rattle.std.proofs.lemmas.List.{ext_get_or, length-map}
+use Rattle.loops.specs.PlaceLaws.{map_at}
+use Rattle.covariance.specs.Marks.{mark}
 use Rattle.scores.proofs.put_flags.Goals as goal
-
-pub loop-i-init : goal.loop-i-init
-unfolding each
-loop-i-init c = (search rules, refl, refl)
-
-pub loop-i-preserved : goal.loop-i-preserved
-loop-i-preserved c = (search rules, simp length-set c.loop-i.invariant.1, rw (c.loop-i.invariant.2, byte_is (get_or c.args.flags c.loop-i.i false)) (each_again _ _ _ 0 (search rules)))
 
 pub returns : goal.returns
 returns c =
-    let z : c.loop-i.i ≡ 16 = omega arith in
-    (rw z at c.loop-i.invariant.2) ∙ marks_written c.args.flags c.args.out.now (search rules) (search rules)
+    let bytes = c.map-bytes.result in
+    let items = c.map-bytes.ensures.items in
+    let sixteen : length c.args.flags ≡ 16 = search rules in
+    let same : (i : ℕ) → i < length bytes → get_or bytes i 0 ≡ get_or (map mark c.args.flags) i 0 =
+    λ i h.
+    (items.at i false 0 (omega (arith, h, items.long))).2.met
+    ∙ sym (map_at mark c.args.flags i false 0 (omega (arith, h, items.long, sixteen))) in
+    ap (λ l. l ++ drop 16 c.args.out.now)
+    (c.copy_from_slice.ensures.after ∙ ext_get_or 0 bytes (map mark c.args.flags) (items.long ∙ sym (length-map c.args.flags mark ∙ sixteen)) same)

@@ -14,7 +14,7 @@ use Rattle.monomial.specs.RowLaws.{length_weighted_at}
 use Rattle.monomial.specs.Sums.{sums_of}
 use Rattle.monomial.specs.Corner.{SameCorner}
 use Rattle.split.proofs.Corners.{corner_grows}
-use Rattle.split.proofs.Searching.{tests_from, best_again, tests_again, tests_few, best_done, tests_done, best_whole, tests_whole, tests_grow, searches_over, searches_none, searches_found, rows_bound}
+use Rattle.split.proofs.Searching.{tests_from, best_again, tests_again, tests_few, best_done, tests_done, best_whole, tests_whole, tests_grow, searches_over, searches_done, found_or, rows_bound}
 use Rattle.split.proofs.search.Goals as goal
 
 pub k-k-requires : goal.k-k-requires
@@ -53,7 +53,7 @@ returns-then-limit-tests c =
     let e = ap (λ k. tests_from c.args.bound c.args.criterion rows (c.loop-b.b + 1) (c.args.n - 1) (c.loop-b.tests + k)) c.tests_of-tests.ensures
     ∙ tests_again c.args.bound c.args.criterion rows c.loop-b.b (c.args.n - 1) c.choose_sides-s.result.left c.choose_sides-s.result.right c.choose_sides-s.ensures.left c.choose_sides-s.ensures.right c.loop-b-test.true c.loop-b.tests
     ∙ c.loop-b.invariant.8 in
-    searches_over c.args.bound c.args.criterion rows c.args.limit c.args.n _ _ (within_then c.loop-b.invariant.4 c.choose_sides-s.ensures.within) _ _ c.if-limit-tests.true (omega (arith, grown, e))
+    searches_over c.args.bound c.args.criterion rows c.args.limit c.args.n _ _ (within_then c.loop-b.invariant.4 c.choose_sides-s.ensures.within) _ c.if-limit-tests.true (omega (arith, grown, e))
 
 pub overflow_add-b : goal.overflow_add-b
 overflow_add-b c = omega (arith, c.loop-b-test.true, c.requires.4)
@@ -83,16 +83,9 @@ loop-b-preserved c =
       e,
     )
 
-pub returns-then-not-best : goal.returns-then-not-best
-returns-then-not-best c =
-    let rows = weighted_rows_at Curve c.args.n c.args.xs.now c.args.xs.now c.args.ys.now c.args.ws.now in
-    let et = sym (tests_done c.args.bound c.args.criterion rows c.loop-b.b (c.args.n - 1) c.loop-b.tests c.loop-b-test.false) ∙ c.loop-b.invariant.8 in
-    let eb = sym (best_done c.args.bound c.args.criterion rows c.loop-b.b (c.args.n - 1) c.loop-b.best c.loop-b-test.false) ∙ c.loop-b.invariant.7 in
-    searches_none c.args.bound c.args.criterion rows c.args.limit c.args.n _ _ c.loop-b.invariant.4 c.loop-b.tests c.loop-b.best c.loop-b.invariant.2 et eb (not-true _ c.if-not-best.true)
-
 pub returns : goal.returns
 returns c =
     let rows = weighted_rows_at Curve c.args.n c.args.xs.now c.args.xs.now c.args.ys.now c.args.ws.now in
     let et = sym (tests_done c.args.bound c.args.criterion rows c.loop-b.b (c.args.n - 1) c.loop-b.tests c.loop-b-test.false) ∙ c.loop-b.invariant.8 in
     let eb = sym (best_done c.args.bound c.args.criterion rows c.loop-b.b (c.args.n - 1) c.loop-b.best c.loop-b-test.false) ∙ c.loop-b.invariant.7 in
-    searches_found c.args.bound c.args.criterion rows c.args.limit c.args.n _ _ c.loop-b.invariant.4 c.loop-b.tests c.loop-b.best c.loop-b.invariant.2 et eb (not-false _ c.if-not-best.false)
+    searches_done c.args.bound c.args.criterion rows c.args.limit c.args.n _ _ c.loop-b.invariant.4 c.loop-b.tests c.loop-b.invariant.2 et c.loop-b.best eb _ (c.ok_or.ensures.value ∙ found_or c.loop-b.best)

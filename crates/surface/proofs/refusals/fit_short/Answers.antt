@@ -1,6 +1,0 @@
--- `surface::refusals::fit_short` meets its contract.
-use Rattle.refusal.specs.RoomLaws.{short_of, short_end, short_is}
-use Rattle.surface.proofs.refusals.fit_short.Goals as goal
-
-pub returns : goal.returns
-returns c = short_is _ _ _ c.too_short.ensures (short_of _ _ _ c.short.ensures (short_of _ _ _ c.short-written.ensures short_end))
