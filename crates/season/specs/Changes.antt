@@ -1,10 +1,9 @@
 -- What each call that changes a season answers and leaves, over the memory that it was lent. Definitions only.
-use Rattle.std.specs.Prelude.{◌≡◌, List, ℕ, length}
+use Rattle.std.specs.Prelude.{◌≡◌, ℕ, length}
 use Rattle.loops.specs.Loop.{from}
 use Rattle.refusal.specs.Refusals.{settle}
-use Rattle.book.specs.declared.Answer.{Answer}
-use Rattle.book.specs.declared.Answer.TheVariants as answers
-use Rattle.book.specs.Calls.{Out, State, state_after, book_of, open_out}
+use Rattle.refusal.specs.Named.{refused_by}
+use Rattle.book.specs.Calls.{Answer, Out, State, state_after, book_of, open_out}
 use Rattle.ledger.specs.Ledger.{Change, out_of}
 use Rattle.ledger.specs.Ledger as ledger
 use Rattle.carried.specs.Carry.{carry_out}
@@ -24,7 +23,7 @@ pub record SeasonIs (o : SeasonOut) (r : Answer) (left : SeasonState) : Type 0 w
 
 -- refused by r: everything is left
 abbrev pub left_alone : ℕ → SeasonState → SeasonOut
-left_alone r S = record { answer = answers.Refused r; season = S }
+left_alone r S = record { answer = refused_by r; season = S }
 
 -- the book's own call on the parts of stake s, put back in their place
 unfoldable pub on_stake : ℕ → SeasonState → (State → Out) → SeasonOut
@@ -37,13 +36,13 @@ on_stake s S call =
 abbrev pub season_out : ℕ → SeasonState → Change → SeasonOut
 season_out s S c = on_stake s S (λ b. out_of b c)
 
--- what the code asks of a stake, with the bytes of a frame or a text, as a call of the ledger's lists
-unfoldable pub change_of : Asked → List ℕ → Change
-change_of (asked.Add x y w) bytes = ledger.adds (record { x = x; y = y; w = w })
-change_of (asked.Window x y w) bytes = ledger.windows (record { x = x; y = y; w = w })
-change_of (asked.Withdraw i) bytes = ledger.withdraws i
-change_of asked.Frame bytes = ledger.frames bytes
-change_of asked.Lines bytes = ledger.texts bytes
+-- what the code asks of a stake, as a call of the ledger's lists
+unfoldable pub change_of : Asked → Change
+change_of (asked.Add p) = ledger.adds p
+change_of (asked.Window p) = ledger.windows p
+change_of (asked.Withdraw i) = ledger.withdraws i
+change_of (asked.Frame f) = ledger.frames f.now
+change_of (asked.Lines t) = ledger.texts t.now
 
 -- open: the stake is empty, and its columns stand
 abbrev pub opens : State → Out

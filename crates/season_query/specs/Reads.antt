@@ -8,19 +8,14 @@ use Rattle.score.specs.declared.Criterion.{Criterion}
 use Rattle.lent.specs.Slices.{Contents}
 use Rattle.lent.specs.Written.{over}
 use Rattle.book.specs.Calls.{State}
-use Rattle.measure.specs.declared.FitAnswer.{FitAnswer}
-use Rattle.measure.specs.declared.BandAnswer.{BandAnswer}
-use Rattle.measure.specs.Fits.{FitOut, fit_refused}
-use Rattle.measure.specs.Bands.{BandOut, band_refused}
+use Rattle.measure.specs.Fits.{FitAnswer, FitOut, fit_refused}
+use Rattle.measure.specs.Bands.{BandAnswer, BandOut, band_refused}
 use Rattle.query.specs.Fits.{fit_out, validate_out}
 use Rattle.query.specs.Bands.{band_out}
 use Rattle.settings.specs.declared.Settings.{Settings}
-use Rattle.losses.specs.declared.LossAnswer.{LossAnswer}
-use Rattle.losses.specs.Losses.{LossOut, loss_refused, loss_out}
-use Rattle.scores.specs.declared.ScoresAnswer.{ScoresAnswer}
-use Rattle.scores.specs.Scores.{ScoresOut, scores_refused, scores_out}
-use Rattle.split.specs.declared.SplitAnswer.{SplitAnswer}
-use Rattle.split.specs.Splits.{SplitOut, LentSplit, split_refused, split_out}
+use Rattle.losses.specs.Losses.{LossAnswer, LossOut, loss_refused, loss_out}
+use Rattle.scores.specs.Scores.{ScoresAnswer, ScoresOut, scores_refused, scores_out}
+use Rattle.split.specs.Splits.{SplitAnswer, SplitOut, LentSplit, split_refused, split_out}
 use Rattle.stakes.specs.Parts.{part_of, over_part}
 use Rattle.stakes.specs.Season.{SeasonState, read_stake}
 

@@ -1,5 +1,5 @@
 // The season book's calls that read a stake, but for the report. Each is promised to answer and to write what the book's own call does on the stake's parts.
-#![tactic(auto)]
+#![tactic(auto, using(stakes::proofs::Pieces::below))]
 
 ghost use Rattle.samples.specs.Columns.{columns_of};
 ghost use Rattle.lent.specs.Slices.{before, contents};
@@ -9,12 +9,13 @@ ghost use Rattle.season_query.specs.Reads.{fit_from, validate_from, stake_fit_ou
 
 use basis::Degree;
 use book::Book;
-use losses::LossAnswer;
-use measure::{BandAnswer, FitAnswer};
+use covariance::Band;
+use losses::LossTotals;
+use refusal::Refusal;
 use score::Criterion;
-use scores::ScoresAnswer;
+use scores::ScoreTable;
 use settings::Settings;
-use split::SplitAnswer;
+use split::Break;
 use statistics::{Confidence, DegreeBound, Tolerance};
 
 // The fit of the asked degree.
@@ -28,20 +29,13 @@ pub fn fit(
     sums: &[f64],
     scratch: &mut [f64],
     coefficients: &mut [f64],
-) -> FitAnswer
+) -> Result<Degree, Refusal>
     ensures { StakeFitIs stake (stake_fit_out (fit_from degree.0) stake (season_of counts.now (columns_of xs.now ys.now ws.now) sums.now) (before scratch) (before coefficients)) result (contents scratch) (contents coefficients) }
 {
-    let refusal = stakes::stake_refusal(stake, counts.len());
-    if refusal != 0 {
-        return FitAnswer::Refused(refusal);
-    }
+    stakes::check_stake(stake, counts.len())?;
     let n = counts[stake];
     let t = stakes::cut(scratch.len(), stake);
-    let t_start = t.start;
-    let t_end = t.end;
     let c = stakes::cut(coefficients.len(), stake);
-    let c_start = c.start;
-    let c_end = c.end;
     query::fit(
         Book { count: n },
         degree,
@@ -49,8 +43,8 @@ pub fn fit(
         stakes::part(ys, stake),
         stakes::part(ws, stake),
         stakes::part(sums, stake),
-        &mut scratch[t_start..t_end],
-        &mut coefficients[c_start..c_end],
+        &mut scratch[t],
+        &mut coefficients[c],
     )
 }
 
@@ -67,20 +61,13 @@ pub fn validate(
     sums: &[f64],
     scratch: &mut [f64],
     coefficients: &mut [f64],
-) -> FitAnswer
+) -> Result<Degree, Refusal>
     ensures { StakeFitIs stake (stake_fit_out (validate_from folds bound criterion) stake (season_of counts.now (columns_of xs.now ys.now ws.now) sums.now) (before scratch) (before coefficients)) result (contents scratch) (contents coefficients) }
 {
-    let refusal = stakes::stake_refusal(stake, counts.len());
-    if refusal != 0 {
-        return FitAnswer::Refused(refusal);
-    }
+    stakes::check_stake(stake, counts.len())?;
     let n = counts[stake];
     let t = stakes::cut(scratch.len(), stake);
-    let t_start = t.start;
-    let t_end = t.end;
     let c = stakes::cut(coefficients.len(), stake);
-    let c_start = c.start;
-    let c_end = c.end;
     query::validate(
         Book { count: n },
         folds,
@@ -90,8 +77,8 @@ pub fn validate(
         stakes::part(ys, stake),
         stakes::part(ws, stake),
         stakes::part(sums, stake),
-        &mut scratch[t_start..t_end],
-        &mut coefficients[c_start..c_end],
+        &mut scratch[t],
+        &mut coefficients[c],
     )
 }
 
@@ -108,17 +95,12 @@ pub fn band(
     ws: &[f64],
     sums: &[f64],
     scratch: &mut [f64],
-) -> BandAnswer
+) -> Result<Band, Refusal>
     ensures { StakeBandIs stake (stake_band_out (band_from x degree.0 confidence tolerance) stake (season_of counts.now (columns_of xs.now ys.now ws.now) sums.now) (before scratch)) result (contents scratch) }
 {
-    let refusal = stakes::stake_refusal(stake, counts.len());
-    if refusal != 0 {
-        return BandAnswer::Refused(refusal);
-    }
+    stakes::check_stake(stake, counts.len())?;
     let n = counts[stake];
     let t = stakes::cut(scratch.len(), stake);
-    let t_start = t.start;
-    let t_end = t.end;
     query::band(
         Book { count: n },
         x,
@@ -129,7 +111,7 @@ pub fn band(
         stakes::part(ys, stake),
         stakes::part(ws, stake),
         stakes::part(sums, stake),
-        &mut scratch[t_start..t_end],
+        &mut scratch[t],
     )
 }
 
@@ -144,17 +126,12 @@ pub fn losses(
     sums: &[f64],
     scratch: &mut [f64],
     losses: &mut [f64],
-) -> LossAnswer
+) -> Result<LossTotals, Refusal>
     ensures { StakeLossIs stake (stake_loss_out (loss_from settings (before losses)) stake (season_of counts.now (columns_of xs.now ys.now ws.now) sums.now) (before scratch)) result (contents scratch) (contents losses) }
 {
-    let refusal = stakes::stake_refusal(stake, counts.len());
-    if refusal != 0 {
-        return LossAnswer::Refused(refusal);
-    }
+    stakes::check_stake(stake, counts.len())?;
     let n = counts[stake];
     let t = stakes::cut(scratch.len(), stake);
-    let t_start = t.start;
-    let t_end = t.end;
     losses::losses(
         Book { count: n },
         settings,
@@ -162,7 +139,7 @@ pub fn losses(
         stakes::part(ys, stake),
         stakes::part(ws, stake),
         stakes::part(sums, stake),
-        &mut scratch[t_start..t_end],
+        &mut scratch[t],
         losses,
     )
 }
@@ -179,17 +156,12 @@ pub fn scores(
     scratch: &mut [f64],
     solved: &mut [u8],
     scores: &mut [f64],
-) -> ScoresAnswer
+) -> Result<ScoreTable, Refusal>
     ensures { StakeScoresIs stake (stake_scores_out (scores_from settings (before solved) (before scores)) stake (season_of counts.now (columns_of xs.now ys.now ws.now) sums.now) (before scratch)) result (contents scratch) (contents solved) (contents scores) }
 {
-    let refusal = stakes::stake_refusal(stake, counts.len());
-    if refusal != 0 {
-        return ScoresAnswer::Refused(refusal);
-    }
+    stakes::check_stake(stake, counts.len())?;
     let n = counts[stake];
     let t = stakes::cut(scratch.len(), stake);
-    let t_start = t.start;
-    let t_end = t.end;
     scores::scores(
         Book { count: n },
         settings,
@@ -197,7 +169,7 @@ pub fn scores(
         stakes::part(ys, stake),
         stakes::part(ws, stake),
         stakes::part(sums, stake),
-        &mut scratch[t_start..t_end],
+        &mut scratch[t],
         solved,
         scores,
     )
@@ -216,17 +188,12 @@ pub fn split(
     scratch: &mut [f64],
     earlier: &mut [f64],
     later: &mut [f64],
-) -> SplitAnswer
+) -> Result<Break, Refusal>
     ensures { StakeSplitIs stake (stake_split_out (split_from settings limit (before earlier) (before later)) stake (season_of counts.now (columns_of xs.now ys.now ws.now) sums.now) (before scratch)) result (lent_split scratch earlier later) }
 {
-    let refusal = stakes::stake_refusal(stake, counts.len());
-    if refusal != 0 {
-        return SplitAnswer::Refused(refusal);
-    }
+    stakes::check_stake(stake, counts.len())?;
     let n = counts[stake];
     let t = stakes::cut(scratch.len(), stake);
-    let t_start = t.start;
-    let t_end = t.end;
     split::split(
         Book { count: n },
         settings,
@@ -235,7 +202,7 @@ pub fn split(
         stakes::part(ys, stake),
         stakes::part(ws, stake),
         stakes::part(sums, stake),
-        &mut scratch[t_start..t_end],
+        &mut scratch[t],
         earlier,
         later,
     )

@@ -1,20 +1,26 @@
 -- A report of one stake: from what the book's own report promises on the stake's parts to what the season's promises, refused and not.
-use mathlib.Core.Path.{◌≡◌, ap, ◌∙◌}
+use Rattle.std.specs.Prelude.{Bool, Ok, Err, ◌≤◌}
+use Rattle.std.specs.Int.{from_bool}
+use Rattle.std.proofs.Common.{arith}
+use Rattle.std.specs.Result.{is_ok}
+use mathlib.Core.Path.{◌≡◌, refl, sym, ap, ◌∙◌}
 use Prim.Native.Nat.{ℕ, ◌+◌}
 use lib.ListN.{length, set}
 use Rattle.book.specs.Calls.{State}
+use Rattle.refusal.specs.Named.{refused_by}
 use Rattle.settings.specs.declared.Settings.{Settings}
-use Rattle.reporting.specs.declared.ReportAnswer.{ReportAnswer}
-use Rattle.reporting.specs.declared.ReportAnswer.TheVariants as answers
 use Rattle.reporting.specs.Outputs.{Outputs, nothing, over_all}
-use Rattle.reporting.specs.Reports.{ReportOut, Does, refused_early}
+use Rattle.reporting.specs.Reports.{ReportAnswer, ReportOut, Does, refused_early}
 use Rattle.stakes.specs.Parts.{with_part}
 use Rattle.stakes.specs.Season.{SeasonState, stake_state, stake_refusal}
-use Rattle.stakes.specs.SeasonLaws.{none_over}
-use Rattle.stakes.proofs.Pieces.{Piece, done_is, none_is}
-use Rattle.season_report.specs.Reports.{parts_of, over_parts, report_from, stake_report_out, StakeReportIs, passes, Reported, told_of, report_turn}
+use Rattle.stakes.specs.SeasonLaws.{read_done, read_refused, none_over}
+use Rattle.stakes.proofs.Pieces.{Piece}
+use Rattle.season_report.specs.Reports.{parts_of, over_parts, report_from, stake_report_out, StakeReportIs, passes, Reported, report_turn}
 
-module _ (s : ℕ) (S : SeasonState) (r : ℕ) (e : r ≡ stake_refusal s (length S.counts)) (settings : Settings) (w : Outputs) where
+module _ (s : ℕ) (S : SeasonState) (settings : Settings) (w : Outputs) where
+  abbrev refusal : ℕ
+  refusal = stake_refusal s (length S.counts)
+
   abbrev call : State → ReportOut
   call b = report_from settings b (parts_of s w)
 
@@ -31,11 +37,11 @@ module _ (s : ℕ) (S : SeasonState) (r : ℕ) (e : r ≡ stake_refusal s (lengt
         outliers = none_over s w.outliers j;
       }
 
-  pub report_refused : (r ≡ 0 → ⊥) → StakeReportIs s (stake_report_out settings s S w) (answers.Refused r) (record { found = w; left = w })
+  pub report_refused : {a : ReportAnswer} → (refusal ≡ 0 → ⊥) × (a ≡ refused_by refusal) → StakeReportIs s (stake_report_out settings s S w) a (record { found = w; left = w })
   report_refused h =
-      let q : refused_early r ≡ stake_report_out settings s S w = none_is s S r e call refused_early h in
+      let q : refused_early refusal ≡ stake_report_out settings s S w = sym (read_refused s S call refused_early refusal refl h.0) in
       record {
-        answer = ap (λ (o : ReportOut). o.answer) q;
+        answer = h.1 ∙ ap (λ (o : ReportOut). o.answer) q;
         outputs = none_over_all ∙ ap (λ (o : ReportOut). over_parts s o.written w) q;
       }
 
@@ -52,7 +58,7 @@ module _ (s : ℕ) (S : SeasonState) (r : ℕ) (e : r ≡ stake_refusal s (lengt
         outliers = with_part s q.outliers w.outliers;
       }
 
-  pub report_done : r ≡ 0 → {b : State} → b ≡ stake_state s S → {p q m : Outputs}
+  pub report_done : refusal ≡ 0 → {b : State} → b ≡ stake_state s S → {p q m : Outputs}
       → Piece s w.scratch p.scratch q.scratch m.scratch
       → Piece s w.coefficients p.coefficients q.coefficients m.coefficients
       → Piece s w.errors p.errors q.errors m.errors
@@ -64,7 +70,7 @@ module _ (s : ℕ) (S : SeasonState) (r : ℕ) (e : r ≡ stake_refusal s (lengt
   report_done z {b = b} own {p = p} {q = q} {m = m} pt pc pe pp pl pu po i =
       let parts : p ≡ parts_of s w = λ j. record { scratch = pt.found j; coefficients = pc.found j; errors = pe.found j; pruned = pp.found j; lower = pl.found j; upper = pu.found j; outliers = po.found j } in
       let o : report_from settings b p ≡ stake_report_out settings s S w
-      = (λ j. report_from settings (own j) (parts j)) ∙ done_is s S r e call refused_early z in
+      = (λ j. report_from settings (own j) (parts j)) ∙ sym (read_done s S call refused_early z) in
       let left : m ≡ put_back q = λ j. record { scratch = pt.left j; coefficients = pc.left j; errors = pe.left j; pruned = pp.left j; lower = pl.left j; upper = pu.left j; outliers = po.left j } in
       record {
         answer = i.answer ∙ ap (λ (o : ReportOut). o.answer) o;
@@ -73,10 +79,15 @@ module _ (s : ℕ) (S : SeasonState) (r : ℕ) (e : r ≡ stake_refusal s (lengt
 
 -- ---- one turn of the season report: a is the stake's answer, p says whether it passed, and m is the memory that it left
 
+-- a report that is not refused adds 1
+pub passes_is : {p : ℕ} {b : Bool} (a : ReportAnswer) → p ≡ from_bool b → b ≡ is_ok a → (p ≡ passes a) × (p ≤ 1)
+passes_is (Ok r) e q = rw (e, q) (refl, omega arith)
+passes_is (Err k) e q = rw (e, q) (refl, omega arith)
+
 pub turn_is : (settings : Settings) (S : SeasonState) (s : ℕ) (t : Reported) {a : ReportAnswer} {p : ℕ} {m : Outputs}
     → StakeReportIs s (stake_report_out settings s S t.lent) a (record { found = t.lent; left = m }) → p ≡ passes a
-    → ◌≡◌ {A = Reported} (record { reports = set t.reports s (told_of a); passed = t.passed + p; lent = m }) (report_turn settings S s t)
+    → ◌≡◌ {A = Reported} (record { reports = set t.reports s a; passed = t.passed + p; lent = m }) (report_turn settings S s t)
 unfolding report_turn
 turn_is settings S s t i e =
     let q = e ∙ ap passes i.answer in
-    λ j. record { reports = set t.reports s (told_of (i.answer j)); passed = t.passed + q j; lent = i.outputs j }
+    λ j. record { reports = set t.reports s (i.answer j); passed = t.passed + q j; lent = i.outputs j }

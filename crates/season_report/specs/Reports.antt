@@ -1,14 +1,12 @@
 -- A report of one stake, and the season report: the stakes in order, each one's report or refusal, with the number of stakes not refused. Definitions only.
-use Rattle.std.specs.Prelude.{◌≡◌, List, ℕ, ◌+◌, set, replicate}
+use Rattle.std.specs.Prelude.{◌≡◌, List, ℕ, ◌+◌, set, replicate, Ok, Err}
 use Rattle.loops.specs.Loop.{from}
 use Rattle.book.specs.Calls.{State}
+use Rattle.refusal.specs.Named.{refused_by}
 use Rattle.settings.specs.declared.Settings.{Settings}
-use Rattle.reporting.specs.declared.ReportAnswer.{ReportAnswer}
-use Rattle.reporting.specs.declared.ReportAnswer.TheVariants as answers
 use Rattle.reporting.specs.Outputs.{Outputs, LentOutputs, places_of}
-use Rattle.reporting.specs.Reports.{ReportOut, refused_early}
+use Rattle.reporting.specs.Reports.{ReportAnswer, ReportOut, refused_early}
 use Rattle.report.specs.Reports.{report_out}
-use Rattle.season_report.specs.declared.StakeReport.{StakeReport}
 use Rattle.season_report.specs.declared.SeasonReport.{SeasonReport}
 use Rattle.stakes.specs.Parts.{stakes, part_of, over_part}
 use Rattle.stakes.specs.Season.{SeasonState, read_stake}
@@ -62,27 +60,24 @@ StakeReports settings s S r w = StakeReportIs s (stake_report_out settings s S w
 
 -- 1 where a report is not refused, else 0
 abbrev pub passes : ReportAnswer → ℕ
-passes (answers.Report d s o p) = 1
-passes (answers.Refused k) = 0
+passes (Ok r) = 1
+passes (Err k) = 0
 
 -- what is told, and the written memory
 pub record Reported : Type 0 where
-  pub reports : List StakeReport
+  pub reports : List ReportAnswer
   pub passed : ℕ
   pub lent : Outputs
-
-abbrev pub told_of : ReportAnswer → StakeReport
-told_of a = record { answer = a }
 
 -- the report of stake s, on the memory as the stakes before it left it and whatever they gave
 unfoldable pub report_turn : Settings → SeasonState → ℕ → Reported → Reported
 report_turn settings S s t =
     let o = stake_report_out settings s S t.lent in
-    record { reports = set t.reports s (told_of o.answer); passed = t.passed + passes o.answer; lent = over_parts s o.written t.lent }
+    record { reports = set t.reports s o.answer; passed = t.passed + passes o.answer; lent = over_parts s o.written t.lent }
 
 -- before the first
 abbrev pub unreported : Outputs → Reported
-unreported w = record { reports = replicate stakes (told_of (answers.Refused 1)); passed = 0; lent = w }
+unreported w = record { reports = replicate stakes (refused_by 1); passed = 0; lent = w }
 
 unfoldable pub season_report : Settings → SeasonState → Outputs → Reported
 season_report settings S w = from (report_turn settings S) 0 stakes (unreported w)

@@ -10,7 +10,7 @@ use lib.Seq.{length-take-le}
 use lib.Ieee.{Float}
 use Rattle.loops.specs.Fold.{fold}
 use Rattle.value.specs.Numbers.{one_f}
-use Rattle.samples.specs.Samples.{Sample}
+use Rattle.samples.specs.declared.Sample.{Sample}
 use Rattle.samples.specs.Columns.{Column, of_x, of_y, of_w, lengths, samples_of, with_y, no_columns}
 use Rattle.samples.specs.ColumnLaws.{of_every}
 use Rattle.monomial.specs.Rows.{weighted_rows}

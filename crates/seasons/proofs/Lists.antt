@@ -2,7 +2,7 @@
 use mathlib.Core.Path.{◌≡◌, refl, sym, ap, ap₂, ◌∙◌}
 use mathlib.Core.Logic.{⊎_elim}
 use mathlib.Core.Bool.{Bool, true, false, cond}
-use mathlib.Core.Option.{none, some}
+use Rattle.std.specs.Prelude.{None, Some}
 use mathlib.Core.List.{List, [], ◌∷◌, ◌++◌, map}
 use Prim.Native.Nat.{ℕ, zero, suc, ◌/◌, ◌≤◌, ◌<◌}
 use native.Mathlib.Omega.{arith}
@@ -11,6 +11,7 @@ use borrow.Author.Tests.{eqb-true, eqb-false, ltb-false, le-ltb}
 use lib.Dec.{eqb, ltb}
 use lib.ListN.{length, get_or, drop}
 use lib.Ieee.{Float}
+use Rattle.refusal.specs.Named.{refused_by}
 use Rattle.loops.specs.Cases.{or_false}
 use Rattle.loops.specs.Fold.{fold}
 use Rattle.loops.specs.Loop.{from}
@@ -24,7 +25,6 @@ use Rattle.refusal.specs.Tests.{any_short}
 use Rattle.samples.specs.Columns.{Columns, no_columns}
 use Rattle.monomial.specs.Sums.{sums_of}
 use Rattle.settings.specs.declared.Settings.{Settings}
-use Rattle.book.specs.declared.Answer.TheVariants as answers
 use Rattle.book.specs.Refusals.{open_refusal}
 use Rattle.book.specs.Calls.{Out, State, state_of, state_after, book_of, book_after, refused, open_out}
 use Rattle.reporting.specs.declared.Places.{Places}
@@ -90,7 +90,7 @@ open_taken : (S : SeasonState) (k : ℕ) → season_open_refusal (length S.count
 unfolding season_open_out
 open_taken S zero e a = refl
 open_taken S (suc k) e a =
-    let w : answers.Refused (suc k) ≡ book_of 0 = rw e at a in
+    let w : refused_by (suc k) ≡ book_of 0 = rw e at a in
     let z : ◌≡◌ {A = ℕ} 0 1 = cc in
     absurd (omega arith)
 
@@ -167,11 +167,11 @@ module _ (t : ℕ) (own : t < stakes) where
   seen_next S s c b h e = record { counts = omega (arith, h, counts_kept S s c); book = e }
 
   -- a call of another stake
-  passes_by : (S : SeasonState) (b : State) (c : SeasonCall) → Seen S b → own_call t c ≡ none → Seen (season_next S c) b
+  passes_by : (S : SeasonState) (b : State) (c : SeasonCall) → Seen S b → own_call t c ≡ None → Seen (season_next S c) b
   unfolding own_call
   passes_by S b (names s c) g e = by (eqb s t) refl e
     where
-      by : (z : Bool) → eqb s t ≡ z → cond z (some (as_part c)) none ≡ none → Seen (season_next S (names s c)) b
+      by : (z : Bool) → eqb s t ≡ z → cond z (Some (as_part c)) None ≡ None → Seen (season_next S (names s c)) b
       by true q e = absurd (no_call (as_part c) e)
       by false q e = seen_next S s c b g.counts (leaves_others S s t c own (λ x. eqb-false s t q (sym x)) ∙ g.book)
   passes_by S b opens_all g e = absurd (no_call _ e)
@@ -206,12 +206,12 @@ module _ (t : ℕ) (own : t < stakes) where
       let o = all_opened t own S h in
       (ap said (all_answer t own S h), record { counts = omega (arith, h, o.0); book = o.1 })
 
-  met : (S : SeasonState) (b : State) (c : SeasonCall) (d : StakeCall) → Seen S b → own_call t c ≡ some d
+  met : (S : SeasonState) (b : State) (c : SeasonCall) (d : StakeCall) → Seen S b → own_call t c ≡ Some d
       → Part (season_reply S c) (book_reply b d) × Seen (season_next S c) (book_next b d)
   unfolding own_call
   met S b (names s c) d g e = by (eqb s t) refl e
     where
-      by : (z : Bool) → eqb s t ≡ z → cond z (some (as_part c)) none ≡ some d
+      by : (z : Bool) → eqb s t ≡ z → cond z (Some (as_part c)) None ≡ Some d
           → Part (season_reply S (names s c)) (book_reply b d) × Seen (season_next S (names s c)) (book_next b d)
       by true q e =
           let x : s ≡ t = eqb-true s t q in
@@ -291,7 +291,7 @@ not_refused_lem : (s : ℕ) (S : SeasonState) (k : ℕ) → stake_refusal s (len
 unfolding on_stake
 not_refused_lem s S zero e a = refl
 not_refused_lem s S (suc k) e a =
-    let w : answers.Refused (suc k) ≡ book_of 0 = rw e at a in
+    let w : refused_by (suc k) ≡ book_of 0 = rw e at a in
     let z : ◌≡◌ {A = ℕ} 0 1 = cc in
     absurd (omega arith)
 

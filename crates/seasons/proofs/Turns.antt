@@ -1,4 +1,5 @@
 -- The season report, stake by stake: what the first b turns leave. Then the user's case.
+use Rattle.std.specs.Prelude.{Ok, Err}
 use mathlib.Core.Path.{◌≡◌, refl, sym, ap, ap₂, ◌∙◌}
 use mathlib.Core.List.{List, [], ◌∷◌, map, ◌++◌}
 use Prim.Native.Nat.{ℕ, zero, suc, ◌+◌, ◌*◌, ◌/◌, ◌≤◌, ◌<◌}
@@ -8,6 +9,7 @@ use native.Mathlib.Nat.{eq-or-lt_of_le}
 use mathlib.Core.Logic.{⊎_elim}
 use lib.ListN.{length, get_or, set, drop, replicate, length-replicate}
 use lib.Seq.{drop_at}
+use Rattle.refusal.specs.Named.{number, refused_by}
 use Rattle.loops.specs.Fold.{fold}
 use Rattle.loops.specs.FoldLaws.{fold_table}
 use Rattle.loops.specs.Loop.{from}
@@ -18,17 +20,15 @@ use Rattle.lent.specs.Written.{over}
 use Rattle.settings.specs.declared.Settings.{Settings}
 use Rattle.refusal.specs.Refusals.{settle}
 use Rattle.reporting.specs.declared.Places.{Places}
-use Rattle.reporting.specs.declared.ReportAnswer.{ReportAnswer}
-use Rattle.reporting.specs.declared.ReportAnswer.TheVariants as answers
 use Rattle.reporting.specs.Outputs.{Outputs, places_of, over_all}
-use Rattle.reporting.specs.Reports.{ReportOut, refused_early}
+use Rattle.reporting.specs.declared.Report.{Report}
+use Rattle.reporting.specs.Reports.{ReportAnswer, ReportOut, refused_early}
 use Rattle.ledger.specs.Ledger.{corrects}
 use Rattle.stakes.specs.Parts.{stakes, size, part_of, over_part}
 use Rattle.stakes.specs.PartLaws.{length_over, over_own, over_other, over_rest}
 use Rattle.stakes.specs.Season.{SeasonState, stake_state, stake_refusal, read_stake}
 use Rattle.season.specs.Changes.{season_out}
-use Rattle.season_report.specs.declared.StakeReport.{StakeReport}
-use Rattle.season_report.specs.Reports.{parts_of, over_parts, stake_report_out, passes, Reported, told_of, report_turn, unreported, season_report, report_from}
+use Rattle.season_report.specs.Reports.{parts_of, over_parts, stake_report_out, passes, Reported, report_turn, unreported, season_report, report_from}
 use Rattle.seasons.specs.Calls.{changing, report_at, reports_of, passed_of, out_by}
 use Rattle.seasons.specs.CallLaws.{report_is}
 use Rattle.seasons.specs.Claims.{rest_of, EachReports, OneCorrected}
@@ -119,8 +119,8 @@ twice_all v w =
 
 -- at most all are not refused
 passes_most : (a : ReportAnswer) → passes a ≤ 1
-passes_most (answers.Report d s o p) = omega arith
-passes_most (answers.Refused k) = omega arith
+passes_most (Ok r) = omega arith
+passes_most (Err k) = omega arith
 
 passed_most : (os : List ReportOut) (n : ℕ) → fold (λ (m : ℕ) (o : ReportOut). m + passes o.answer) n os ≤ n + length os
 unfolding fold
@@ -134,11 +134,11 @@ module _ (settings : Settings) (S : SeasonState) (w : Outputs) where
   abbrev own : ℕ → ReportOut
   own s = stake_report_out settings s S w
 
-  abbrev no_reports : List StakeReport
-  no_reports = replicate stakes (told_of (answers.Refused 1))
+  abbrev no_reports : List ReportAnswer
+  no_reports = replicate stakes (refused_by {A = Report} 1)
 
-  abbrev tell : ℕ → StakeReport
-  tell s = told_of (own s).answer
+  abbrev tell : ℕ → ReportAnswer
+  tell s = (own s).answer
 
   -- after the first b stakes
   pub record Turned (b : ℕ) (t : Reported) : Type 0 where
@@ -178,8 +178,8 @@ module _ (settings : Settings) (S : SeasonState) (w : Outputs) where
     turned_again =
         record {
           reports =
-              ap₂ (λ (rs : List StakeReport) (o : ReportOut). set rs b (told_of o.answer)) g.reports same
-              ∙ each_again (λ s _. tell s) b no_reports (tell b) (omega (arith, h, length-replicate stakes (told_of (answers.Refused 1))))
+              ap₂ (λ (rs : List ReportAnswer) (o : ReportOut). set rs b o.answer) g.reports same
+              ∙ each_again (λ s _. tell s) b no_reports (tell b) (omega (arith, h, length-replicate stakes (refused_by {A = Report} 1)))
               ∙ ap (λ (k : ℕ). each (λ s _. tell s) k no_reports) (add-one b);
           passed =
               ap₂ (λ (n : ℕ) (o : ReportOut). n + passes o.answer) g.passed same
@@ -202,18 +202,18 @@ module _ (settings : Settings) (S : SeasonState) (w : Outputs) where
 
   -- the stakes' answers as a list
   all_told : (season_report settings S w).reports ≡ table tell stakes
-  all_told = all_turned.reports ∙ each_table tell stakes no_reports (length-replicate stakes (told_of (answers.Refused 1)))
+  all_told = all_turned.reports ∙ each_table tell stakes no_reports (length-replicate stakes (refused_by {A = Report} 1))
 
   own_reports : table own stakes ≡ reports_of settings (places_of w) S
   own_reports = table_same own (report_at settings (places_of w) S) stakes (λ s h. report_is s S settings w)
 
-  pub told_at : (t : ℕ) → t < stakes → (d : StakeReport) → get_or (season_report settings S w).reports t d ≡ tell t
-  told_at t h d = ap (λ (rs : List StakeReport). get_or rs t d) all_told ∙ table_at tell stakes t d h
+  pub told_at : (t : ℕ) → t < stakes → (d : ReportAnswer) → get_or (season_report settings S w).reports t d ≡ tell t
+  told_at t h d = ap (λ (rs : List ReportAnswer). get_or rs t d) all_told ∙ table_at tell stakes t d h
 
   pub each_reports : EachReports settings S w
   each_reports =
       record {
-        told = all_told ∙ map_table (λ (o : ReportOut). told_of o.answer) own stakes ∙ ap (map (λ (o : ReportOut). told_of o.answer)) own_reports;
+        told = all_told ∙ map_table (λ (o : ReportOut). o.answer) own stakes ∙ ap (map (λ (o : ReportOut). o.answer)) own_reports;
         passed = all_turned.passed ∙ ap passed_of own_reports;
         answer = told_at;
         written = λ t h. all_turned.done t h h;
@@ -231,8 +231,8 @@ module _ (settings : Settings) (S T : SeasonState) (w : Outputs) (t : ℕ) (h : 
   again : stake_report_out settings t T first.lent ≡ stake_report_out settings t S w
   again = same_places settings t T first.lent w (all_turned settings S w).places ∙ same_book settings t S T w n b
 
-  same_answer : (d : StakeReport) → get_or (season_report settings T first.lent).reports t d ≡ get_or first.reports t d
-  same_answer d = told_at settings T first.lent t h d ∙ ap (λ (o : ReportOut). told_of o.answer) again ∙ sym (told_at settings S w t h d)
+  same_answer : (d : ReportAnswer) → get_or (season_report settings T first.lent).reports t d ≡ get_or first.reports t d
+  same_answer d = told_at settings T first.lent t h d ∙ ap (λ (o : ReportOut). o.answer) again ∙ sym (told_at settings S w t h d)
 
   same_written : parts_of t (season_report settings T first.lent).lent ≡ parts_of t first.lent
   same_written =

@@ -1,4 +1,5 @@
 -- What a call that reads writes has room in the stake's parts: so it writes no place of another's.
+use Rattle.std.specs.Prelude.{Option, Some, None, Result, Ok, Err}
 use mathlib.Core.Path.{◌≡◌, refl, sym, ap, ◌∙◌}
 use mathlib.Core.List.{List, [], map}
 use Prim.Native.Nat.{ℕ, zero, suc, ◌≤◌, ◌<◌}
@@ -9,8 +10,6 @@ use Rattle.basis.specs.Counts.{count_of}
 use Rattle.basis.specs.declared.Basis.{Basis}
 use Rattle.basis.specs.declared.Basis.TheVariants.{Curve}
 use Rattle.basis.specs.declared.Degree.{Degree}
-use Rattle.basis.specs.declared.OptionDegree.{OptionDegree}
-use Rattle.basis.specs.declared.OptionDegree.TheVariants.{Some, None}
 use Rattle.value.specs.Numbers.{zero_f}
 use Rattle.statistics.specs.Degrees.{max_degree}
 use Rattle.statistics.specs.declared.Confidence.{Confidence}
@@ -20,7 +19,7 @@ use Rattle.score.specs.declared.Criterion.{Criterion}
 use Rattle.loops.specs.Cases.{choose}
 use Rattle.loops.specs.Places.{table}
 use Rattle.loops.specs.PlaceLaws.{length_table}
-use Rattle.samples.specs.Samples.{Sample}
+use Rattle.samples.specs.declared.Sample.{Sample}
 use Rattle.samples.specs.Columns.{lengths, samples_of}
 use Rattle.samples.specs.ColumnLaws.{length_samples}
 use Rattle.monomial.specs.Rows.{Row, WeightedRow, row_of, rows_of}
@@ -29,6 +28,7 @@ use Rattle.fit.specs.Solved.{is_solved}
 use Rattle.covariance.specs.Covariance.{errors_of}
 use Rattle.lent.specs.Written.{zeros}
 use Rattle.settings.specs.declared.Settings.{Settings}
+use Rattle.refusal.specs.declared.refusals.Refusal.{Refusal}
 use Rattle.refusal.specs.Refusals.{settle}
 use Rattle.book.specs.Calls.{State}
 use Rattle.measure.specs.Measures.{inverse_fails, covariance_at}
@@ -53,10 +53,11 @@ use Rattle.scores.specs.Refusals.{scores_refusal}
 use Rattle.scores.specs.RefusalLaws.{scores_room}
 use Rattle.scores.specs.Scores.{ScoresOut, scores_refused, scores_late, scores_by, scores_of, scores_past, scores_on}
 use Rattle.split.specs.declared.Places.{Places as SplitPlaces}
-use Rattle.split.specs.Refusals.{split_refusal, search_refusal}
+use Rattle.split.specs.declared.Best.{Best}
+use Rattle.split.specs.Refusals.{split_refusal, searched}
 use Rattle.split.specs.Search.{best_break, search_tests}
 use Rattle.split.specs.RefusalLaws.{split_room}
-use Rattle.split.specs.Splits.{SplitOut, split_refused, split_at, split_past, split_on}
+use Rattle.split.specs.Splits.{SplitOut, split_refused, split_at, split_by, split_past, split_on}
 use Rattle.stakes.specs.Parts.{stakes, part_of, over_part}
 use Rattle.stakes.specs.PartLaws.{over_other}
 use Rattle.stakes.specs.Season.{SeasonState, stake_state, stake_refusal, read_stake}
@@ -74,7 +75,7 @@ either_way P (suc k) good bad f g = g
 
 -- by the chosen degree
 any_chosen : {O : Type 0} (P : O → Type 0) (basis : Basis) (sums : List Float) (late : ℕ → O) (told : Degree → O) → ((k : ℕ) → P (late k)) → ((d : Degree) → P (told d))
-    → (o : OptionDegree) → P (of_chosen basis sums late told o)
+    → (o : Option Degree) → P (of_chosen basis sums late told o)
 any_chosen P basis sums late told f g None = f 11
 any_chosen P basis sums late told f g (Some d) = choose P (inverse_fails sums (count_of basis d.0)) (late 12) (told d) (λ e. f 12) (λ e. g d)
 
@@ -109,7 +110,7 @@ module _ (n : ℕ) (samples : List Sample) (sums : List Float) (columns : List �
       past_fits d (rows_of samples) c r.enough.1.0 r.enough.1.1.0)
       (none_fit scratch, none_fit c)
 
-  validated_fits : (o : OptionDegree) (rows : List Row) (c : ℕ) → n ≤ scratch → 16 ≤ c → FitFits c (validate_past n o rows sums)
+  validated_fits : (o : Option Degree) (rows : List Row) (c : ℕ) → n ≤ scratch → 16 ≤ c → FitFits c (validate_past n o rows sums)
   unfolding validate_past
   validated_fits None rows c h m = (zeros_fit n scratch h, none_fit c)
   validated_fits (Some d) rows c h m = past_fits d.0 rows c h m
@@ -156,12 +157,11 @@ module _ (n : ℕ) (samples : List Sample) (sums : List Float) (columns : List �
 searched_fits : (n : ℕ) (bound : DegreeBound) (criterion : Criterion) (limit : ℕ) (rows : List WeightedRow) (m : ℕ) → n ≤ m
     → length (split_past n bound criterion limit rows).scratch ≤ m
 unfolding split_past split_at
-searched_fits n bound criterion limit rows m h =
-    let best = best_break bound criterion rows in
-    let tests = search_tests bound criterion rows in
-    let r = search_refusal limit tests best in
-    let z = zeros_fit n m h in
-    either_way (λ (o : SplitOut). length o.scratch ≤ m) r (split_at n tests rows best) (split_refused r (zeros n)) (λ e. z) z
+searched_fits n bound criterion limit rows m h = go (searched limit (search_tests bound criterion rows) (best_break bound criterion rows))
+  where
+    go : (found : Result Best Refusal) → length (split_by n (search_tests bound criterion rows) rows found).scratch ≤ m
+    go (Ok best) = zeros_fit n m h
+    go (Err e) = zeros_fit n m h
 
 split_fits : (n : ℕ) (settings : Settings) (limit : ℕ) (samples : List Sample) (columns : List ℕ) (sums : ℕ) (places : SplitPlaces)
     → length (split_on n settings limit samples columns sums places).scratch ≤ places.scratch

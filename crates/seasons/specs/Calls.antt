@@ -1,7 +1,6 @@
 -- A season book and a list of calls on it, and a book of one stake alone with its own calls. The answers and what is left are the definitions that the contracts
 -- of the season's calls promise. Definitions only.
-use Rattle.std.specs.Prelude.{cond, List, [], ℕ, ◌+◌, ◌/◌, eqb, length, get_or, take}
-use Rattle.std.proofs.Math.Option.{Option, none, some}
+use Rattle.std.specs.Prelude.{cond, List, [], ℕ, ◌+◌, ◌/◌, eqb, length, get_or, take, Option, None, Some}
 use Rattle.basis.specs.Sizes.{sum_places}
 use Rattle.loops.specs.Fold.{fold}
 use Rattle.loops.specs.Places.{table}
@@ -149,9 +148,9 @@ as_part (alters c) = alters c
 as_part (looks q) = looks (by_part q)
 
 unfoldable pub own_call : ℕ → SeasonCall → Option StakeCall
-own_call t (names s c) = cond (eqb s t) (some (as_part c)) none
-own_call t opens_all = some (alters opening)
-own_call t (seasonal settings places) = some (looks (reports settings (part_places places)))
+own_call t (names s c) = cond (eqb s t) (Some (as_part c)) None
+own_call t opens_all = Some (alters opening)
+own_call t (seasonal settings places) = Some (looks (reports settings (part_places places)))
 
 unfoldable pub own_reply : ℕ → SeasonReply → Reply Told
 own_reply t (of_stake r) = r

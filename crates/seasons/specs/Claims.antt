@@ -1,5 +1,6 @@
 -- What is claimed of a season book. The theorems are in proofs/. Definitions only.
 use Rattle.std.specs.Prelude.{◌≡◌, List, map, ℕ, ◌*◌, ◌≤◌, ◌<◌, length, get_or, drop, Float}
+use Rattle.refusal.specs.Named.{refused_by}
 use Rattle.loops.specs.Fold.{fold}
 use Rattle.runs.specs.Runs.{replies as replies_of, only, pick}
 use Rattle.samples.specs.Columns.{Columns}
@@ -8,7 +9,6 @@ use Rattle.statistics.specs.declared.DegreeBound.{DegreeBound}
 use Rattle.statistics.specs.declared.Tolerance.{Tolerance}
 use Rattle.score.specs.declared.Criterion.{Criterion}
 use Rattle.settings.specs.declared.Settings.{Settings}
-use Rattle.book.specs.declared.Answer.TheVariants as answers
 use Rattle.book.specs.Calls.{book_of, open_out}
 use Rattle.reporting.specs.Outputs.{Outputs, places_of, over_all}
 use Rattle.ledger.specs.Ledger.{Call, said, told, corrects, program_replies, final, opened}
@@ -18,8 +18,8 @@ use Rattle.stakes.specs.Parts.{stakes, size, part_of, over_part}
 use Rattle.stakes.specs.Season.{SeasonState, stake_state}
 use Rattle.season.specs.Changes.{season_out, open_stake_out, season_open_out}
 use Rattle.season_query.specs.Reads.{fit_from, validate_from, stake_fit_out, band_from, stake_band_out, loss_from, stake_loss_out, scores_from, stake_scores_out, split_from, stake_split_out}
-use Rattle.season_report.specs.declared.StakeReport.{StakeReport}
-use Rattle.season_report.specs.Reports.{parts_of, over_parts, stake_report_out, Reported, told_of, season_report}
+use Rattle.reporting.specs.Reports.{ReportAnswer}
+use Rattle.season_report.specs.Reports.{parts_of, over_parts, stake_report_out, Reported, season_report}
 use Rattle.seasons.specs.Calls.{StakeChange, StakeCall, alters, looks, SeasonCall, names, of_stake, as_stake, own_book, book_next, refused_told, season_next, season_reply, season_book, reports_of, passed_of, own_call, own_reply}
 
 -- ---- a call on one stake changes no count, column or sum of another
@@ -31,7 +31,7 @@ LeavesOthers =
 -- ---- a stake number above 31 gets 18, before every other check, and changes nothing
 
 pub record Stray (S : SeasonState) (s : ℕ) : Type 0 where
-  pub changes : (c : StakeChange) → season_reply S (names s (alters c)) ≡ of_stake (said (answers.Refused 18))
+  pub changes : (c : StakeChange) → season_reply S (names s (alters c)) ≡ of_stake (said (refused_by 18))
   pub reads : (q : ReadCall) → season_reply S (names s (looks q)) ≡ of_stake (told (refused_told q 18))
   pub season : (c : StakeCall) → season_next S (names s c) ≡ S
 
@@ -76,10 +76,10 @@ rest_of w =
 
 -- of the stakes together: each one's report on the memory as it was found
 pub record EachReports (settings : Settings) (S : SeasonState) (w : Outputs) : Type 0 where
-  pub told : (season_report settings S w).reports ≡ map (λ o. told_of o.answer) (reports_of settings (places_of w) S)
+  pub told : (season_report settings S w).reports ≡ map (λ o. o.answer) (reports_of settings (places_of w) S)
   pub passed : (season_report settings S w).passed ≡ passed_of (reports_of settings (places_of w) S)
   -- stake t's answer, and its parts of the written memory, are those of its own report
-  pub answer : (t : ℕ) → t < stakes → (d : StakeReport) → get_or (season_report settings S w).reports t d ≡ told_of (stake_report_out settings t S w).answer
+  pub answer : (t : ℕ) → t < stakes → (d : ReportAnswer) → get_or (season_report settings S w).reports t d ≡ (stake_report_out settings t S w).answer
   pub written : (t : ℕ) → t < stakes → parts_of t (season_report settings S w).lent ≡ over_all (stake_report_out settings t S w).written (parts_of t w)
   -- the rest is nobody's, and at most 32 are not refused
   pub rest : rest_of (season_report settings S w).lent ≡ rest_of w
@@ -130,7 +130,7 @@ after_correction settings S w s i y = season_report settings (season_out s S (co
 -- Correct one stake, and nothing else, between two season reports with the same settings and lent memory, and the other 31 reports keep their bits, refused or
 -- not: the answer, and every written place of the stake's parts.
 pub record KeepsBits (settings : Settings) (S : SeasonState) (w : Outputs) (s i : ℕ) (y : Float) (t : ℕ) : Type 0 where
-  pub answer : (d : StakeReport) → get_or (after_correction settings S w s i y).reports t d ≡ get_or (season_report settings S w).reports t d
+  pub answer : (d : ReportAnswer) → get_or (after_correction settings S w s i y).reports t d ≡ get_or (season_report settings S w).reports t d
   pub written : parts_of t (after_correction settings S w s i y).lent ≡ parts_of t (season_report settings S w).lent
 
 abbrev pub OneCorrected : Type 0

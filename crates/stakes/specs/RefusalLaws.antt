@@ -3,8 +3,8 @@ use Rattle.std.specs.Prelude.{◌≡◌, refl, Bool, true, false, cond, ◌||◌
 use Rattle.std.proofs.Common.{ap, ◌∙◌}
 use mathlib.Core.List.{List, [], ◌∷◌, Memᴰ}
 use Rattle.loops.specs.Cases.{never}
-use Rattle.samples.specs.Samples.{Sample}
-use Rattle.refusal.specs.Refusals.{Refusal, by, first_of, settle, numbers_of, InOrder, those, is_among}
+use Rattle.samples.specs.declared.Sample.{Sample}
+use Rattle.refusal.specs.Refusals.{Test, by, first_of, settle, numbers_of, InOrder, those, is_among}
 use Rattle.refusal.specs.Laws.{numbered}
 use Rattle.book.specs.Refusals.{open_tests, add_tests, correct_tests, withdraw_tests, frame_tests, lines_tests}
 use Rattle.book.specs.Calls.{State}
@@ -40,7 +40,7 @@ unfolding those is_among
 first_stands o os ks self other none e = rw self (ap (λ (z : List ℕ). o ∷ z) (passed_over o os ks other ∙ (rw none at e)))
 
 -- where a call's own tests, of which the first is 1, stand in the checking order, so do those of the season's call
-pub season_in_order : (s counts : ℕ) (short : Bool) (later : List Refusal) → is_among 18 (numbers_of later) ≡ false → InOrder (numbers_of (by short 1 ∷ later))
+pub season_in_order : (s counts : ℕ) (short : Bool) (later : List Test) → is_among 18 (numbers_of later) ≡ false → InOrder (numbers_of (by short 1 ∷ later))
     → InOrder (numbers_of (season_tests s counts (by short 1 ∷ later)))
 unfolding is_among avoids
 season_in_order s counts short later h e = first_stands 18 _ _ refl refl h e
@@ -59,7 +59,7 @@ unfolding those is_among
 answers_in_order = refl
 
 -- the number of a call on the book of stake s, asked behind the season's own tests, is that of the first of all these tests that holds
-pub season_number : (s : ℕ) (S : SeasonState) (short : State → Bool) (later : State → List Refusal)
+pub season_number : (s : ℕ) (S : SeasonState) (short : State → Bool) (later : State → List Test)
     → read_stake s S (λ b. first_of (by (short b) 1 ∷ later b)) (λ r. r)
     ≡ first_of (season_tests s (length S.counts) (by (short (stake_state s S)) 1 ∷ later (stake_state s S)))
 unfolding read_stake stake_refusal first_of

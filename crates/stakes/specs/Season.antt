@@ -2,7 +2,7 @@
 use Rattle.std.specs.Prelude.{◌≡◌, ◌||◌, List, [], ◌∷◌, ℕ, ◌/◌, ltb, leb, length, get_or, set, Float}
 use Rattle.basis.specs.Sizes.{sum_places}
 use Rattle.samples.specs.Columns.{Column, Columns}
-use Rattle.refusal.specs.Refusals.{Refusal, by, first_of, settle}
+use Rattle.refusal.specs.Refusals.{Test, by, first_of, settle}
 use Rattle.refusal.specs.Tests.{needed, any_short}
 use Rattle.book.specs.Calls.{State, state_of}
 use Rattle.stakes.specs.Parts.{stakes, size, part_of, with_part}
@@ -32,19 +32,19 @@ pub record Sized (b : State) (S : SeasonState) : Type 0 where
 -- ---- refusals
 
 -- A stake number above 31 gets 18, before every other check; then 1 judges the 32 counts. The book's own call on the stake's parts judges the rest.
-abbrev pub stake_tests : ℕ → ℕ → List Refusal
+abbrev pub stake_tests : ℕ → ℕ → List Test
 stake_tests s counts = by (leb stakes s) 18 ∷ by (ltb counts stakes) 1 ∷ []
 
 unfoldable pub stake_refusal : ℕ → ℕ → ℕ
 stake_refusal s counts = first_of (stake_tests s counts)
 
 -- with the tests of a call on the stake's parts, of which the first is 1
-abbrev pub season_tests : ℕ → ℕ → List Refusal → List Refusal
+abbrev pub season_tests : ℕ → ℕ → List Test → List Test
 season_tests s counts [] = []
 season_tests s counts (short ∷ later) = by (leb stakes s) 18 ∷ by (ltb counts stakes || short.holds) 1 ∷ later
 
 -- of all 32 books to be opened: there are so many counts, and each stake's part of the sums has its 272 places
-abbrev pub season_open_tests : ℕ → ℕ → List Refusal
+abbrev pub season_open_tests : ℕ → ℕ → List Test
 season_open_tests counts sums = by (any_short (needed stakes counts ∷ needed sum_places (sums / stakes) ∷ [])) 1 ∷ []
 
 unfoldable pub season_open_refusal : ℕ → ℕ → ℕ

@@ -1,16 +1,19 @@
 -- Laws of Season.antt.
-use Rattle.std.specs.Prelude.{◌≡◌, List, [], length}
+use Rattle.std.specs.Prelude.{◌≡◌, List, [], ◌/◌, length}
 use Rattle.std.proofs.Math.Path.{refl}
 use Rattle.std.proofs.Common.{sym, arith, leb-false, ltb-false, le-ltb, get_or-set_same, get_or-set_other}
 use Prim.Native.Nat.{ℕ, zero, suc, ◌≤◌, ◌<◌}
 use Rattle.std.proofs.lemmas.Bool.{lt-leb}
 use Rattle.std.proofs.lemmas.List.{set-get_or}
+use Rattle.loops.specs.Cases.{or_false}
+use Rattle.basis.specs.Sizes.{sum_places}
 use Rattle.refusal.specs.Refusals.{settle, first_of}
 use Rattle.refusal.specs.Laws.{first_none}
+use Rattle.refusal.specs.Tests.{any_short}
 use Rattle.book.specs.Calls.{State, state_of}
 use Rattle.stakes.specs.Parts.{stakes, over_part}
 use Rattle.stakes.specs.PartLaws.{with_own, length_part, part_own, part_other}
-use Rattle.stakes.specs.Season.{SeasonState, season_of, stake_state, with_stake, Sized, stake_refusal, read_stake}
+use Rattle.stakes.specs.Season.{SeasonState, season_of, stake_state, with_stake, Sized, stake_refusal, season_open_refusal, read_stake}
 
 -- a stake that is not refused is one of the 32, and so many counts are lent
 pub stake_below : (s n : ℕ) → stake_refusal s n ≡ 0 → s < stakes
@@ -28,6 +31,13 @@ stake_counted s n e = omega (arith, stake_below s n e, counts_long s n e)
 pub stake_taken : (s n : ℕ) → s < stakes → stakes ≤ n → stake_refusal s n ≡ 0
 unfolding stake_refusal first_of
 stake_taken s n h m = rw (lt-leb stakes s h, le-ltb n stakes m) refl
+
+-- where all 32 are opened, so many counts are lent, and each stake's sums have their places
+pub all_counted : (n sums : ℕ) → season_open_refusal n sums ≡ 0 → (stakes ≤ n) × (sum_places ≤ sums / stakes)
+unfolding season_open_refusal any_short
+all_counted n sums e =
+    let q = or_false _ _ (first_none _ 0 _ e).0 in
+    (ltb-false _ _ q.0, ltb-false _ _ (or_false _ _ q.1).0)
 
 -- where nothing is written, all is left, whatever the stake's number
 pub none_over : {A : Type 0} (s : ℕ) (l : List A) → l ≡ over_part s [] l

@@ -3,31 +3,27 @@
 #![tactic(auto)]
 
 ghost use Rattle.std.specs.Prelude.{◌≡◌, ◌<◌};
-ghost use Rattle.lent.specs.Slices.{before};
+ghost use Rattle.refusal.specs.Named.{judged};
 ghost use Rattle.stakes.specs.Parts.{stakes, part_of, Cut};
 ghost use Rattle.stakes.specs.Season.{stake_refusal, season_open_refusal};
 
 use basis::SUMS;
+use refusal::{Refusal, first_of};
+use std::ops::Range;
 
 // How many stakes there are.
 pub const STAKES: usize = 32;
 
-// Where a part starts, and the place behind it.
-#[derive(Clone, Copy)]
-pub struct Span {
-    pub start: usize,
-    pub end: usize,
-}
-
-// The part of a stake in a memory of this length.
-pub fn cut(len: usize, stake: usize) -> Span
+// Where the part of a stake lies in a memory of this length. A part that is written is lent as `&mut s[at]`; a function that returned it as a `&mut` was tried, and
+// that the whole has what is written to it did not prove.
+pub fn cut(len: usize, stake: usize) -> Range<usize>
     requires { stake < stakes }
     ensures { Cut len stake result.start result.end }
 {
     let size = len / STAKES;
     let start = stake * size;
     let end = start + size;
-    Span { start, end }
+    start..end
 }
 
 // The part itself, to be read.
@@ -35,24 +31,23 @@ pub fn part(s: &[f64], stake: usize) -> &[f64]
     requires { stake < stakes }
     ensures { result.now ≡ part_of stake s.now }
 {
-    let c = cut(s.len(), stake);
-    let a = c.start;
-    let e = c.end;
-    &s[a..e]
+    &s[cut(s.len(), stake)]
 }
 
 // 18 of a stake's number, before every other check; then 1 of the counts.
-pub fn stake_refusal(stake: usize, counts: usize) -> u8
-    ensures { result ≡ stake_refusal stake counts }
+pub fn check_stake(stake: usize, counts: usize) -> Result<(), Refusal>
+    ensures { result ≡ judged (stake_refusal stake counts) }
 {
-    let short = refusal::first(counts < STAKES, 1, 0);
-    refusal::first(STAKES <= stake, 18, short)
+    first_of(&[
+        (STAKES <= stake, Refusal::NoStake),
+        (counts < STAKES, Refusal::Short),
+    ])
 }
 
 // 1 of all 32 books to be opened: there are so many counts, and each has its sums.
-pub fn open_refusal(counts: usize, sums: usize) -> u8
-    ensures { result ≡ season_open_refusal counts sums }
+pub fn check_open(counts: usize, sums: usize) -> Result<(), Refusal>
+    ensures { result ≡ judged (season_open_refusal counts sums) }
 {
-    let short = refusal::short(SUMS, sums / STAKES, false);
-    refusal::first(refusal::short(STAKES, counts, short), 1, 0)
+    let memories = [(STAKES, counts), (SUMS, sums / STAKES)];
+    first_of(&[(refusal::any_short(&memories), Refusal::Short)])
 }

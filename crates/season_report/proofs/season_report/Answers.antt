@@ -8,7 +8,7 @@ use lib.ListN.{length-set}
 use Rattle.stakes.specs.Parts.{stakes}
 use Rattle.stakes.specs.Season.{season_of}
 use Rattle.season_report.specs.Reports.{Reported, report_turn, season_report}
-use Rattle.season_report.proofs.Reporting.{turn_is}
+use Rattle.season_report.proofs.Reporting.{passes_is, turn_is}
 use Rattle.samples.specs.Columns.{columns_of}
 use Rattle.loops.specs.Loop.{from}
 use Rattle.loops.specs.LoopLaws.{again, done}
@@ -19,7 +19,8 @@ loop-stake-init c = (refl, refl, refl, refl, refl, refl, refl, refl, search rule
 
 pub loop-stake-preserved : goal.loop-stake-preserved
 loop-stake-preserved c =
-    let S = season_of c.args.counts.now (columns_of c.args.xs.now c.args.ys.now c.args.ws.now) c.args.sums.now in (
+    let S = season_of c.args.counts.now (columns_of c.args.xs.now c.args.ys.now c.args.ws.now) c.args.sums.now in
+    let counted = passes_is c.report-answer.result c.from-passed.ensures c.is_ok.ensures.value in (
       search rules,
       search rules,
       search rules,
@@ -28,9 +29,9 @@ loop-stake-preserved c =
       search rules,
       search rules,
       simp length-set c.loop-stake.invariant.7,
-      omega (arith, c.loop-stake.invariant.8, c.passes-passed.ensures.1),
+      omega (arith, c.loop-stake.invariant.8, counted.1),
       ap (λ (t : Reported). from (report_turn c.args.settings S) (c.loop-stake.stake + 1) stakes t)
-          (turn_is c.args.settings S c.loop-stake.stake (record { reports = c.loop-stake.reports; passed = c.loop-stake.passed; lent = record { scratch = c.loop-stake.scratch; coefficients = c.loop-stake.coefficients; errors = c.loop-stake.errors; pruned = c.loop-stake.pruned; lower = c.loop-stake.lower; upper = c.loop-stake.upper; outliers = c.loop-stake.outliers } }) c.report-answer.ensures c.passes-passed.ensures.0)
+          (turn_is c.args.settings S c.loop-stake.stake (record { reports = c.loop-stake.reports; passed = c.loop-stake.passed; lent = record { scratch = c.loop-stake.scratch; coefficients = c.loop-stake.coefficients; errors = c.loop-stake.errors; pruned = c.loop-stake.pruned; lower = c.loop-stake.lower; upper = c.loop-stake.upper; outliers = c.loop-stake.outliers } }) c.report-answer.ensures counted.0)
           ∙ again (report_turn c.args.settings S) c.loop-stake.stake stakes _ c.loop-stake-test.true ∙ c.loop-stake.invariant.9,
     )
 

@@ -3,4 +3,4 @@ use Rattle.stakes.specs.PartLaws.{cut_part}
 use Rattle.stakes.proofs.part.Goals as goal
 
 pub returns : goal.returns
-returns c = cut_part c.args.stake c.args.s.now _ _ c.cut-c.ensures
+returns c = cut_part c.args.stake c.args.s.now _ _ c.cut.ensures

@@ -1,7 +1,0 @@
--- `season::add` meets its contract: it is `change`, asked for this call.
-use Rattle.season.specs.Changes.{change_of}
-use Rattle.season.proofs.add.Goals as goal
-
-pub returns : goal.returns
-unfolding change_of
-returns c = c.change.ensures

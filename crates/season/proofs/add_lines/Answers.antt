@@ -1,7 +1,0 @@
--- `season::add_lines` meets its contract: it is `change`, asked for this call.
-use Rattle.season.specs.Changes.{change_of}
-use Rattle.season.proofs.add_lines.Goals as goal
-
-pub returns : goal.returns
-unfolding change_of
-returns c = c.change.ensures
