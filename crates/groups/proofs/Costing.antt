@@ -1,4 +1,5 @@
 -- A call that costs, by the ledger: when it gets 16, what is told of a report that is let through, and that work of at most the quota gets through.
+use Rattle.std.specs.Prelude.{Ok, Err}
 use mathlib.Core.Path.{◌≡◌, refl, sym, ap, ◌∙◌}
 use mathlib.Core.Bool.{Bool, true, false}
 use mathlib.Core.List.{List, [], ◌∷◌, ◌++◌, map, Memᴰ}
@@ -8,11 +9,15 @@ use borrow.Author.Tests.{ltb-true, ltb-false, lt-ltb, le-ltb}
 use lib.Dec.{ltb}
 use lib.ListN.{length}
 use lib.Ieee.{Float}
+use Rattle.refusal.specs.declared.refusals.Refusal.{Refusal}
+use Rattle.refusal.specs.Named as named
+use Rattle.refusal.specs.Named.{number_of, judged}
+use Rattle.refusal.specs.NamedLaws.{number_judged, named_number}
 use Rattle.loops.specs.Fold.{fold}
 use Rattle.runs.specs.Runs.{replies, along}
 use Rattle.runs.specs.RunLaws.{afforded, replies_at_lem, length_replies}
 use Rattle.basis.specs.declared.Basis.{Basis}
-use Rattle.samples.specs.Samples.{Sample}
+use Rattle.samples.specs.declared.Sample.{Sample}
 use Rattle.monomial.specs.Rows.{Row, rows_of, weighted_rows}
 use Rattle.monomial.specs.Sums.{sums_of}
 use Rattle.fit.specs.declared.Choice.{Choice}
@@ -21,15 +26,13 @@ use Rattle.settings.specs.declared.Settings.{Settings}
 use Rattle.reporting.specs.declared.Places.{Places}
 use Rattle.reporting.specs.Limited.{Limited, limited_of}
 use Rattle.reporting.specs.LimitedLaws.{within_limit, report_number_lem, chosen_not_16}
-use Rattle.reporting.specs.Reports.{ReportOut, report_number, refused_early, refused_late}
+use Rattle.reporting.specs.Reports.{ReportOut, refused_early, refused_late}
 use Rattle.report.specs.Reports.{report_choice, report_past}
 use Rattle.basis.specs.declared.Basis.TheVariants.{Curve}
 use Rattle.report.specs.Limited.{within_past}
 use Rattle.surface.specs.Limited.{surface_within_past}
-use Rattle.split.specs.Splits.{SplitOut, split_number, split_refused, taken_of}
+use Rattle.split.specs.Splits.{SplitAnswer, SplitOut, split_refused, taken_of}
 use Rattle.split.specs.SplitLaws.{over_16, only_over_16}
-use Rattle.split.specs.declared.SplitAnswer.{SplitAnswer}
-use Rattle.split.specs.declared.SplitAnswer.TheVariants as splits
 use Rattle.ledger.specs.Ledger.{Lent, lent_of}
 use Rattle.ledger.proofs.Words.{past_chosen, words_of}
 use Rattle.allowance.specs.Table.{table_places}
@@ -48,13 +51,13 @@ module _ (basis : Basis) (n : ℕ) (settings : Settings) (limit : ℕ) (rows : L
   unfolding limited_of
   over_limit h = rw (lt-ltb limit choice.tests h)
 
-  only_over : report_number (limited_of basis n settings limit rows sums choice).does.answer ≡ 16 → limit < choice.tests
+  only_over : number_of (limited_of basis n settings limit rows sums choice).does.answer ≡ 16 → limit < choice.tests
   only_over e = go (ltb limit choice.tests) refl
     where
       go : (t : Bool) → ltb limit choice.tests ≡ t → limit < choice.tests
       go true q = ltb-true _ _ q
       go false q =
-          let w = ap (λ (o : Limited). report_number o.does.answer) (within_limit basis n settings limit rows sums choice (ltb-false _ _ q)) in
+          let w = ap (λ (o : Limited). number_of o.does.answer) (within_limit basis n settings limit rows sums choice (ltb-false _ _ q)) in
           absurd (chosen_not_16 basis choice.chosen sums (sym (report_number_lem basis n settings rows sums choice.solved choice.chosen) ∙ sym w ∙ e))
 
 -- none of the numbers from 1 to 9 is 16
@@ -72,36 +75,36 @@ not_16 {k} m e = none m
 
 module _ (group table : ℕ) (m : Lent) (counter : ℕ) (l : List Sample) where
   -- 16 of a call past 1 to 9, and no number from 1 to 9 is 16
-  report_costs : (r cost : ℕ) (past : ReportOut) → (r ≡ 16 → ⊥) → (counter < cost → report_number past.answer ≡ 16)
-      → (report_number past.answer ≡ 16 → counter < cost) → report_number (settle r past (refused_early r)).answer ≡ 16 → (r ≡ 0) × (counter < cost)
-  report_costs zero cost past n h k e = (refl, k e)
-  report_costs (suc r) cost past n h k e = absurd (n e)
+  report_costs : (r cost : ℕ) (past : ReportOut) → (r ≡ 16 → ⊥) → number_of (judged r) ≡ r → (counter < cost → number_of past.answer ≡ 16)
+      → (number_of past.answer ≡ 16 → counter < cost) → number_of (settle r past (refused_early r)).answer ≡ 16 → (r ≡ 0) × (counter < cost)
+  report_costs zero cost past n j h k e = (refl, k e)
+  report_costs (suc r) cost past n j h k e = absurd (n (sym j ∙ e))
 
-  split_costs : (r cost : ℕ) (past : SplitOut) → (r ≡ 16 → ⊥) → (split_number past.answer ≡ 16 → counter < cost)
-      → split_number (settle r past (split_refused r [])).answer ≡ 16 → (r ≡ 0) × (counter < cost)
-  split_costs zero cost past n k e = (refl, k e)
-  split_costs (suc r) cost past n k e = absurd (n e)
+  split_costs : (r cost : ℕ) (past : SplitOut) → (r ≡ 16 → ⊥) → number_of (judged r) ≡ r → (number_of past.answer ≡ 16 → counter < cost)
+      → number_of (settle r past (split_refused r [])).answer ≡ 16 → (r ≡ 0) × (counter < cost)
+  split_costs zero cost past n j k e = (refl, k e)
+  split_costs (suc r) cost past n j k e = absurd (n (sym j ∙ e))
 
-  refused_number : (a : SplitAnswer) → split_number a ≡ 16 → a ≡ splits.Refused 16
-  refused_number (splits.Split total at tests d e) z = absurd (omega arith)
-  refused_number (splits.Refused k) z = ap (λ j. splits.Refused j) z
+  refused_number : (a : SplitAnswer) → number_of a ≡ 16 → a ≡ named.refused_by 16
+  refused_number (Ok r) z = absurd (omega arith)
+  refused_number (Err e) z = ap (λ r. Err r) (sym (named_number e) ∙ ap named.named z)
 
   pub costs_of : (q : CostCall) → Costs group table m counter l q
   unfolding told_number cost_reply cost_refusal cost_of within_past surface_within_past
   costs_of (group_reports settings places) =
       record {
-        over = λ z h. rw z (ap (λ (o : ReportOut). report_number o.answer) (over_limit _ _ settings counter _ _ _ h));
-        only_over = report_costs _ _ _ (not_16 (group_report_numbers group table (length l) settings l m.columns m.sums places)) (λ h. ap (λ (o : ReportOut). report_number o.answer) (over_limit _ _ settings counter _ _ _ h)) (only_over _ _ settings counter _ _ _);
+        over = λ z h. rw z (ap (λ (o : ReportOut). number_of o.answer) (over_limit _ _ settings counter _ _ _ h));
+        only_over = report_costs _ _ _ (not_16 (group_report_numbers group table (length l) settings l m.columns m.sums places)) (number_judged _ refl (group_report_numbers group table (length l) settings l m.columns m.sums places)) (λ h. ap (λ (o : ReportOut). number_of o.answer) (over_limit _ _ settings counter _ _ _ h)) (only_over _ _ settings counter _ _ _);
       }
   costs_of (group_surfaces n settings columns places) =
       record {
-        over = λ z h. rw z (ap (λ (o : ReportOut). report_number o.answer) (over_limit _ _ settings counter _ _ _ h));
-        only_over = report_costs _ _ _ (not_16 (group_surface_numbers group table n settings _ _ places)) (λ h. ap (λ (o : ReportOut). report_number o.answer) (over_limit _ _ settings counter _ _ _ h)) (only_over _ _ settings counter _ _ _);
+        over = λ z h. rw z (ap (λ (o : ReportOut). number_of o.answer) (over_limit _ _ settings counter _ _ _ h));
+        only_over = report_costs _ _ _ (not_16 (group_surface_numbers group table n settings _ _ places)) (number_judged _ refl (group_surface_numbers group table n settings _ _ places)) (λ h. ap (λ (o : ReportOut). number_of o.answer) (over_limit _ _ settings counter _ _ _ h)) (only_over _ _ settings counter _ _ _);
       }
   costs_of (group_splits settings places) =
       record {
-        over = λ z h. rw z (ap split_number (over_16 (length l) settings.bound settings.criterion counter (weighted_rows l) h));
-        only_over = split_costs _ _ _ (not_16 (group_split_numbers group table (length l) settings l m.columns m.sums places)) (λ e. only_over_16 (length l) settings.bound settings.criterion counter (weighted_rows l) (refused_number _ e));
+        over = λ z h. rw z (ap number_of (over_16 (length l) settings.bound settings.criterion counter (weighted_rows l) h));
+        only_over = split_costs _ _ _ (not_16 (group_split_numbers group table (length l) settings l m.columns m.sums places)) (number_judged _ refl (group_split_numbers group table (length l) settings l m.columns m.sums places)) (λ e. only_over_16 (length l) settings.bound settings.criterion counter (weighted_rows l) (refused_number _ e));
       }
 
   -- ---- a report that is let through

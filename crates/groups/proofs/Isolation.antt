@@ -1,7 +1,7 @@
 -- Isolation: in the run of all calls a group gets the replies, and ends with the book and counter, of its own calls by themselves.
 use mathlib.Core.Path.{◌≡◌, refl, sym, ap, subst, ◌∙◌}
 use mathlib.Core.Bool.{Bool, true, false, cond}
-use mathlib.Core.Option.{none, some}
+use Rattle.std.specs.Prelude.{Some, None}
 use mathlib.Core.List.{List}
 use Prim.Native.Nat.{ℕ, ◌≤◌, ◌<◌}
 use native.Mathlib.Omega.{arith}
@@ -53,11 +53,11 @@ module _ (group table : ℕ) (one : group < groups) (long : table_places ≤ tab
   )
 
   -- which of its calls it is fed
-  not_fed : (h : ℕ) (c : GroupCall) (b : Bool) → eqb h group ≡ b → cond b (some (calls c)) none ≡ none → group ≡ h → ⊥
+  not_fed : (h : ℕ) (c : GroupCall) (b : Bool) → eqb h group ≡ b → cond b (Some (calls c)) None ≡ None → group ≡ h → ⊥
   not_fed h c true q e = absurd (no_call (calls c) e)
   not_fed h c false q e = λ z. eqb-false h group q (sym z)
 
-  others : (s : Shared) (t : OneGroup) (c : SharedCall) → Seen s t → mine group c ≡ none → Seen (shared_next s c) t
+  others : (s : Shared) (t : OneGroup) (c : SharedCall) → Seen s t → mine group c ≡ None → Seen (shared_next s c) t
   others s t (start_all q) w e = absurd (no_call (starts q) e)
   others s t renew_all w e = absurd (no_call renews e)
   others s t (of h c) w e =
@@ -105,7 +105,7 @@ module _ (group table : ℕ) (one : group < groups) (long : table_places ≤ tab
         },
       )
 
-  is_fed : (s : Shared) (h : ℕ) (c : GroupCall) (d : Fed) → length s.table ≡ table → (b : Bool) → eqb h group ≡ b → cond b (some (calls c)) none ≡ some d
+  is_fed : (s : Shared) (h : ℕ) (c : GroupCall) (d : Fed) → length s.table ≡ table → (b : Bool) → eqb h group ≡ b → cond b (Some (calls c)) None ≡ Some d
       → (shared_reply s (of h c) ≡ one_reply group table (seen_by group s) d) × Seen (shared_next s (of h c)) (one_next group table (seen_by group s) d)
   is_fed s h c d w true q e =
       let z : calls c ≡ d = cc in
@@ -113,11 +113,11 @@ module _ (group table : ℕ) (one : group < groups) (long : table_places ≤ tab
       rw (← z, y) (own_call_lem s c w)
   is_fed s h c d w false q e = absurd (no_call d (sym e))
 
-  own : (s : Shared) (t : OneGroup) (c : SharedCall) (d : Fed) → Seen s t → mine group c ≡ some d
+  own : (s : Shared) (t : OneGroup) (c : SharedCall) (d : Fed) → Seen s t → mine group c ≡ Some d
       → (shared_reply s c ≡ one_reply group table t d) × Seen (shared_next s c) (one_next group table t d)
   own s t c d w e = subst (λ (u : OneGroup). (shared_reply s c ≡ one_reply group table u d) × Seen (shared_next s c) (one_next group table u d)) w.seen (go c e)
     where
-      go : (c : SharedCall) → mine group c ≡ some d → (shared_reply s c ≡ one_reply group table (seen_by group s) d) × Seen (shared_next s c) (one_next group table (seen_by group s) d)
+      go : (c : SharedCall) → mine group c ≡ Some d → (shared_reply s c ≡ one_reply group table (seen_by group s) d) × Seen (shared_next s c) (one_next group table (seen_by group s) d)
       go (start_all q) e = let z : starts q ≡ d = cc in rw (← z) (own_start s q w.length)
       go renew_all e = let z : renews ≡ d = cc in rw (← z) (own_renew s w.length)
       go (of h c) e = is_fed s h c d w.length (eqb h group) refl e

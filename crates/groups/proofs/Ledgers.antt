@@ -1,10 +1,12 @@
 -- A group by itself agrees with its plain ledger, by demand 3.
+use Rattle.std.specs.Prelude.{Ok}
 use mathlib.Core.Path.{◌≡◌, refl, sym, ap, subst, ◌∙◌}
 use mathlib.Core.List.{List, [], ◌∷◌}
 use Prim.Native.Nat.{ℕ, zero, suc, ◌≤◌}
 use native.Mathlib.Omega.{arith}
 use lib.ListN.{length, get_or, drop}
 use lib.Ieee.{Float}
+use Rattle.refusal.specs.Named.{refused_by}
 use Rattle.loops.specs.Fold.{fold}
 use Rattle.runs.specs.Runs.{replies, only, front_of}
 use Rattle.runs.specs.RunLaws.{agree}
@@ -17,7 +19,6 @@ use Rattle.ledger.proofs.Lists.{sums_first}
 use Rattle.ledger.proofs.Steps.{Holds, held_by_lem}
 use Rattle.ledger.proofs.Whole.{leaves_next, reply_next, opened_now}
 use Rattle.allowance.specs.Table.{table_places, started, table_refusal, start_out}
-use Rattle.allowance.specs.declared.TableAnswer.TheVariants as answers
 use Rattle.groups.specs.Calls.{books, surfaces, costs, replied, cost_refusal, cost_of, cost_reply, left_of}
 use Rattle.groups.specs.Ledger.{Fed, starts, renews, calls, GroupLedger, group_next, group_reply, group_ledger}
 use Rattle.groups.specs.Shared.{shared_next, mine, OneGroup, seen_by, one_next, one_reply, one_group}
@@ -67,12 +68,12 @@ module _ (group table : ℕ) (m : Lent) (rest : List Float) where
   agrees t g a fs = agree (one_group group table) (group_ledger group table m) Agree go t g a fs
 
 -- a start that answers was not refused
-not_short : (quota : ℕ) (table : List ℕ) (k : ℕ) → table_refusal (length table) ≡ k → (start_out quota table).answer ≡ answers.Done
+not_short : (quota : ℕ) (table : List ℕ) (k : ℕ) → table_refusal (length table) ≡ k → (start_out quota table).answer ≡ (Ok tt)
     → (table_places ≤ length table) × ((start_out quota table).table ≡ started quota table)
 unfolding start_out
 not_short quota table zero e h = (long_enough (length table) e, rw e refl)
 not_short quota table (suc k) e h =
-    let w : answers.Refused (suc k) ≡ answers.Done = rw e at h in
+    let w : refused_by (suc k) ≡ (Ok tt) = rw e at h in
     let z : ◌≡◌ {A = ℕ} 0 1 = cc in
     absurd (omega arith)
 

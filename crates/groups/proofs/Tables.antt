@@ -9,7 +9,7 @@ use lib.Dec.{ltb}
 use lib.ListN.{length, get_or, set, take, drop, replicate, length-set, length-append, length-drop, length-replicate, get_or-replicate, get_or-append}
 use lib.Seq.{get_or-set_same, get_or-set_other, set-get_or, get_or-drop, get_or-append-add}
 use Rattle.loops.specs.Cases.{or_false}
-use Rattle.refusal.specs.Refusals.{Refusal, by, first_of, settle}
+use Rattle.refusal.specs.Refusals.{Test, by, first_of, settle}
 use Rattle.refusal.specs.Laws.{first_none}
 use Rattle.refusal.specs.Tests.{needed, any_short}
 use Rattle.monomial.specs.Rows.{rows_of, weighted_rows}
@@ -77,7 +77,7 @@ module _ (table : List ℕ) where
 -- ---- a charge
 
 -- a call that 1 and 17 let through has a group
-passed : (group : ℕ) (short : Bool) (later : List Refusal) → first_of (by short 1 ∷ by (no_group group) 17 ∷ later) ≡ 0 → group < groups
+passed : (group : ℕ) (short : Bool) (later : List Test) → first_of (by short 1 ∷ by (no_group group) 17 ∷ later) ≡ 0 → group < groups
 passed group short later e =
     let p17 = first_none _ 16 _ (first_none _ 0 _ e).1 in
     let h : group ≤ 7 = ltb-false _ _ p17.0 in

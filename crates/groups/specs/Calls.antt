@@ -1,8 +1,9 @@
 -- The calls of a course group, as calls of a list: those of its book, those of its surfaces, and those that cost. Definitions only.
 use Rattle.std.specs.Prelude.{List, [], ℕ, ◌-◌, Float}
+use Rattle.allowance.specs.Table.{TableAnswer}
 use Rattle.statistics.specs.declared.Confidence.{Confidence}
 use Rattle.statistics.specs.declared.Tolerance.{Tolerance}
-use Rattle.samples.specs.Samples.{Sample}
+use Rattle.samples.specs.declared.Sample.{Sample}
 use Rattle.monomial.specs.Rows.{rows_of, weighted_rows}
 use Rattle.refusal.specs.Refusals.{settle}
 use Rattle.settings.specs.declared.Settings.{Settings}
@@ -18,7 +19,6 @@ use Rattle.split.specs.Search.{search_tests}
 use Rattle.split.specs.Splits.{split_refused, split_past, taken_of}
 use Rattle.ledger.specs.Ledger.{Call, Reply}
 use Rattle.ledger.specs.ReadCalls.{ReadCall, Told, fit_reply, band_reply, report_reply, split_reply}
-use Rattle.allowance.specs.declared.TableAnswer.{TableAnswer}
 use Rattle.allowance.specs.Refusals.{group_report_refusal, group_surface_refusal, group_split_refusal}
 
 -- A surface has no book: its samples come with the call, as columns and a count, then the lengths of the memory lent to it alone.

@@ -1,29 +1,23 @@
 -- What is claimed of eight groups that share one table. The theorems are proved in proofs/Isolation.antt, proofs/Ledgers.antt and proofs/Costing.antt. Definitions only.
-use Rattle.std.specs.Prelude.{◌≡◌, List, [], ◌∷◌, ◌++◌, map, ℕ, ◌≤◌, ◌<◌, length, take, Float}
-use Rattle.std.proofs.Math.Option.{Option, none, some}
+use Rattle.std.specs.Prelude.{◌≡◌, List, [], ◌∷◌, ◌++◌, map, ℕ, ◌≤◌, ◌<◌, length, take, Float, Option, None, Some, Ok}
+use Rattle.refusal.specs.Named.{number_of}
 use Rattle.basis.specs.Sizes.{sum_places}
 use Rattle.loops.specs.Fold.{fold}
 use Rattle.runs.specs.Runs.{replies, only, pick, along}
-use Rattle.samples.specs.Samples.{Sample}
+use Rattle.samples.specs.declared.Sample.{Sample}
 use Rattle.samples.specs.Columns.{Column, value, Columns}
 use Rattle.monomial.specs.Rows.{weighted_rows}
 use Rattle.monomial.specs.Sums.{sums_of}
 use Rattle.refusal.specs.Refusals.{settle}
 use Rattle.settings.specs.declared.Settings.{Settings}
 use Rattle.reporting.specs.declared.Places.{Places}
-use Rattle.reporting.specs.Reports.{ReportOut, report_number}
-use Rattle.split.specs.Splits.{split_number}
-use Rattle.measure.specs.Fits.{fit_number}
-use Rattle.measure.specs.Bands.{band_number}
-use Rattle.losses.specs.Losses.{loss_number}
-use Rattle.scores.specs.Scores.{scores_number}
+use Rattle.reporting.specs.Reports.{ReportOut}
 use Rattle.book.specs.Calls.{book_of, open_out}
 use Rattle.ledger.specs.Ledger.{Call, Lent, lent_of, told, final, opened}
 use Rattle.ledger.specs.ReadCalls.{ReadCall, Told, fit_reply, band_reply, report_reply, split_reply, loss_reply, scores_reply}
 use Rattle.ledger.specs.Words.{Words}
 use Rattle.ledger.specs.Whole.{WholeBook}
 use Rattle.allowance.specs.Table.{groups, table_places, counter_of, quota_of, start_out}
-use Rattle.allowance.specs.declared.TableAnswer.TheVariants as answers
 use Rattle.groups.specs.Calls.{CostCall, group_reports, GroupCall, books, surfaces, costs, GroupReply, replied}
 use Rattle.groups.specs.Ledger.{Fed, starts, renews, calls, GroupLedger, refused_by, costing, cost_told, group_next, group_ledger}
 use Rattle.groups.specs.Shared.{Shared, SharedCall, shared_next, shared, mine, seen_by}
@@ -60,11 +54,11 @@ ledger_of group table = record { samples = []; counter = counter_of table group;
 
 -- of what a group is fed, the calls of its book
 abbrev pub book_call : Fed → Option (Call ReadCall)
-book_call (starts q) = none
-book_call renews = none
-book_call (calls (books c)) = some c
-book_call (calls (surfaces q)) = none
-book_call (calls (costs q)) = none
+book_call (starts q) = None
+book_call renews = None
+book_call (calls (books c)) = Some c
+book_call (calls (surfaces q)) = None
+book_call (calls (costs q)) = None
 
 -- the claim of one group and the list of calls cs
 pub record GroupWhole (columns : ℕ → Columns) (sums : ℕ → List Float) (table : List ℕ) (group : ℕ) (cs : List SharedCall) : Type 0 where
@@ -93,7 +87,7 @@ new_ledger quota = record { samples = []; counter = quota; quota = quota }
 
 abbrev pub AnyGroups : Type 0
 AnyGroups =
-    (columns : ℕ → Columns) (sums : ℕ → List Float) (quota : ℕ) (table : List ℕ) → (start_out quota table).answer ≡ answers.Done
+    (columns : ℕ → Columns) (sums : ℕ → List Float) (quota : ℕ) (table : List ℕ) → (start_out quota table).answer ≡ (Ok tt)
     → (group : ℕ) → group < groups → (open_out (sums group)).answer ≡ book_of 0 → (cs : List SharedCall)
     → let m = lent_of (columns group) (sums group) in
     let fed = only (mine group) cs in
@@ -104,12 +98,12 @@ AnyGroups =
 
 -- the number of an answer: 0 where it is none
 unfoldable pub told_number : Told → ℕ
-told_number (fit_reply o) = fit_number o.answer
-told_number (band_reply o) = band_number o.answer
-told_number (report_reply o) = report_number o.answer
-told_number (split_reply o) = split_number o.answer
-told_number (loss_reply o) = loss_number o.answer
-told_number (scores_reply o) = scores_number o.answer
+told_number (fit_reply o) = number_of o.answer
+told_number (band_reply o) = number_of o.answer
+told_number (report_reply o) = number_of o.answer
+told_number (split_reply o) = number_of o.answer
+told_number (loss_reply o) = number_of o.answer
+told_number (scores_reply o) = number_of o.answer
 
 -- group is the group's number, table the length of the table, l the ledger's samples
 module _ (group table : ℕ) (m : Lent) (counter : ℕ) (l : List Sample) where

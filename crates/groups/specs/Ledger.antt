@@ -1,16 +1,15 @@
 -- The plain ledger of one course group: its samples, its counter and the quota. It is fed the quota, the renewals and its group's calls, with the lengths of the
 -- lent memory, and nothing of the other groups. Definitions only.
-use Rattle.std.specs.Prelude.{List, ℕ, length}
+use Rattle.std.specs.Prelude.{List, ℕ, length, Ok}
+use Rattle.refusal.specs.Named as named
 use Rattle.runs.specs.Runs.{Machine}
-use Rattle.samples.specs.Samples.{Sample}
+use Rattle.samples.specs.declared.Sample.{Sample}
 use Rattle.monomial.specs.Rows.{weighted_rows}
 use Rattle.monomial.specs.Sums.{sums_of}
 use Rattle.refusal.specs.Refusals.{settle}
 use Rattle.ledger.specs.Ledger.{Lent, told, ledger_next, ledger_reply}
 use Rattle.ledger.specs.ReadCalls.{Told, read_on}
-use Rattle.allowance.specs.declared.TableAnswer.{TableAnswer}
-use Rattle.allowance.specs.declared.TableAnswer.TheVariants as answers
-use Rattle.allowance.specs.Table.{table_refusal}
+use Rattle.allowance.specs.Table.{TableAnswer, table_refusal}
 use Rattle.groups.specs.Calls.{surface_on, CostCall, GroupCall, books, surfaces, costs, GroupReply, tabled, replied, cost_refusal, cost_of, cost_reply, left_of}
 
 -- what a group's ledger is fed
@@ -26,7 +25,7 @@ pub record GroupLedger : Type 0 where
 
 -- start and renew answer 1 where the table is too short
 abbrev pub table_answer : ℕ → TableAnswer
-table_answer table = settle (table_refusal table) answers.Done (answers.Refused (table_refusal table))
+table_answer table = settle (table_refusal table) (Ok tt) (named.refused_by (table_refusal table))
 
 -- group is its number, table the length of the table, m the lengths of its columns and sums
 module _ (group table : ℕ) (m : Lent) where

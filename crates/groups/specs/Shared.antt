@@ -1,10 +1,9 @@
 -- The program: eight groups, each with its own book, columns and sums, and one table that each call gets as the one before left it. Definitions only.
-use Rattle.std.specs.Prelude.{cond, List, ℕ, eqb, length, take}
-use Rattle.std.proofs.Math.Option.{Option, none, some}
+use Rattle.std.specs.Prelude.{cond, List, ℕ, eqb, length, take, Option, None, Some}
 use Rattle.basis.specs.Sizes.{sum_places}
 use Rattle.runs.specs.Runs.{Machine}
 use Rattle.refusal.specs.Refusals.{settle}
-use Rattle.samples.specs.Samples.{Sample}
+use Rattle.samples.specs.declared.Sample.{Sample}
 use Rattle.samples.specs.Columns.{samples_of, lengths}
 use Rattle.surface.specs.Points.{points_of, point_lengths}
 use Rattle.book.specs.Calls.{State}
@@ -62,9 +61,9 @@ shared = record { step = shared_next; reply = shared_reply }
 
 -- of a list of calls, what a group is fed: the starts, the renewals and its own calls
 abbrev pub mine : ℕ → SharedCall → Option Fed
-mine group (start_all q) = some (starts q)
-mine group renew_all = some renews
-mine group (of h c) = cond (eqb h group) (some (calls c)) none
+mine group (start_all q) = Some (starts q)
+mine group renew_all = Some renews
+mine group (of h c) = cond (eqb h group) (Some (calls c)) None
 
 -- ---- one group by itself
 

@@ -10,7 +10,8 @@ use lib.Seq.{take-suc-set, take-take, take_at, drop_at, drop-drop, get_or-drop, 
 use lib.Ieee.{Float, nan}
 use Rattle.loops.specs.Places.{table}
 use Rattle.loops.specs.PlaceLaws.{table_same}
-use Rattle.samples.specs.Samples.{Sample, ys_of}
+use Rattle.samples.specs.Samples.{ys_of}
+use Rattle.samples.specs.declared.Sample.{Sample}
 use Rattle.samples.specs.Columns.{sample_at, sample_by, samples_of, Columns, Column, of_x, of_y, of_w, value}
 use Rattle.monomial.specs.Rows.{weighted_of, weighted_rows}
 use Rattle.monomial.specs.Sums.{add_row, sums_of}

@@ -9,23 +9,23 @@ use lib.Dec.{eqb}
 use lib.ListN.{length, set, take, drop, length-append, length-set}
 use lib.Seq.{drop-set-lt, take-set-lt, append_snoc}
 use lib.Ieee.{Float}
+use Rattle.refusal.specs.Named.{refused_by}
 use Rattle.loops.specs.Fold.{fold}
-use Rattle.samples.specs.Samples.{Sample}
+use Rattle.samples.specs.declared.Sample.{Sample}
 use Rattle.monomial.specs.Rows.{weighted_rows}
 use Rattle.monomial.specs.Sums.{sums_of}
 use Rattle.frame.specs.Frame.{decode}
 use Rattle.decimal.specs.Lines.{read_lines}
-use Rattle.book.specs.declared.Answer.{Answer}
-use Rattle.book.specs.declared.Answer.TheVariants as answers
 use Rattle.book.specs.Refusals.{sums_lent}
 use Rattle.book.specs.RefusalLaws.{add_room, correct_room, withdraw_room, frame_room, lines_room}
 use Rattle.refusal.specs.Refusals.{settle}
+use Rattle.refusal.specs.Named.{refused_by}
 use Rattle.refusal.specs.Rooms.{Room}
 use Rattle.refusal.specs.RoomLaws.{room_of}
 use Rattle.refusal.specs.Tests.{capacity}
 use Rattle.samples.specs.Columns.{lengths, Column, of_x, of_y, of_w, value, samples_of, with_y}
 use Rattle.samples.specs.ColumnLaws.{of_every, lengths_same}
-use Rattle.book.specs.Calls.{Out, State, state_after, book_of, book_answered, refused, add_out, correct_out, withdraw_out, add_next, add_many, add_frame_out, add_lines_out}
+use Rattle.book.specs.Calls.{Answer, Out, State, state_after, book_of, book_answered, refused, add_out, correct_out, withdraw_out, add_next, add_many, add_frame_out, add_lines_out}
 use Rattle.book.specs.Many.{added, RoomFor}
 use Rattle.book.specs.ManyLaws.{room_one, room_rest, one_added, many_added, added_is}
 use Rattle.book.specs.Window.{window_refusal, with_place, window_out}
@@ -224,15 +224,15 @@ module _ (m : Lent) (rest : List Float) where
 
   -- a refusal changes nothing on either side; so it is enough to know what a call that is not refused leaves
   settled : (l l' : List Sample) (s s' : State) (k : ℕ) → Holds m rest l s → (k ≡ 0 → Leaves m rest s l' s')
-      → Stepped s (settle k (book_answered s') (refused k s.columns s.sums)) (settle k l' l) (settle k (book_of (length l')) (answers.Refused k))
+      → Stepped s (settle k (book_answered s') (refused k s.columns s.sums)) (settle k l' l) (settle k (book_of (length l')) (refused_by k))
   settled l l' s s' zero h g = record { leaves = g refl; answer = ap book_of (g refl).holds.count }
   settled l l' s s' (suc k) h g = record { leaves = leaves_all m rest l s h; answer = refl }
 
   pub step : (l : List Sample) (s : State) → Holds m rest l s → (c : Change)
       → let k = refusal_of m (length l) c in
-      Stepped s (out_of s c) (settle k (changed m l c) l) (settle k (book_of (length (changed m l c))) (answers.Refused k))
+      Stepped s (out_of s c) (settle k (changed m l c) l) (settle k (book_of (length (changed m l c))) (refused_by k))
   step l s h c =
       let l' = changed m l c in
       let same : refusal_of (lent_by s) s.count c ≡ refusal_of m (length l) c = λ i. refusal_of (h.lent i) (h.count i) c in
-      subst (λ (k : ℕ). Stepped s (out_of s c) (settle k l' l) (settle k (book_of (length l')) (answers.Refused k))) same
+      subst (λ (k : ℕ). Stepped s (out_of s c) (settle k l' l) (settle k (book_of (length l')) (refused_by k))) same
       (rw (out_is s c) (settled l l' s (done s c) (refusal_of (lent_by s) s.count c) h (leaves l s h c)))

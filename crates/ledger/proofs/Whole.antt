@@ -6,11 +6,12 @@ use Prim.Native.Nat.{ℕ, zero, suc, ◌≤◌}
 use native.Mathlib.Omega.{arith}
 use lib.ListN.{length, get_or, take, drop, length-map, length-append, length-drop}
 use lib.Ieee.{Float, nan}
+use Rattle.refusal.specs.Named.{refused_by}
 use Rattle.runs.specs.RunLaws.{agree, remembered}
-use Rattle.samples.specs.Samples.{Sample}
+use Rattle.samples.specs.declared.Sample.{Sample}
+use Rattle.refusal.specs.Named.{refused_by}
 use Rattle.monomial.specs.Sums.{sums_of}
 use Rattle.monomial.specs.SumLaws.{length_sums}
-use Rattle.book.specs.declared.Answer.TheVariants as answers
 use Rattle.book.specs.Refusals.{open_refusal}
 use Rattle.book.specs.RefusalLaws.{open_room}
 use Rattle.book.specs.Calls.{State, state_of, book_of, open_out}
@@ -59,7 +60,7 @@ not_refused_lem : (sums : List Float) (k : ℕ) → open_refusal (length sums) �
 unfolding open_out
 not_refused_lem sums zero e h = refl
 not_refused_lem sums (suc k) e h =
-    let w : answers.Refused (suc k) ≡ book_of 0 = rw e at h in
+    let w : refused_by (suc k) ≡ book_of 0 = rw e at h in
     let z : ◌≡◌ {A = ℕ} 0 1 = cc in
     absurd (omega arith)
 

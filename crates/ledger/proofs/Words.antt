@@ -1,17 +1,18 @@
 -- Demand 3's words of a report that passes refusals 1 to 9, from its definition and the laws of the choice.
+use Rattle.std.specs.Prelude.{Option, Some, None}
 use mathlib.Core.Path.{◌≡◌, refl, sym, ap, ◌∙◌}
 use mathlib.Core.Bool.{Bool, true, false, cond}
 use mathlib.Core.List.{List}
 use Prim.Native.Nat.{ℕ, ◌<◌}
 use native.Mathlib.Omega.{arith}
 use lib.ListN.{length}
+use Rattle.refusal.specs.Named.{refused_by, number_of}
 use Rattle.loops.specs.PlaceLaws.{length_table, table_at}
-use Rattle.basis.specs.declared.OptionDegree.{OptionDegree}
-use Rattle.basis.specs.declared.OptionDegree.TheVariants.{Some, None}
 use Rattle.statistics.specs.Degrees.{max_degree}
+use Rattle.basis.specs.declared.Degree.{Degree}
 use Rattle.basis.specs.Counts.{count_of}
 use Rattle.basis.specs.declared.Basis.TheVariants.{Curve}
-use Rattle.samples.specs.Samples.{Sample}
+use Rattle.samples.specs.declared.Sample.{Sample}
 use Rattle.monomial.specs.Rows.{rows_of}
 use Rattle.solve.specs.Solve.{solve}
 use Rattle.choice.specs.Choice.{degree, chosen_of, solved_count}
@@ -22,9 +23,8 @@ use Rattle.fit.specs.Solved.{scored_by}
 use Rattle.fit.specs.Chosen.{counts_of, tried, choice_of}
 use Rattle.measure.specs.Measures.{inverse_fails, covariance_at}
 use Rattle.settings.specs.declared.Settings.{Settings}
-use Rattle.reporting.specs.declared.ReportAnswer.TheVariants as answers
 use Rattle.report.specs.Reports.{report_choice}
-use Rattle.reporting.specs.Reports.{ReportOut, report_number, refused_late, written_by, report_of}
+use Rattle.reporting.specs.Reports.{ReportOut, refused_late, written_by, report_of}
 use Rattle.report.specs.Reports.{report_past}
 use Rattle.ledger.specs.Words.{Words, IsChosen, ledger_sums, degrees, scored}
 
@@ -55,7 +55,7 @@ module _ (settings : Settings) (l : List Sample) where
 
 -- what a report answers past refusals 1 to 9, from the chosen degree or none
 module _ (settings : Settings) (l : List Sample) where
-  abbrev pub report_by : OptionDegree → ReportOut
+  abbrev pub report_by : Option Degree → ReportOut
   report_by c = report_of Curve (length l) settings (rows_of l) (ledger_sums settings l) (solved_count (scored settings l) (degrees settings l)) c
 
   pub past_chosen : report_past (length l) settings (rows_of l) (ledger_sums settings l) ≡ report_by (chosen_of (scored settings l) (degrees settings l))
@@ -63,11 +63,11 @@ module _ (settings : Settings) (l : List Sample) where
   past_chosen = rw (chosen_by settings l, solved_by settings l) refl
 
   -- its number where a degree is chosen
-  number_some : (d : ℕ) → report_number (report_by (Some (degree d))).answer ≡ cond (inverse_fails (ledger_sums settings l) (count_of Curve d)) 12 0
+  number_some : (d : ℕ) → number_of (report_by (Some (degree d))).answer ≡ cond (inverse_fails (ledger_sums settings l) (count_of Curve d)) 12 0
   unfolding report_of written_by
   number_some d = go (inverse_fails (ledger_sums settings l) (count_of Curve d)) _ refl
     where
-      go : (t : Bool) (w : ReportOut) → report_number w.answer ≡ 0 → report_number (cond t (refused_late (length l) 12) w).answer ≡ cond t 12 0
+      go : (t : Bool) (w : ReportOut) → number_of w.answer ≡ 0 → number_of (cond t (refused_late (length l) 12) w).answer ≡ cond t 12 0
       go true w h = refl
       go false w h = h
 
@@ -78,26 +78,26 @@ module _ (settings : Settings) (l : List Sample) (o : ReportOut) (e : o ≡ repo
   b : ℕ
   b = degrees settings l
 
-  answered : (c : OptionDegree) → chosen_of S b ≡ c → o.answer ≡ (report_by settings l c).answer
+  answered : (c : Option Degree) → chosen_of S b ≡ c → o.answer ≡ (report_by settings l c).answer
   unfolding S b
   answered c h = ap (λ (t : ReportOut). t.answer) e ∙ ap (λ x. (report_by settings l x).answer) h
 
-  number_of : (d : ℕ) → chosen_of S b ≡ Some (degree d) → report_number o.answer ≡ cond (inverse_fails (ledger_sums settings l) (count_of Curve d)) 12 0
-  number_of d h = ap report_number (answered (Some (degree d)) h) ∙ number_some settings l d
+  chosen_number : (d : ℕ) → chosen_of S b ≡ Some (degree d) → number_of o.answer ≡ cond (inverse_fails (ledger_sums settings l) (count_of Curve d)) 12 0
+  chosen_number d h = ap number_of (answered (Some (degree d)) h) ∙ number_some settings l d
 
-  none_if_11 : o.answer ≡ answers.Refused 11 → (d : ℕ) → IsChosen settings l d → ⊥
+  none_if_11 : o.answer ≡ refused_by 11 → (d : ℕ) → IsChosen settings l d → ⊥
   unfolding S b
-  none_if_11 h d w = go (inverse_fails (ledger_sums settings l) (count_of Curve d)) (sym (ap report_number h) ∙ number_of d (chosen_is S b d w))
+  none_if_11 h d w = go (inverse_fails (ledger_sums settings l) (count_of Curve d)) (sym (ap number_of h) ∙ chosen_number d (chosen_is S b d w))
     where
       go : (t : Bool) → ◌≡◌ {A = ℕ} 11 (cond t 12 0) → ⊥
       go true q = omega arith
       go false q = omega arith
 
-  11-if-none : ((d : ℕ) → IsChosen settings l d → ⊥) → o.answer ≡ answers.Refused 11
+  11-if-none : ((d : ℕ) → IsChosen settings l d → ⊥) → o.answer ≡ refused_by 11
   unfolding S b report_of
   11-if-none h = answered None (none_such_only S b h)
 
-  fails_if_12 : o.answer ≡ answers.Refused 12 → (d : ℕ) × IsChosen settings l d × (inverse_fails (ledger_sums settings l) (count_of Curve d) ≡ true)
+  fails_if_12 : o.answer ≡ refused_by 12 → (d : ℕ) × IsChosen settings l d × (inverse_fails (ledger_sums settings l) (count_of Curve d) ≡ true)
   unfolding S b
   fails_if_12 h = by (chosen_of S b) refl
     where
@@ -106,11 +106,11 @@ module _ (settings : Settings) (l : List Sample) (o : ReportOut) (e : o ≡ repo
       last d q true k z = (d, chosen S b d q, k)
       last d q false k z = absurd (omega arith)
 
-      by : (c : OptionDegree) → chosen_of S b ≡ c → (d : ℕ) × IsChosen settings l d × (inverse_fails (ledger_sums settings l) (count_of Curve d) ≡ true)
-      by None q = absurd (let z : ◌≡◌ {A = ℕ} 12 11 = sym (ap report_number h) ∙ ap report_number (11-if-none (λ d w. none_such S b q d w)) in omega arith)
-      by (Some d) q = last d.0 q (inverse_fails (ledger_sums settings l) (count_of Curve d.0)) refl (sym (ap report_number h) ∙ number_of d.0 q)
+      by : (c : Option Degree) → chosen_of S b ≡ c → (d : ℕ) × IsChosen settings l d × (inverse_fails (ledger_sums settings l) (count_of Curve d) ≡ true)
+      by None q = absurd (let z : ◌≡◌ {A = ℕ} 12 11 = sym (ap number_of h) ∙ ap number_of (11-if-none (λ d w. none_such S b q d w)) in omega arith)
+      by (Some d) q = last d.0 q (inverse_fails (ledger_sums settings l) (count_of Curve d.0)) refl (sym (ap number_of h) ∙ chosen_number d.0 q)
 
-  12-if-fails : (d : ℕ) → IsChosen settings l d → inverse_fails (ledger_sums settings l) (count_of Curve d) ≡ true → o.answer ≡ answers.Refused 12
+  12-if-fails : (d : ℕ) → IsChosen settings l d → inverse_fails (ledger_sums settings l) (count_of Curve d) ≡ true → o.answer ≡ refused_by 12
   unfolding S b report_of
   12-if-fails d w h = answered (Some (degree d)) (chosen_is S b d w) ∙ (rw h)
 
@@ -122,9 +122,9 @@ module _ (settings : Settings) (l : List Sample) (o : ReportOut) (e : o ≡ repo
   one_chosen : (d e : ℕ) → IsChosen settings l d → IsChosen settings l e → d ≡ e
   unfolding S b
   one_chosen d f v w =
-      ap (λ (c : OptionDegree). numbered c) (sym (chosen_is S b d v) ∙ chosen_is S b f w)
+      ap (λ (c : Option Degree). numbered c) (sym (chosen_is S b d v) ∙ chosen_is S b f w)
     where
-      numbered : OptionDegree → ℕ
+      numbered : Option Degree → ℕ
       numbered None = 0
       numbered (Some d) = d.0
 

@@ -2,21 +2,21 @@
 -- agree. The theorem, `whole_list`, is proved in proofs/Whole.antt. Definitions only.
 use Rattle.std.specs.Prelude.{◌≡◌, List, [], ◌∷◌, ◌++◌, map, ℕ, zero, suc, ◌+◌, eqb, cond, length, get_or, take, drop, Float}
 use Rattle.std.specs.Float.{nan}
+use Rattle.refusal.specs.Named.{refused_by}
 use Rattle.basis.specs.Sizes.{sum_places}
 use Rattle.loops.specs.Fold.{fold}
 use Rattle.runs.specs.Runs.{Machine, replies as replies_of, history}
-use Rattle.samples.specs.Samples.{Sample}
+use Rattle.samples.specs.declared.Sample.{Sample}
 use Rattle.monomial.specs.Rows.{weighted_rows}
 use Rattle.monomial.specs.Sums.{sums_of}
 use Rattle.frame.specs.Frame.{decode}
 use Rattle.decimal.specs.Lines.{read_lines}
-use Rattle.book.specs.declared.Answer.{Answer}
-use Rattle.book.specs.declared.Answer.TheVariants as answers
 use Rattle.book.specs.Refusals.{add_refusal, correct_refusal, withdraw_refusal, frame_add_refusal, lines_add_refusal}
 use Rattle.refusal.specs.Tests.{capacity}
-use Rattle.book.specs.Calls.{Out, State, state_of, state_after, book_of, book_after, open_out, add_out, correct_out, withdraw_out, add_frame_out, add_lines_out}
+use Rattle.book.specs.Calls.{Answer, Out, State, state_of, state_after, book_of, book_after, open_out, add_out, correct_out, withdraw_out, add_frame_out, add_lines_out}
 use Rattle.samples.specs.Columns.{Column, value, lengths, samples_of, Columns}
 use Rattle.refusal.specs.Refusals.{settle}
+use Rattle.refusal.specs.Named.{refused_by}
 use Rattle.book.specs.Window.{window_refusal, window_out}
 
 -- ---- calls
@@ -128,7 +128,7 @@ ledger_next m l (reads q) = l
 -- reads answers and writes what is defined, from the ledger's samples and sums. The ledger's sums are always those over its whole list.
 unfoldable pub ledger_reply : {R W : Type 0} → Reading R W → Lent → List Sample → Call R → Reply W
 ledger_reply read_on m l (changes c) =
-    said (settle (refusal_of m (length l) c) (book_of (length (changed m l c))) (answers.Refused (refusal_of m (length l) c)))
+    said (settle (refusal_of m (length l) c) (book_of (length (changed m l c))) (refused_by (refusal_of m (length l) c)))
 ledger_reply read_on m l (reads q) = told (read_on q (length l) l (sums_of (weighted_rows l)) m.columns m.sums)
 
 abbrev pub ledger : {R W : Type 0} → Reading R W → Lent → Machine (List Sample) (Call R) (Reply W)

@@ -1,7 +1,7 @@
 -- Demand 3, whole: the claim about any list of calls from a book just opened. The theorem, `whole_book`, is proved in proofs/Book.antt. Definitions
 -- only.
 use Rattle.std.specs.Prelude.{◌≡◌, List, [], ◌∷◌, ◌++◌, length, Float}
-use Rattle.samples.specs.Samples.{Sample}
+use Rattle.samples.specs.declared.Sample.{Sample}
 use Rattle.monomial.specs.Rows.{weighted_rows}
 use Rattle.monomial.specs.Sums.{sums_of}
 use Rattle.book.specs.Calls.{book_of, open_out}

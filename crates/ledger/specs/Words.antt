@@ -1,11 +1,12 @@
 -- What demand 3 says of a report that passes refusals 1 to 9, word by word, over the ledger's samples. Definitions only.
 use Rattle.std.specs.Prelude.{◌≡◌, true, false, List, ◌⊎◌, ℕ, ◌+◌, ◌<◌, length, Float}
 use Rattle.std.specs.Float.Ieee.{lt}
+use Rattle.refusal.specs.Named.{refused_by}
 use Rattle.value.specs.Numbers.{infinity_f}
 use Rattle.statistics.specs.Degrees.{max_degree}
 use Rattle.basis.specs.Counts.{count_of}
 use Rattle.basis.specs.declared.Basis.TheVariants.{Curve}
-use Rattle.samples.specs.Samples.{Sample}
+use Rattle.samples.specs.declared.Sample.{Sample}
 use Rattle.monomial.specs.Rows.{rows_of, weighted_rows}
 use Rattle.monomial.specs.Sums.{sums_of}
 use Rattle.solve.specs.Solve.{solve}
@@ -14,7 +15,6 @@ use Rattle.choice.specs.declared.Scored.{Scored}
 use Rattle.fit.specs.Solved.{scored_by}
 use Rattle.measure.specs.Measures.{inverse_fails, covariance_at}
 use Rattle.settings.specs.declared.Settings.{Settings}
-use Rattle.reporting.specs.declared.ReportAnswer.TheVariants as answers
 use Rattle.reporting.specs.Reports.{ReportOut, written_by}
 
 module _ (settings : Settings) (samples : List Sample) where
@@ -46,11 +46,11 @@ module _ (settings : Settings) (samples : List Sample) where
     -- No two degrees are chosen.
     pub one_chosen : (d e : ℕ) → IsChosen d → IsChosen e → d ≡ e
     -- The report answers 11 exactly when none is chosen,
-    pub none_if_11 : o.answer ≡ answers.Refused 11 → (d : ℕ) → IsChosen d → ⊥
-    pub 11-if-none : ((d : ℕ) → IsChosen d → ⊥) → o.answer ≡ answers.Refused 11
+    pub none_if_11 : o.answer ≡ refused_by 11 → (d : ℕ) → IsChosen d → ⊥
+    pub 11-if-none : ((d : ℕ) → IsChosen d → ⊥) → o.answer ≡ refused_by 11
     -- and 12 exactly when the chosen degree's inverse fails.
-    pub fails_if_12 : o.answer ≡ answers.Refused 12 → (d : ℕ) × IsChosen d × (inverse_fails ledger_sums (count_of Curve d) ≡ true)
-    pub 12-if-fails : (d : ℕ) → IsChosen d → inverse_fails ledger_sums (count_of Curve d) ≡ true → o.answer ≡ answers.Refused 12
+    pub fails_if_12 : o.answer ≡ refused_by 12 → (d : ℕ) × IsChosen d × (inverse_fails ledger_sums (count_of Curve d) ≡ true)
+    pub 12-if-fails : (d : ℕ) → IsChosen d → inverse_fails ledger_sums (count_of Curve d) ≡ true → o.answer ≡ refused_by 12
     -- Otherwise it names the chosen degree and the number of solved degrees, with that fit's coefficients, errors, bands, outliers and pruned terms,
     -- all as the ledger's samples give them.
     pub otherwise : (d : ℕ) → IsChosen d → inverse_fails ledger_sums (count_of Curve d) ≡ false

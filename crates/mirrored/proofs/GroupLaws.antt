@@ -1,13 +1,12 @@
 -- Laws of Groups.antt: what a group is fed, and what one call and its mirror image leave and reply, by the group's ledger.
-use Rattle.std.specs.Prelude.{◌≡◌, Bool, cond, ℕ, eqb, length}
+use Rattle.std.specs.Prelude.{◌≡◌, Bool, cond, ℕ, eqb, length, Some, None}
 use Rattle.std.proofs.Math.Path.{refl, ap}
 use Rattle.std.proofs.Math.Bool.{true, false}
-use Rattle.std.proofs.Math.Option.{some, none as nothing}
 use mathlib.Core.List.{List, []}
 use Rattle.runs.specs.Runs.{front_of, only}
 use Rattle.basis.specs.Counts.{count_of}
 use Rattle.basis.specs.declared.Basis.TheVariants.{Curve, Surface}
-use Rattle.samples.specs.Samples.{Sample}
+use Rattle.samples.specs.declared.Sample.{Sample}
 use Rattle.settings.specs.declared.Settings.{Settings}
 use Rattle.fit.specs.declared.Choice.{Choice}
 use Rattle.report.specs.Limited.{within_past}
@@ -43,7 +42,7 @@ module _ (group : ℕ) where
   only_mirror (and (made h {c} {d} q) p) = go (eqb h group) (only_mirror p)
     where
       go : (b : Bool) {l m : List Fed} → Pairs MirrorFed l m
-          → Pairs MirrorFed (front_of (cond b (some (calls c)) nothing) l) (front_of (cond b (some (calls d)) nothing) m)
+          → Pairs MirrorFed (front_of (cond b (Some (calls c)) None) l) (front_of (cond b (Some (calls d)) None) m)
       go true r = and (calling q) r
       go false r = r
 

@@ -1,15 +1,14 @@
 -- Each call that reads a book, asked alike of samples alike but for the sign of every y, with sums to match: one law a call, and `read_on_mirror` for
 -- any.
-use Rattle.std.specs.Prelude.{◌≡◌, refl, List, ℕ, Float}
+use Rattle.std.specs.Prelude.{◌≡◌, refl, List, [], ℕ, Float, Option, Some, None}
+use Rattle.basis.specs.declared.Degree.{Degree}
 use Rattle.basis.specs.Counts.{count_of}
 use Rattle.basis.specs.declared.Basis.TheVariants.{Curve}
-use Rattle.basis.specs.declared.OptionDegree.{OptionDegree}
-use Rattle.basis.specs.declared.OptionDegree.TheVariants.{Some, None}
 use Rattle.statistics.specs.Degrees.{max_degree}
 use Rattle.statistics.specs.declared.Confidence.{Confidence}
 use Rattle.statistics.specs.declared.DegreeBound.{DegreeBound}
 use Rattle.statistics.specs.declared.Tolerance.{Tolerance}
-use Rattle.samples.specs.Samples.{Sample}
+use Rattle.samples.specs.declared.Sample.{Sample}
 use Rattle.monomial.specs.Rows.{rows_of, weighted_rows}
 use Rattle.score.specs.declared.Criterion.{Criterion}
 use Rattle.fit.specs.Chosen.{counts_of}
@@ -46,7 +45,7 @@ module _ {s t : List Float} (h : MirrorSums s t) {ps qs : List Sample} (p : Mirr
   unfolding fit_on fit_refusal
   fit_mirror degree scratch coefficients =
       rw (all_finite_mirror p)
-      (settle_mirror MirrorFit (fit_refusal n degree qs columns places scratch coefficients) (fit_past_mirror Curve h (rows_mirror p) n degree) (fit_refused_lem _))
+      (settle_mirror MirrorFit (fit_refusal n degree qs columns places scratch coefficients) (fit_past_mirror Curve h (rows_mirror p) n degree) (fit_refused_lem (fit_refusal n degree qs columns places scratch coefficients)))
 
   -- 9 is judged by the x's alone
   pub band_for_mirror : (x : Float) (degree : ℕ) (confidence : Confidence) (tolerance : Tolerance) (scratch : ℕ)
@@ -55,11 +54,11 @@ module _ {s t : List Float} (h : MirrorSums s t) {ps qs : List Sample} (p : Mirr
   band_for_mirror x degree confidence tolerance scratch =
       rw (all_finite_mirror p, xs_mirror p)
       (settle_mirror MirrorBandOut (band_refusal n x degree confidence tolerance qs columns places scratch)
-      (band_past_mirror Curve h (rows_mirror p) n x x degree confidence tolerance) (band_refused_lem _))
+      (band_past_mirror Curve h (rows_mirror p) n x x degree confidence tolerance) (band_refused_lem (band_refusal n x degree confidence tolerance qs columns places scratch)))
 
   -- ---- the degree that validation chooses
 
-  validate_past_mirror : (o : OptionDegree) → MirrorFit (validate_past n o (rows_of ps) s) (validate_past n o (rows_of qs) t)
+  validate_past_mirror : (o : Option Degree) → MirrorFit (validate_past n o (rows_of ps) s) (validate_past n o (rows_of qs) t)
   unfolding validate_past
   validate_past_mirror None = record { answer = refl; scratch = refl; coefficients = none }
   validate_past_mirror (Some d) = fit_past_mirror Curve h (rows_mirror p) n d.0
@@ -71,7 +70,7 @@ module _ {s t : List Float} (h : MirrorSums s t) {ps qs : List Sample} (p : Mirr
   validate_mirror folds bound criterion scratch coefficients =
       rw (all_finite_mirror p, validation_mirror criterion (weights_mirror p) folds (max_degree bound n))
       (settle_mirror MirrorFit (validate_refusal n folds bound qs columns places scratch coefficients)
-      (validate_past_mirror (validated_choice criterion (weighted_rows qs) folds (max_degree bound n))) (fit_refused_lem _))
+      (validate_past_mirror (validated_choice criterion (weighted_rows qs) folds (max_degree bound n))) (fit_refused_lem (validate_refusal n folds bound qs columns places scratch coefficients)))
 
   -- ---- the degree that a report chooses
 
@@ -91,7 +90,7 @@ module _ {s t : List Float} (h : MirrorSums s t) {ps qs : List Sample} (p : Mirr
   report_mirror settings lent =
       rw (all_finite_mirror p)
       (settle_mirror (MirrorReport (BySize settings)) (report_refusal n settings qs columns places lent) (report_past_mirror settings)
-      (report_refused (BySize settings) _))
+      (report_refused (BySize settings) (report_refusal n settings qs columns places lent)))
 
   losses_by_mirror : (settings : Settings) (degree : ℕ) → losses_by n settings (rows_of ps) s degree ≡ losses_by n settings (rows_of qs) t degree
   unfolding losses_by losses_at
@@ -131,7 +130,7 @@ module _ {s t : List Float} (h : MirrorSums s t) {ps qs : List Sample} (p : Mirr
   split_mirror settings limit lent =
       rw (all_finite_mirror p)
       (settle_mirror MirrorSplit (split_refusal n settings qs columns places lent)
-      (split_past_mirror (weights_mirror p) n settings.bound settings.criterion limit) (split_refused_lem _ _))
+      (split_past_mirror (weights_mirror p) n settings.bound settings.criterion limit) (split_refused_lem (split_refusal n settings qs columns places lent) []))
 
   -- ---- any of them
 

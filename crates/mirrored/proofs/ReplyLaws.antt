@@ -1,11 +1,11 @@
 -- Laws of Replies.antt over rows and sums of any basis: fits, bands, reports and splits past refusals 1 to 9.
-use Rattle.std.specs.Prelude.{◌≡◌, Bool, true, false, cond, List, ℕ, zero, suc, ltb, Float}
+use Rattle.std.specs.Prelude.{◌≡◌, Bool, true, false, cond, List, ℕ, zero, suc, ltb, Float, Option, Some, None, Result, Ok, Err}
 use Rattle.std.proofs.Math.Path.{refl, ap}
+use Rattle.refusal.specs.declared.refusals.Refusal.{Refusal}
+use Rattle.refusal.specs.Named.{named}
 use Rattle.basis.specs.Counts.{count_of}
 use Rattle.basis.specs.declared.Basis.{Basis}
 use Rattle.basis.specs.declared.Degree.{Degree}
-use Rattle.basis.specs.declared.OptionDegree.{OptionDegree}
-use Rattle.basis.specs.declared.OptionDegree.TheVariants.{Some, None}
 use Rattle.statistics.specs.Scores.{z_score, t_score, degrees_of_freedom}
 use Rattle.statistics.specs.Variances.{stddev_and_mean}
 use Rattle.statistics.specs.declared.Confidence.{Confidence}
@@ -29,9 +29,9 @@ use Rattle.reporting.specs.Chosen.{of_chosen}
 use Rattle.reporting.specs.Limited.{Limited, limited_of}
 use Rattle.reporting.specs.Reports.{refused_early, refused_late, written_by, report_of}
 use Rattle.split.specs.declared.Best.{Best}
-use Rattle.split.specs.Refusals.{search_refusal}
+use Rattle.split.specs.Refusals.{searched}
 use Rattle.split.specs.Search.{best_break, search_tests}
-use Rattle.split.specs.Splits.{split_refused, split_at, split_past}
+use Rattle.split.specs.Splits.{split_refused, split_at, split_by, split_past}
 use Rattle.mirror.specs.Pairs.{none}
 use Rattle.mirror.specs.PairLaws.{pairs_take, pairs_drop}
 use Rattle.mirror.specs.Mirror.{MirrorRows, MirrorWeights, Opposites, MirrorSums, MirrorBand}
@@ -58,19 +58,19 @@ pub fit_refused_lem : (r : ℕ) → MirrorFit (fit_refused r) (fit_refused r)
 fit_refused_lem r = record { answer = refl; scratch = refl; coefficients = none }
 
 pub band_refused_lem : (r : ℕ) → MirrorBandOut (band_refused r) (band_refused r)
-band_refused_lem r = record { answer = refused r; scratch = refl }
+band_refused_lem r = record { answer = refused (named r); scratch = refl }
 
 pub report_refused : (sized : Type 0) (r : ℕ) → MirrorReport sized (refused_early r) (refused_early r)
 report_refused sized r =
     record {
-      answer = MirrorAnswer.refused r;
+      answer = MirrorAnswer.refused (named r);
       written = record { scratch = refl; coefficients = none; errors = refl; pruned = λ _. refl; lower = none; upper = none; outliers = refl };
     }
 
 report_late : (sized : Type 0) (n r : ℕ) → MirrorReport sized (refused_late n r) (refused_late n r)
 report_late sized n r =
     record {
-      answer = MirrorAnswer.refused r;
+      answer = MirrorAnswer.refused (named r);
       written = record { scratch = refl; coefficients = none; errors = refl; pruned = λ _. refl; lower = none; upper = none; outliers = refl };
     }
 
@@ -82,7 +82,7 @@ split_refused_lem r scratch = record { answer = refl; scratch = refl; before = n
 module _ (basis : Basis) {s t : List Float} (h : MirrorSums s t) where
   -- what a call makes of the chosen degree or none
   pub chosen_mirror : {A B : Type 0} (R : A → B → Type 0) {late : ℕ → A} {late' : ℕ → B} {told : Degree → A} {told' : Degree → B}
-      → ((r : ℕ) → R (late r) (late' r)) → ((d : Degree) → R (told d) (told' d)) → (o : OptionDegree) → R (of_chosen basis s late told o) (of_chosen basis t late' told' o)
+      → ((r : ℕ) → R (late r) (late' r)) → ((d : Degree) → R (told d) (told' d)) → (o : Option Degree) → R (of_chosen basis s late told o) (of_chosen basis t late' told' o)
   chosen_mirror R p q None = p 11
   chosen_mirror R p q (Some d) = rw (fails_mirror h (count_of basis d.0)) (either_mirror R (inverse_fails t (count_of basis d.0)) (p 12) (q d))
 
@@ -110,7 +110,7 @@ module _ (basis : Basis) {s t : List Float} (h : MirrorSums s t) where
     band_past_mirror n x z degree confidence tolerance =
         let r = measure_refusal t qs (count_of basis degree) in
         rw (measure_mirror h p (count_of basis degree))
-        (record { answer = settle_mirror MirrorBandAnswer r (band (band_on_mirror x z degree confidence tolerance)) (refused r); scratch = refl })
+        (record { answer = settle_mirror MirrorBandAnswer r (band (band_on_mirror x z degree confidence tolerance)) (refused (named r)); scratch = refl })
 
     -- of k opposite coefficients with one covariance
     written_mirror : (n : ℕ) (settings : Settings) (degree solved : ℕ) {c d : List Float} (v : List Float) → Opposites c d
@@ -142,7 +142,7 @@ module _ (basis : Basis) {s t : List Float} (h : MirrorSums s t) where
         })
 
     -- a report of the same chosen degree or none
-    pub report_of_mirror : (n : ℕ) (settings : Settings) (solved : ℕ) (o : OptionDegree)
+    pub report_of_mirror : (n : ℕ) (settings : Settings) (solved : ℕ) (o : Option Degree)
         → MirrorReport (BySize settings) (report_of basis n settings rs s solved o) (report_of basis n settings qs t solved o)
     unfolding report_of
     report_of_mirror n settings solved o =
@@ -172,12 +172,13 @@ module _ {rs qs : List WeightedRow} (p : MirrorWeights rs qs) where
         after = side_fit_mirror (pairs_drop best.at p) best.after;
       }
 
+  split_by_mirror : (n tests : ℕ) (found : Result Best Refusal) → MirrorSplit (split_by n tests rs found) (split_by n tests qs found)
+  split_by_mirror n tests (Ok best) = split_at_mirror n tests best
+  split_by_mirror n tests (Err e) = record { answer = refl; scratch = refl; before = none; after = none }
+
   pub split_past_mirror : (n : ℕ) (bound : DegreeBound) (criterion : Criterion) (limit : ℕ)
       → MirrorSplit (split_past n bound criterion limit rs) (split_past n bound criterion limit qs)
   unfolding split_past
   split_past_mirror n bound criterion limit =
-      let best = best_break bound criterion qs in
-      let tests = search_tests bound criterion qs in
-      let r = search_refusal limit tests best in
       rw (best_mirror bound criterion p, search_mirror bound criterion p)
-      (settle_mirror MirrorSplit r (split_at_mirror n tests best) (split_refused_lem r _))
+      (split_by_mirror n (search_tests bound criterion qs) (searched limit (search_tests bound criterion qs) (best_break bound criterion qs)))

@@ -2,7 +2,7 @@
 -- calls it gets the replies, and ends with the book, of its own calls by themselves. Those that cost are refused before a counter has a say.
 use mathlib.Core.Path.{◌≡◌, refl, sym, ap, ◌∙◌}
 use mathlib.Core.Bool.{Bool, true, false, cond}
-use mathlib.Core.Option.{some, none}
+use Rattle.std.specs.Prelude.{Some, None}
 use mathlib.Core.List.{List}
 use Prim.Native.Nat.{ℕ, zero, suc, ◌≤◌}
 use native.Mathlib.Omega.{arith}
@@ -13,7 +13,7 @@ use lib.Ieee.{Float}
 use Rattle.loops.specs.Fold.{fold}
 use Rattle.runs.specs.Runs.{replies, only, pick}
 use Rattle.runs.specs.RunLaws.{no_call, each_equal, projected}
-use Rattle.samples.specs.Samples.{Sample}
+use Rattle.samples.specs.declared.Sample.{Sample}
 use Rattle.ledger.specs.Ledger.{told, next, reply}
 use Rattle.ledger.specs.ReadCalls.{read_on}
 use Rattle.allowance.specs.Table.{groups, table_places, counter_of, table_refusal, start_out, renew_out}
@@ -45,12 +45,12 @@ module _ (group table : ℕ) (above : groups ≤ group) (long : table_places ≤
   other_call s t h (surfaces q) z w = w
   other_call s t h (costs q) z w = record { length = charge_length h s.table (s.books h) q ∙ w.length; book = w.book }
 
-  others : (s : Shared) (t : OneGroup) (c : SharedCall) → SameBook s t → mine group c ≡ none → SameBook (shared_next s c) t
+  others : (s : Shared) (t : OneGroup) (c : SharedCall) → SameBook s t → mine group c ≡ None → SameBook (shared_next s c) t
   others s t (start_all q) w e = absurd (no_call (starts q) e)
   others s t renew_all w e = absurd (no_call renews e)
   others s t (of h c) w e = by (eqb h group) refl e
     where
-      by : (b : Bool) → eqb h group ≡ b → cond b (some (calls c)) none ≡ none → SameBook (shared_next s (of h c)) t
+      by : (b : Bool) → eqb h group ≡ b → cond b (Some (calls c)) None ≡ None → SameBook (shared_next s (of h c)) t
       by true q e = absurd (no_call (calls c) e)
       by false q e = other_call s t h c (λ z. eqb-false h group q (sym z)) w
 
@@ -95,13 +95,13 @@ module _ (group table : ℕ) (above : groups ≤ group) (long : table_places ≤
       let r : table_refusal (length s.table) ≡ 0 = ap table_refusal w.length ∙ none_refused in
       rw (r, none_refused) (refl, record { length = length_renewed s.table (rw w.length long) ∙ w.length; book = w.book })
 
-  own : (s : Shared) (t : OneGroup) (c : SharedCall) (d : Fed) → SameBook s t → mine group c ≡ some d
+  own : (s : Shared) (t : OneGroup) (c : SharedCall) (d : Fed) → SameBook s t → mine group c ≡ Some d
       → (shared_reply s c ≡ one_reply group table t d) × SameBook (shared_next s c) (one_next group table t d)
   own s t (start_all q) d w e = let z : starts q ≡ d = cc in rw (← z) (own_start s t q w)
   own s t renew_all d w e = let z : renews ≡ d = cc in rw (← z) (own_renew s t w)
   own s t (of h c) d w e = by (eqb h group) refl e
     where
-      by : (b : Bool) → eqb h group ≡ b → cond b (some (calls c)) none ≡ some d
+      by : (b : Bool) → eqb h group ≡ b → cond b (Some (calls c)) None ≡ Some d
           → (shared_reply s (of h c) ≡ one_reply group table t d) × SameBook (shared_next s (of h c)) (one_next group table t d)
       by true q e =
           let z : calls c ≡ d = cc in

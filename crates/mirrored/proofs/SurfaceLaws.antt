@@ -22,7 +22,7 @@ module _ {ps qs : List Point} (p : MirrorPoints ps qs) (n : ℕ) (columns : List
   surface_fit_mirror degree scratch coefficients =
       rw (points_finite_mirror p)
       (settle_mirror MirrorFit (surface_fit_refusal n qs columns degree scratch coefficients)
-      (fit_past_mirror Surface (surface_sums_mirror p) (point_rows_mirror p) n degree) (fit_refused_lem _))
+      (fit_past_mirror Surface (surface_sums_mirror p) (point_rows_mirror p) n degree) (fit_refused_lem (surface_fit_refusal n qs columns degree scratch coefficients)))
 
   -- 9 is judged by the x's and z's alone
   pub surface_band_mirror : (x z : Float) (degree : ℕ) (confidence : Confidence) (tolerance : Tolerance) (scratch : ℕ)
@@ -31,7 +31,7 @@ module _ {ps qs : List Point} (p : MirrorPoints ps qs) (n : ℕ) (columns : List
   surface_band_mirror x z degree confidence tolerance scratch =
       rw (points_finite_mirror p, xs_in_mirror p, zs_in_mirror p)
       (settle_mirror MirrorBandOut (surface_band_refusal n qs columns x z degree confidence tolerance scratch)
-      (band_past_mirror Surface (surface_sums_mirror p) (point_rows_mirror p) n x z degree confidence tolerance) (band_refused_lem _))
+      (band_past_mirror Surface (surface_sums_mirror p) (point_rows_mirror p) n x z degree confidence tolerance) (band_refused_lem (surface_band_refusal n qs columns x z degree confidence tolerance scratch)))
 
   -- the chosen total degree, the scores, the pivot tests: all of the choice
   pub surface_choice_mirror : (settings : Settings)
@@ -53,4 +53,4 @@ module _ {ps qs : List Point} (p : MirrorPoints ps qs) (n : ℕ) (columns : List
   surface_report_mirror settings lent =
       rw (points_finite_mirror p)
       (settle_mirror (MirrorReport (BySize settings)) (surface_report_refusal n qs columns settings lent) (surface_past_mirror settings)
-      (report_refused (BySize settings) _))
+      (report_refused (BySize settings) (surface_report_refusal n qs columns settings lent)))

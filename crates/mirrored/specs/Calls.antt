@@ -1,7 +1,7 @@
 -- Two lists of calls alike but for the sign of every y, and what it is for their replies to be each other's mirror image. Definitions only.
 use Rattle.std.specs.Prelude.{List, [], ◌∷◌, ℕ, Float}
-use Rattle.samples.specs.Samples.{Sample}
-use Rattle.book.specs.declared.Answer.{Answer}
+use Rattle.book.specs.Calls.{Answer}
+use Rattle.samples.specs.declared.Sample.{Sample}
 use Rattle.ledger.specs.Ledger.{Change, adds, corrects, withdraws, frames, texts, windows, Call, changes, reads, Reply, said, told}
 use Rattle.ledger.specs.ReadCalls.{ReadCall, Told}
 use Rattle.signs.specs.Opposite.{Opposite}

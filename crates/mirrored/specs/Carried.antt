@@ -2,7 +2,7 @@
 -- book. The theorems, `carried_group` and `carried_mirror`, are proved in proofs/Carried.antt. Definitions only.
 use Rattle.std.specs.Prelude.{◌≡◌, List, [], map, ℕ, ◌≤◌, length, Float}
 use Rattle.runs.specs.Runs.{replies, only, pick}
-use Rattle.samples.specs.Samples.{Sample}
+use Rattle.samples.specs.declared.Sample.{Sample}
 use Rattle.samples.specs.Columns.{columns_of}
 use Rattle.book.specs.Calls.{book_of}
 use Rattle.ledger.specs.Ledger.{Lent, lent_of}

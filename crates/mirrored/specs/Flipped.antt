@@ -4,7 +4,7 @@ use Rattle.std.specs.Prelude.{cond, List, ◌∷◌, ◌++◌, map, ℕ, ◌+◌
 use Rattle.std.specs.Float.Ieee.{neg}
 use Rattle.loops.specs.All.{All}
 use Rattle.loops.specs.Places.{table}
-use Rattle.samples.specs.Samples.{Sample}
+use Rattle.samples.specs.declared.Sample.{Sample}
 use Rattle.surface.specs.Points.{PointColumns}
 use Rattle.frame.specs.Frame.{weighted, sample_bytes}
 use Rattle.decimal.specs.Characters.{minus_byte, space_byte}

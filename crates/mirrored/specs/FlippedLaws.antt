@@ -8,7 +8,7 @@ use Rattle.loops.specs.All.{All}
 use Rattle.loops.specs.AllLaws.{all_at}
 use Rattle.loops.specs.Cases.{either}
 use Rattle.loops.specs.PlaceLaws.{length_table, table_at}
-use Rattle.samples.specs.Samples.{Sample}
+use Rattle.samples.specs.declared.Sample.{Sample}
 use Rattle.surface.specs.Points.{PointColumns}
 use Rattle.frame.specs.Frame.{weighted, sample_bytes}
 use Rattle.ledger.specs.Ledger.{adds, corrects, withdraws, frames, texts, windows, Call, changes, reads}

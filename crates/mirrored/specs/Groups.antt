@@ -1,15 +1,14 @@
 -- Document 02's mirror image with eight course groups on one table: two lists of starts, renewals and calls of all groups, alike but for the sign of
 -- every y, and what a group is replied. The theorem, `group_mirror`, is proved in proofs/Groups.antt, and so is `flipped_groups`, that every list of
 -- such calls has its mirror image. Definitions only.
-use Rattle.std.specs.Prelude.{◌≡◌, List, ℕ, ◌≤◌, ◌<◌, length, take, Float}
-use Rattle.std.proofs.Math.Option.{Option, none, some}
+use Rattle.std.specs.Prelude.{◌≡◌, List, ℕ, ◌≤◌, ◌<◌, length, take, Float, Option, None, Some}
 use Rattle.loops.specs.Fold.{fold}
 use Rattle.runs.specs.Runs.{replies, only, pick}
 use Rattle.basis.specs.Counts.{count_of}
 use Rattle.basis.specs.declared.Basis.TheVariants.{Surface}
 use Rattle.statistics.specs.declared.Confidence.{Confidence}
 use Rattle.statistics.specs.declared.Tolerance.{Tolerance}
-use Rattle.samples.specs.Samples.{Sample}
+use Rattle.samples.specs.declared.Sample.{Sample}
 use Rattle.samples.specs.Columns.{Columns, samples_of}
 use Rattle.choice.specs.declared.Scored.{Scored}
 use Rattle.fit.specs.Solved.{scored_by}
@@ -21,8 +20,7 @@ use Rattle.book.specs.Calls.{book_of, open_out}
 use Rattle.ledger.specs.Ledger.{Call, Reply, told, lent_of}
 use Rattle.ledger.specs.ReadCalls.{ReadCall, Told}
 use Rattle.ledger.specs.Words.{scored}
-use Rattle.allowance.specs.Table.{groups, table_places, counter_of, quota_of}
-use Rattle.allowance.specs.declared.TableAnswer.{TableAnswer}
+use Rattle.allowance.specs.Table.{TableAnswer, groups, table_places, counter_of, quota_of}
 use Rattle.groups.specs.Calls.{SurfaceCall, surface_fits, surface_reports, surface_bands, CostCall, group_reports, group_surfaces, group_splits, GroupCall, books, surfaces, costs, GroupReply, tabled, replied}
 use Rattle.groups.specs.Ledger.{Fed, starts, renews, calls, GroupLedger}
 use Rattle.groups.specs.Shared.{Shared, SharedCall, start_all, renew_all, of, shared_next, shared, mine, seen_by}
@@ -104,15 +102,15 @@ pub record SurfaceReport : Type 0 where
 
 -- of what a group is fed, the reports of surfaces, those that cost and those that do not
 abbrev pub surface_reported : Fed → Option SurfaceReport
-surface_reported (starts quota) = none
-surface_reported renews = none
-surface_reported (calls (books c)) = none
-surface_reported (calls (surfaces (surface_fits n degree columns scratch coefficients))) = none
-surface_reported (calls (surfaces (surface_reports n settings columns places))) = some (record { settings = settings; points = points_of n columns })
-surface_reported (calls (surfaces (surface_bands n x z degree confidence tolerance columns scratch))) = none
-surface_reported (calls (costs (group_reports settings places))) = none
-surface_reported (calls (costs (group_surfaces n settings columns places))) = some (record { settings = settings; points = points_of n columns })
-surface_reported (calls (costs (group_splits settings places))) = none
+surface_reported (starts quota) = None
+surface_reported renews = None
+surface_reported (calls (books c)) = None
+surface_reported (calls (surfaces (surface_fits n degree columns scratch coefficients))) = None
+surface_reported (calls (surfaces (surface_reports n settings columns places))) = Some (record { settings = settings; points = points_of n columns })
+surface_reported (calls (surfaces (surface_bands n x z degree confidence tolerance columns scratch))) = None
+surface_reported (calls (costs (group_reports settings places))) = None
+surface_reported (calls (costs (group_surfaces n settings columns places))) = Some (record { settings = settings; points = points_of n columns })
+surface_reported (calls (costs (group_splits settings places))) = None
 
 -- whether a total degree is solved, and its score: `scored` of crate `ledger`, of a surface's rows and sums
 abbrev pub surface_scored : Settings → List Point → ℕ → Scored

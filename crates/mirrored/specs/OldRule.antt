@@ -3,12 +3,13 @@
 -- coefficient is 1, above 2⁻⁵², and is pruned. Measured from the surface it is −1, which is not above 2⁻⁵², and stays: the reports differ in the
 -- number of pruned terms. With the rule by size they do not. One sample would not do: its error is 0 and its t infinite. Definitions only.
 -- `OldRuleLaws.antt` computes them.
-use Rattle.std.specs.Prelude.{◌≡◌, List, [], ◌∷◌, map, ℕ}
+use Rattle.std.specs.Prelude.{◌≡◌, List, [], ◌∷◌, map, ℕ, Ok}
+use Rattle.reporting.specs.Reports.{ReportAnswer}
 use Rattle.value.specs.Numbers.{num, one_f}
 use Rattle.statistics.specs.declared.Confidence.TheVariants.{P95}
 use Rattle.statistics.specs.declared.DegreeBound.TheVariants.{Custom}
 use Rattle.statistics.specs.declared.Tolerance.TheVariants as tolerance
-use Rattle.samples.specs.Samples.{Sample}
+use Rattle.samples.specs.declared.Sample.{Sample}
 use Rattle.monomial.specs.Rows.{weighted_rows}
 use Rattle.monomial.specs.Sums.{sums_of}
 use Rattle.score.specs.declared.Criterion.TheVariants.{Aic}
@@ -16,8 +17,6 @@ use Rattle.choice.specs.Choice.{degree}
 use Rattle.covariance.specs.declared.PruningRule.{PruningRule}
 use Rattle.covariance.specs.declared.PruningRule.TheVariants as rules
 use Rattle.settings.specs.declared.Settings.{Settings}
-use Rattle.reporting.specs.declared.ReportAnswer.{ReportAnswer}
-use Rattle.reporting.specs.declared.ReportAnswer.TheVariants as answers
 use Rattle.report.specs.Reports.{report_on}
 use Rattle.mirrored.specs.Flipped.{flip_sample}
 
@@ -39,7 +38,7 @@ reported rule samples =
 
 -- degree 0, one solved degree, no outlier, and one pruned term or none
 abbrev pub with_pruned : ℕ → ReportAnswer
-with_pruned n = answers.Report (degree 0) 1 0 n
+with_pruned n = Ok (record { degree = degree 0; solved = 1; outliers = 0; pruned = n })
 
 pub record OldRule : Type 0 where
   pub base : reported rules.Positive from_base ≡ with_pruned 1

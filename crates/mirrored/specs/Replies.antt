@@ -1,18 +1,15 @@
 -- What the calls that read answer and write, of samples alike but for the sign of every y: what is equal, bit for bit, and what changes sign. Losses
 -- and scores are equal whole. Definitions only.
-use Rattle.std.specs.Prelude.{◌≡◌, ℕ}
+use Rattle.std.specs.Prelude.{◌≡◌, ℕ, Ok, Err}
+use Rattle.refusal.specs.declared.refusals.Refusal.{Refusal}
 use Rattle.basis.specs.declared.Degree.{Degree}
 use Rattle.covariance.specs.declared.Band.{Band}
 use Rattle.covariance.specs.declared.PruningRule.TheVariants as rules
 use Rattle.settings.specs.declared.Settings.{Settings}
 use Rattle.measure.specs.Fits.{FitOut}
-use Rattle.measure.specs.Bands.{BandOut}
-use Rattle.measure.specs.declared.BandAnswer.{BandAnswer}
-use Rattle.measure.specs.declared.BandAnswer.TheVariants as band_answers
+use Rattle.measure.specs.Bands.{BandAnswer, BandOut}
 use Rattle.reporting.specs.Outputs.{Outputs}
-use Rattle.reporting.specs.Reports.{ReportOut}
-use Rattle.reporting.specs.declared.ReportAnswer.{ReportAnswer}
-use Rattle.reporting.specs.declared.ReportAnswer.TheVariants as report_answers
+use Rattle.reporting.specs.Reports.{ReportAnswer, ReportOut}
 use Rattle.split.specs.Splits.{SplitOut}
 use Rattle.losses.specs.Losses.{LossOut}
 use Rattle.scores.specs.Scores.{ScoresOut}
@@ -25,20 +22,20 @@ pub record MirrorFit (a b : FitOut) : Type 0 where
   pub scratch : a.scratch ≡ b.scratch
   pub coefficients : Opposites a.coefficients b.coefficients
 
--- a band: value, lower and upper change sign, lower and upper change places; refusals agree by number
+-- a band: value, lower and upper change sign, lower and upper change places; refusals agree
 pub data MirrorBandAnswer : BandAnswer → BandAnswer → Type 0 where
-  band : {a b : Band} → MirrorBand a b → MirrorBandAnswer (band_answers.Band a) (band_answers.Band b)
-  refused : (k : ℕ) → MirrorBandAnswer (band_answers.Refused k) (band_answers.Refused k)
+  band : {a b : Band} → MirrorBand a b → MirrorBandAnswer (Ok a) (Ok b)
+  refused : (e : Refusal) → MirrorBandAnswer (Err e) (Err e)
 
 pub record MirrorBandOut (a b : BandOut) : Type 0 where
   pub answer : MirrorBandAnswer a.answer b.answer
   pub scratch : a.scratch ≡ b.scratch
 
--- What a report answers: the degree, the number of solved degrees and that of outliers are equal, and refusals agree by number. The number of pruned
+-- What a report answers: the degree, the number of solved degrees and that of outliers are equal, and refusals agree. The number of pruned
 -- terms is equal where pruning is by size, which is `sized`.
 pub data MirrorAnswer (sized : Type 0) : ReportAnswer → ReportAnswer → Type 0 where
-  report : (d : Degree) (solved outliers : ℕ) {p q : ℕ} → (sized → p ≡ q) → MirrorAnswer sized (report_answers.Report d solved outliers p) (report_answers.Report d solved outliers q)
-  refused : (k : ℕ) → MirrorAnswer sized (report_answers.Refused k) (report_answers.Refused k)
+  report : (d : Degree) (solved outliers : ℕ) {p q : ℕ} → (sized → p ≡ q) → MirrorAnswer sized (Ok (record { degree = d; solved = solved; outliers = outliers; pruned = p })) (Ok (record { degree = d; solved = solved; outliers = outliers; pruned = q }))
+  refused : (e : Refusal) → MirrorAnswer sized (Err e) (Err e)
 
 -- what it writes: coefficients change sign, errors are equal, lower and upper change places and sign, the outlier marks are equal, and so are the
 -- pruning bytes where pruning is by size

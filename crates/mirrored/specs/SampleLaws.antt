@@ -9,7 +9,8 @@ use Rattle.basis.specs.declared.Basis.TheVariants.{Surface}
 use Rattle.loops.specs.Places.{table}
 use Rattle.value.specs.Power.{power_f}
 use Rattle.value.specs.Numbers.{zero_f}
-use Rattle.samples.specs.Samples.{Sample, xs_of}
+use Rattle.samples.specs.Samples.{xs_of}
+use Rattle.samples.specs.declared.Sample.{Sample}
 use Rattle.monomial.specs.Terms.{terms_at}
 use Rattle.monomial.specs.Rows.{row_of, rows_of, weighted_of, weighted_rows}
 use Rattle.monomial.specs.Plain.{at_one}

@@ -1,6 +1,6 @@
 -- Samples alike but for the sign of y, of a book and of a surface. Definitions only.
 use Rattle.std.specs.Prelude.{◌≡◌, List, ℕ}
-use Rattle.samples.specs.Samples.{Sample}
+use Rattle.samples.specs.declared.Sample.{Sample}
 use Rattle.surface.specs.Points.{Point, PointColumns, point_lengths, points_of}
 use Rattle.signs.specs.Opposite.{Opposite}
 use Rattle.mirror.specs.Pairs.{Pairs}

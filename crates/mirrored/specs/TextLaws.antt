@@ -1,5 +1,5 @@
 -- Laws of `flip_text`: of every text, well formed or not, it is the mirror image.
-use Rattle.std.specs.Prelude.{◌≡◌, Bool, cond, not, List, [], ◌∷◌, ◌++◌, map, ℕ, zero, suc, ◌+◌, ◌<◌, ◌^◌, length, take, drop, Float}
+use Rattle.std.specs.Prelude.{◌≡◌, Bool, cond, not, List, [], ◌∷◌, ◌++◌, map, ℕ, zero, suc, ◌+◌, ◌<◌, ◌^◌, length, take, drop, Float, Ok, Err}
 use Rattle.std.proofs.Math.Path.{refl}
 use Rattle.std.proofs.Common.{sym, ap, ap₂, subst, ◌∙◌, append_assoc, arith, ne_eqb, eqb-true, length-append, take_at, drop_at}
 use Rattle.std.proofs.Math.Bool.{true, false}
@@ -16,13 +16,10 @@ use Rattle.decimal.specs.IndexLaws.{drop_behind}
 use Rattle.decimal.specs.Digits.{is_digit, digits_only, remaining, spells}
 use Rattle.decimal.specs.DigitLaws.{digit_range, only_digits}
 use Rattle.decimal.specs.Nearest.{nearest_to}
-use Rattle.decimal.specs.Readings.{has_minus, behind_sign, whole_of, formed, too_many, unsigned_of, reading_of}
-use Rattle.decimal.specs.Lines.{pair_of, body_of, space_in, newline_in, line_of, in_front, lines_in, joined, entry_refusal, or_later, first_refusal, lines_refusal, sample_of, read_lines}
+use Rattle.decimal.specs.Readings.{Reading, has_minus, behind_sign, whole_of, formed, too_many, unsigned_of, reading_of}
+use Rattle.decimal.specs.Lines.{Entry, pair_of, body_of, space_in, newline_in, line_of, in_front, lines_in, joined, entry_refusal, or_later, first_refusal, lines_refusal, sample_of, read_lines}
 use Rattle.decimal.specs.LineLaws.{line_with, line_without}
-use Rattle.decimal.specs.declared.readings.Decimal.{Decimal}
-use Rattle.decimal.specs.declared.readings.Decimal.TheVariants as decimal
-use Rattle.decimal.specs.declared.lines.Entry.{Entry}
-use Rattle.decimal.specs.declared.lines.Entry.TheVariants as entry
+use Rattle.decimal.specs.declared.errors.ReadingError.TheVariants.{Malformed, TooManyDigits}
 use Rattle.signs.specs.Opposite.{Opposite}
 use Rattle.signs.specs.OppositeLaws.{opposite_of, opposite_nan}
 use Rattle.signs.specs.Negated.{round_neg}
@@ -34,17 +31,17 @@ use Rattle.mirrored.specs.Flipped.{flip_reading, flip_body, flip_line, flip_text
 
 -- ---- readings
 
-data MirrorDecimal : Decimal → Decimal → Type 0 where
-  values : {v w : Float} → Opposite v w → MirrorDecimal (decimal.Value v) (decimal.Value w)
-  many : MirrorDecimal decimal.TooManyDigits decimal.TooManyDigits
-  malformed : MirrorDecimal decimal.Malformed decimal.Malformed
+data MirrorDecimal : Reading → Reading → Type 0 where
+  values : {v w : Float} → Opposite v w → MirrorDecimal (Ok v) (Ok w)
+  many : MirrorDecimal (Err TooManyDigits) (Err TooManyDigits)
+  malformed : MirrorDecimal (Err Malformed) (Err Malformed)
 
 nearest_opposite : (s : Bool) (d p : ℕ) → Opposite (nearest_to s d p) (nearest_to (not s) d p)
 unfolding nearest_to
 nearest_opposite s d p = rw (round_neg binary64 s d (10 ^ p)) (opposite_of (round binary64 s d (10 ^ p)))
 
 judged : (f m : Bool) {v w : Float} → Opposite v w
-    → MirrorDecimal (cond f (cond m decimal.TooManyDigits (decimal.Value v)) decimal.Malformed) (cond f (cond m decimal.TooManyDigits (decimal.Value w)) decimal.Malformed)
+    → MirrorDecimal (cond f (cond m (Err TooManyDigits) (Ok v)) (Err Malformed)) (cond f (cond m (Err TooManyDigits) (Ok w)) (Err Malformed))
 judged true true o = many
 judged true false o = values o
 judged false m o = malformed
@@ -90,32 +87,32 @@ record MirrorEntry (a b : Entry) : Type 0 where
   pub refusal : entry_refusal a ≡ entry_refusal b
   pub sample : MirrorSample (sample_of a) (sample_of b)
 
-pair_mirror : (x : Decimal) {y z : Decimal} → MirrorDecimal y z → MirrorEntry (pair_of x y) (pair_of x z)
+pair_mirror : (x : Reading) {y z : Reading} → MirrorDecimal y z → MirrorEntry (pair_of x y) (pair_of x z)
 unfolding pair_of entry_refusal sample_of
-pair_mirror decimal.Malformed o = record { refusal = refl; sample = record { x = refl; y = opposite_nan; w = refl } }
-pair_mirror decimal.TooManyDigits malformed = record { refusal = refl; sample = record { x = refl; y = opposite_nan; w = refl } }
-pair_mirror decimal.TooManyDigits many = record { refusal = refl; sample = record { x = refl; y = opposite_nan; w = refl } }
-pair_mirror decimal.TooManyDigits (values o) = record { refusal = refl; sample = record { x = refl; y = opposite_nan; w = refl } }
-pair_mirror (decimal.Value u) malformed = record { refusal = refl; sample = record { x = refl; y = opposite_nan; w = refl } }
-pair_mirror (decimal.Value u) many = record { refusal = refl; sample = record { x = refl; y = opposite_nan; w = refl } }
-pair_mirror (decimal.Value u) (values o) = record { refusal = refl; sample = record { x = refl; y = o; w = refl } }
+pair_mirror (Err Malformed) o = record { refusal = refl; sample = record { x = refl; y = opposite_nan; w = refl } }
+pair_mirror (Err TooManyDigits) malformed = record { refusal = refl; sample = record { x = refl; y = opposite_nan; w = refl } }
+pair_mirror (Err TooManyDigits) many = record { refusal = refl; sample = record { x = refl; y = opposite_nan; w = refl } }
+pair_mirror (Err TooManyDigits) (values o) = record { refusal = refl; sample = record { x = refl; y = opposite_nan; w = refl } }
+pair_mirror (Ok u) malformed = record { refusal = refl; sample = record { x = refl; y = opposite_nan; w = refl } }
+pair_mirror (Ok u) many = record { refusal = refl; sample = record { x = refl; y = opposite_nan; w = refl } }
+pair_mirror (Ok u) (values o) = record { refusal = refl; sample = record { x = refl; y = o; w = refl } }
 
 -- a line that is refused is its own mirror image: its numbers count as NaNs
 refused_mirror : (a : Entry) → eqb (entry_refusal a) 0 ≡ false → MirrorEntry a a
 unfolding entry_refusal sample_of
-refused_mirror (entry.Sample u v) e = never (sym e)
-refused_mirror entry.Malformed e = record { refusal = refl; sample = record { x = refl; y = opposite_nan; w = refl } }
-refused_mirror entry.TooManyDigits e = record { refusal = refl; sample = record { x = refl; y = opposite_nan; w = refl } }
+refused_mirror (Ok v) e = never (sym e)
+refused_mirror (Err Malformed) e = record { refusal = refl; sample = record { x = refl; y = opposite_nan; w = refl } }
+refused_mirror (Err TooManyDigits) e = record { refusal = refl; sample = record { x = refl; y = opposite_nan; w = refl } }
 
 -- of a line that is not refused, y is not malformed
-y_formed : (x : Decimal) (y : List ℕ) → eqb (entry_refusal (pair_of x (reading_of y))) 0 ≡ true → formed (behind_sign y) ≡ true
+y_formed : (x : Reading) (y : List ℕ) → eqb (entry_refusal (pair_of x (reading_of y))) 0 ≡ true → formed (behind_sign y) ≡ true
 unfolding reading_of unsigned_of
 y_formed x y e = by_test (formed (behind_sign y)) (λ f. f) (λ f. absurd (bad x (rw f at e)))
   where
-    bad : (x : Decimal) → eqb (entry_refusal (pair_of x decimal.Malformed)) 0 ≡ true → ⊥
-    bad decimal.Malformed e = never (unfold pair_of in unfold entry_refusal in e)
-    bad decimal.TooManyDigits e = never (unfold pair_of in unfold entry_refusal in e)
-    bad (decimal.Value u) e = never (unfold pair_of in unfold entry_refusal in e)
+    bad : (x : Reading) → eqb (entry_refusal (pair_of x (Err Malformed))) 0 ≡ true → ⊥
+    bad (Err Malformed) e = never (unfold pair_of in unfold entry_refusal in e)
+    bad (Err TooManyDigits) e = never (unfold pair_of in unfold entry_refusal in e)
+    bad (Ok u) e = never (unfold pair_of in unfold entry_refusal in e)
 
 -- ---- where a byte first stands
 
@@ -238,7 +235,7 @@ line_flips l n =
     go false = refl
 
 -- the last line without a newline is malformed, and stays
-last_is : (l : List ℕ) → Without newline_byte l → line_of l ≡ entry.Malformed
+last_is : (l : List ℕ) → Without newline_byte l → line_of l ≡ Err Malformed
 last_is l n = sym (line_without l (newline_in l) refl (let i = index_end newline_byte l n in omega arith))
 
 last_stays : (l : List ℕ) → Without newline_byte l → flip_line l ≡ l
