@@ -7,29 +7,22 @@ use native.Mathlib.Omega.{arith}
 use lib.Dec.{ltb}
 use lib.ListN.{length, set}
 use lib.Ieee.{Float}
-use Rattle.frame.specs.declared.cursor.Read.{Read}
-use Rattle.book.specs.declared.Answer.{Answer}
-use Rattle.book.specs.Calls.{Out, Is}
+use Rattle.refusal.specs.Named.{refused_by}
+use Rattle.frame.specs.Handed.{Read}
+use Rattle.book.specs.Calls.{Answer, Out, Is}
 use Rattle.two_column.specs.Pairs.{Columns as PairColumns}
 use Rattle.two_column.specs.Calls.{Out as PairOut, Is as PairIs}
-use Rattle.measure.specs.declared.FitAnswer.{FitAnswer}
-use Rattle.measure.specs.declared.BandAnswer.{BandAnswer}
-use Rattle.measure.specs.Fits.{FitOut, FitIs}
-use Rattle.measure.specs.Bands.{BandOut, BandIs}
-use Rattle.reporting.specs.declared.ReportAnswer.{ReportAnswer}
-use Rattle.reporting.specs.Reports.{ReportOut, Does}
+use Rattle.measure.specs.Fits.{FitAnswer, FitOut, FitIs}
+use Rattle.measure.specs.Bands.{BandAnswer, BandOut, BandIs}
+use Rattle.reporting.specs.Reports.{ReportAnswer, ReportOut, Does}
 use Rattle.reporting.specs.Outputs.{LentOutputs}
-use Rattle.split.specs.declared.SplitAnswer.{SplitAnswer}
-use Rattle.split.specs.declared.SplitAnswer.TheVariants as splits
-use Rattle.split.specs.Splits.{SplitOut, LentSplit, split_refused, Does as SplitDoes}
-use Rattle.allowance.specs.declared.TableAnswer.{TableAnswer}
-use Rattle.allowance.specs.Table.{TableOut, TableIs}
+use Rattle.split.specs.Splits.{SplitAnswer, SplitOut, LentSplit, split_refused, Does as SplitDoes}
+use Rattle.allowance.specs.Table.{TableAnswer, TableOut, TableIs}
 use Rattle.allowance.specs.Charges.{Charged, ReportCharged, SplitCharged}
-use Rattle.losses.specs.declared.LossAnswer.{LossAnswer}
-use Rattle.losses.specs.Losses.{LossOut, LossIs}
-use Rattle.scores.specs.declared.ScoresAnswer.{ScoresAnswer}
-use Rattle.scores.specs.Scores.{ScoresOut, ScoresIs}
-use Rattle.replay.specs.declared.Replayed.{Replayed}
+use Rattle.losses.specs.Losses.{LossAnswer, LossOut, LossIs}
+use Rattle.scores.specs.Scores.{ScoresAnswer, ScoresOut, ScoresIs}
+use Rattle.std.specs.Prelude.{Option}
+use Rattle.book.specs.declared.Book.{Book}
 use Rattle.replay.specs.Records.{calls_of}
 use Rattle.replay.specs.Replay.{LentMemory, Ran, ReplayIs}
 use Rattle.lent.specs.Slices.{Slice, before, after, contents}
@@ -82,7 +75,7 @@ one_written v (a ∷ l) h = refl
 
 -- a split whose total has no place, and one
 module _ (o : SplitOut) (places : ℕ) (w : LentSplit) (v : Slice Float) where
-  pub split_short : ltb places 1 ≡ true → (left_alone : SplitDoes (split_refused 1 []) (splits.Refused 1) w) → after v ≡ before v → (r : ℕ) → r ≡ packed_refusal 1
+  pub split_short : ltb places 1 ≡ true → (left_alone : SplitDoes (split_refused 1 []) (refused_by 1) w) → after v ≡ before v → (r : ℕ) → r ≡ packed_refusal 1
       → SplitPacked (split_into places o) r w v
   unfolding split_into packed_split split_total
   split_short h alone ev r e = rw h (record { answer = e; lent = alone; total = ev })
@@ -109,7 +102,7 @@ report_charged_packed t i q = record { does = report_packed i.does q; table = i.
 
 -- a group's split whose total has no place, and one
 module _ (o : Charged SplitOut) (places : ℕ) (w : LentSplit) (v : Slice Float) (t : Slice ℕ) where
-  pub split_charged_short : ltb places 1 ≡ true → (left_alone : SplitDoes (split_refused 1 []) (splits.Refused 1) w) → after v ≡ before v → after t ≡ before t → (r : ℕ)
+  pub split_charged_short : ltb places 1 ≡ true → (left_alone : SplitDoes (split_refused 1 []) (refused_by 1) w) → after v ≡ before v → after t ≡ before t → (r : ℕ)
       → r ≡ packed_refusal 1 → SplitChargedPacked (charged_into places (before t) o) r w v t
   unfolding charged_into packed_split split_total
   split_charged_short h alone ev et r e = rw h (record { does = record { answer = e; lent = alone; total = ev }; table = et })
@@ -180,7 +173,7 @@ module _ (a : Read) (v : Slice Float) where
   read_packed h b r q e n =
       record { short = λ k. absurd (omega arith); read = λ _. (e ∙ ap packed_read q, n ∙ ap (λ (z : Read). over (read_numbers z) (before v)) q) }
 
-pub replay_packed : {kinds words : List ℕ} {numbers : List Float} {width : ℕ} {m : LentMemory} {a : Replayed} {r : ℕ}
+pub replay_packed : {kinds words : List ℕ} {numbers : List Float} {width : ℕ} {m : LentMemory} {a : Option Book} {r : ℕ}
     → ReplayIs kinds words numbers width m a → r ≡ packed_replay a → ReplayPacked kinds words numbers width m r
 unfolding packed_replay
 replay_packed {kinds} {words} {numbers} {width} {m} i e =

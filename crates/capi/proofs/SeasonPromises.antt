@@ -5,19 +5,17 @@ use Prim.Native.Nat.{ℕ, ◌≤◌, ◌<◌}
 use native.Mathlib.Omega.{arith}
 use lib.ListN.{length, get_or, drop, length-map}
 use lib.Seq.{take_all}
+use Rattle.book.specs.Calls.{Answer}
 use Rattle.loops.specs.Places.{each}
 use Rattle.loops.specs.PlaceLaws.{each_write, map_table, table_take}
 use Rattle.lent.specs.Slices.{Slice, before, after}
 use Rattle.lent.specs.Written.{over}
 use Rattle.lent.specs.WrittenLaws.{over_by}
-use Rattle.book.specs.declared.Answer.{Answer}
-use Rattle.reporting.specs.declared.ReportAnswer.{ReportAnswer}
-use Rattle.reporting.specs.Reports.{ReportOut}
+use Rattle.reporting.specs.Reports.{ReportAnswer, ReportOut}
 use Rattle.reporting.specs.Outputs.{LentOutputs}
 use Rattle.stakes.specs.Parts.{stakes}
 use Rattle.stakes.specs.Season.{SeasonState}
 use Rattle.season.specs.Changes.{SeasonOut, SeasonIs}
-use Rattle.season_report.specs.declared.StakeReport.{StakeReport}
 use Rattle.season_report.specs.declared.SeasonReport.{SeasonReport}
 use Rattle.season_report.specs.Reports.{StakeReportIs, Reported, SeasonReportIs}
 use Rattle.capi.specs.Packed.{packed_refusal, packed_book, packed_report}
@@ -30,13 +28,13 @@ pub stake_report_packed : {s : ℕ} {o : ReportOut} {a : ReportAnswer} {r : ℕ}
 stake_report_packed i q = record { answer = q ∙ ap packed_report i.answer; lent = record { answer = refl; outputs = i.outputs } }
 
 -- the stakes' answers are written, place by place
-pub stakes_written : (d : StakeReport) (told : List StakeReport) (l : List ℕ) → length told ≡ stakes → stakes ≤ length l
-    → each (λ k _. packed_report (get_or told k d).answer) stakes l ≡ over (packed_stakes told) l
+pub stakes_written : (d : ReportAnswer) (told : List ReportAnswer) (l : List ℕ) → length told ≡ stakes → stakes ≤ length l
+    → each (λ k _. packed_report (get_or told k d)) stakes l ≡ over (packed_stakes told) l
 stakes_written d told l e h =
-    over_by stakes (packed_stakes told) l _ (length-map told (λ (t : StakeReport). packed_report t.answer) ∙ e)
-    (each_write (λ k. packed_report (get_or told k d).answer) stakes l h
+    over_by stakes (packed_stakes told) l _ (length-map told packed_report ∙ e)
+    (each_write (λ k. packed_report (get_or told k d)) stakes l h
     ∙ ap (λ (v : List ℕ). v ++ drop stakes l)
-    (map_table (λ (t : StakeReport). packed_report t.answer) (λ k. get_or told k d) stakes
+    (map_table packed_report (λ k. get_or told k d) stakes
     ∙ ap packed_stakes (table_take d stakes told (omega arith) ∙ take_all stakes told (omega arith))))
 
 -- a season report whose answers have too few places, and enough
@@ -49,5 +47,5 @@ module _ (o : Reported) (w : LentOutputs) (a : Slice ℕ) where
   season_report_packed h t r i e q =
       record {
         short = λ k. absurd (omega arith);
-        reported = λ _. (e ∙ i.passed, i.outputs, q ∙ ap (λ (told : List StakeReport). over (packed_stakes told) (before a)) i.reports);
+        reported = λ _. (e ∙ i.passed, i.outputs, q ∙ ap (λ (told : List ReportAnswer). over (packed_stakes told) (before a)) i.reports);
       }

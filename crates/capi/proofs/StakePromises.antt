@@ -1,25 +1,21 @@
 -- From what the season's own call promises of a stake to what the C interface promises.
-use mathlib.Core.Path.{◌≡◌, refl, ap, ◌∙◌}
+use mathlib.Core.Path.{◌≡◌, refl, sym, ap, ◌∙◌}
 use mathlib.Core.Bool.{cond}
 use mathlib.Core.List.{[]}
 use Prim.Native.Nat.{ℕ, ◌≤◌, ◌<◌}
 use borrow.Author.Tests.{lt-ltb, le-ltb, le-leb, lt-leb}
 use lib.Dec.{ltb, leb}
 use lib.Ieee.{Float}
+use Rattle.refusal.specs.Named.{number, named}
 use Rattle.refusal.specs.Refusals.{first_of}
 use Rattle.lent.specs.Slices.{Slice, before, after, contents}
 use Rattle.lent.specs.Written.{over}
 use Rattle.book.specs.Calls.{State}
-use Rattle.measure.specs.declared.FitAnswer.{FitAnswer}
-use Rattle.measure.specs.declared.BandAnswer.{BandAnswer}
-use Rattle.measure.specs.Fits.{FitOut}
-use Rattle.measure.specs.Bands.{BandOut, band_refused}
-use Rattle.losses.specs.declared.LossAnswer.{LossAnswer}
-use Rattle.losses.specs.Losses.{LossOut, loss_refused}
-use Rattle.scores.specs.declared.ScoresAnswer.{ScoresAnswer}
-use Rattle.scores.specs.Scores.{ScoresOut, scores_refused}
-use Rattle.split.specs.declared.SplitAnswer.{SplitAnswer}
-use Rattle.split.specs.Splits.{SplitOut, LentSplit, split_refused}
+use Rattle.measure.specs.Fits.{FitAnswer, FitOut}
+use Rattle.measure.specs.Bands.{BandAnswer, BandOut, band_refused}
+use Rattle.losses.specs.Losses.{LossAnswer, LossOut, loss_refused}
+use Rattle.scores.specs.Scores.{ScoresAnswer, ScoresOut, scores_refused}
+use Rattle.split.specs.Splits.{SplitAnswer, SplitOut, LentSplit, split_refused}
 use Rattle.stakes.specs.Parts.{stakes}
 use Rattle.stakes.specs.Season.{SeasonState, stake_refusal, read_stake}
 use Rattle.stakes.specs.SeasonLaws.{none_over}
@@ -52,9 +48,9 @@ module _ {O : Type 0} (s : ℕ) where
 -- ---- each kind of call: refused by k, so that nothing is written, and done
 
 module _ {s : ℕ} {o : BandOut} (t v : Slice Float) where
-  pub band_none : (k : ℕ) → o ≡ band_refused k → after t ≡ before t → after v ≡ before v → (r : ℕ) → r ≡ packed_refusal k → StakeBandPacked s o r t v
+  pub band_none : (k : ℕ) → number (named k) ≡ k → o ≡ band_refused k → after t ≡ before t → after v ≡ before v → (r : ℕ) → r ≡ packed_refusal k → StakeBandPacked s o r t v
   unfolding packed_band band_numbers
-  band_none k q et ev r e = rw q (record { answer = e; lent = record { answer = refl; scratch = et ∙ none_over s (before t) }; numbers = ev })
+  band_none k same q et ev r e = rw q (record { answer = e ∙ ap packed_refusal (sym same); lent = record { answer = refl; scratch = et ∙ none_over s (before t) }; numbers = ev })
 
   pub band_done : {p : BandOut} → o ≡ p → (a : BandAnswer) (r : ℕ) → StakeBandIs s p a (contents t) → r ≡ packed_band a
       → after v ≡ over (band_numbers a) (before v) → StakeBandPacked s o r t v
@@ -67,11 +63,11 @@ module _ {s : ℕ} {o : BandOut} (t v : Slice Float) where
       })
 
 module _ {s : ℕ} {o : LossOut} (t l v : Slice Float) where
-  pub loss_none : (k : ℕ) → o ≡ loss_refused k → after t ≡ before t → after l ≡ before l → after v ≡ before v → (r : ℕ) → r ≡ packed_refusal k
+  pub loss_none : (k : ℕ) → number (named k) ≡ k → o ≡ loss_refused k → after t ≡ before t → after l ≡ before l → after v ≡ before v → (r : ℕ) → r ≡ packed_refusal k
       → StakeLossPacked s o r t l v
   unfolding packed_losses loss_numbers
-  loss_none k q et el ev r e =
-      rw q (record { answer = e; lent = record { answer = refl; scratch = et ∙ none_over s (before t); losses = el }; numbers = ev })
+  loss_none k same q et el ev r e =
+      rw q (record { answer = e ∙ ap packed_refusal (sym same); lent = record { answer = refl; scratch = et ∙ none_over s (before t); losses = el }; numbers = ev })
 
   pub loss_done : {p : LossOut} → o ≡ p → (a : LossAnswer) (r : ℕ) → StakeLossIs s p a (contents t) (contents l) → r ≡ packed_losses a
       → after v ≡ over (loss_numbers a) (before v) → StakeLossPacked s o r t l v
@@ -84,11 +80,11 @@ module _ {s : ℕ} {o : LossOut} (t l v : Slice Float) where
       })
 
 module _ {s : ℕ} {o : ScoresOut} (t : Slice Float) (b : Slice ℕ) (l v : Slice Float) where
-  pub scores_none : (k : ℕ) → o ≡ scores_refused k → after t ≡ before t → after b ≡ before b → after l ≡ before l → after v ≡ before v → (r : ℕ)
+  pub scores_none : (k : ℕ) → number (named k) ≡ k → o ≡ scores_refused k → after t ≡ before t → after b ≡ before b → after l ≡ before l → after v ≡ before v → (r : ℕ)
       → r ≡ packed_refusal k → StakeScoresPacked s o r t b l v
   unfolding packed_scores least_number
-  scores_none k q et eb el ev r e =
-      rw q (record { answer = e; lent = record { answer = refl; scratch = et ∙ none_over s (before t); solved = eb; scores = el }; least = ev })
+  scores_none k same q et eb el ev r e =
+      rw q (record { answer = e ∙ ap packed_refusal (sym same); lent = record { answer = refl; scratch = et ∙ none_over s (before t); solved = eb; scores = el }; least = ev })
 
   pub scores_done : {p : ScoresOut} → o ≡ p → (a : ScoresAnswer) (r : ℕ) → StakeScoresIs s p a (contents t) (contents b) (contents l) → r ≡ packed_scores a
       → after v ≡ over (least_number a) (before v) → StakeScoresPacked s o r t b l v
@@ -101,11 +97,11 @@ module _ {s : ℕ} {o : ScoresOut} (t : Slice Float) (b : Slice ℕ) (l v : Slic
       })
 
 module _ {s : ℕ} {o : SplitOut} (w : LentSplit) (v : Slice Float) where
-  pub split_none : (k : ℕ) → o ≡ split_refused k [] → w.scratch.left ≡ w.scratch.found → w.before.left ≡ w.before.found → w.after.left ≡ w.after.found
+  pub split_none : (k : ℕ) → number (named k) ≡ k → o ≡ split_refused k [] → w.scratch.left ≡ w.scratch.found → w.before.left ≡ w.before.found → w.after.left ≡ w.after.found
       → after v ≡ before v → (r : ℕ) → r ≡ packed_refusal k → StakeSplitPacked s o r w v
   unfolding packed_split split_total
-  split_none k q et ef eg ev r e =
-      rw q (record { answer = e; lent = record { answer = refl; scratch = et ∙ none_over s w.scratch.found; before = ef; after = eg }; total = ev })
+  split_none k same q et ef eg ev r e =
+      rw q (record { answer = e ∙ ap packed_refusal (sym same); lent = record { answer = refl; scratch = et ∙ none_over s w.scratch.found; before = ef; after = eg }; total = ev })
 
   pub split_done : {p : SplitOut} → o ≡ p → (a : SplitAnswer) (r : ℕ) → StakeSplitIs s p a w → r ≡ packed_split a
       → after v ≡ over (split_total a) (before v) → StakeSplitPacked s o r w v

@@ -2,7 +2,6 @@
 use Rattle.std.specs.Prelude.{refl, List, ℕ, Float, length}
 use Rattle.std.proofs.Common.{arith}
 use Rattle.samples.specs.Columns.{Columns, lengths}
-use Rattle.refusal.specs.Laws.{among}
 use Rattle.book.specs.Calls.{Out, refused}
 use Rattle.carried.specs.Carry.{carry_refusal, carry_out}
 use Rattle.carried.specs.CarryLaws.{carry_numbers, carry_room}
@@ -13,5 +12,5 @@ pub carry_fits : (n : ℕ) (columns : Columns) (sums : List Float) → BookFits 
 unfolding carry_out BookFits
 carry_fits n columns sums =
     let r = carry_refusal n (lengths columns) (length sums) in
-    settled_fits (λ (o : Out). o.answer) r _ (refused r columns sums) refl (omega (arith, among _ (carry_numbers n (lengths columns) (length sums))))
+    settled_fits (λ (o : Out). o.answer) r _ (refused r columns sums) refl
     (λ e. (carry_room n (lengths columns) (length sums) e).most)

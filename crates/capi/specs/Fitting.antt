@@ -1,24 +1,24 @@
 -- What the calls can answer fits the fields that it is packed into: a count of at most 4,096, a degree of at most 15, at most 16 solved degrees and
 -- pruned terms, at most 4,096 outliers, and refusals 1 to 18.
-use Rattle.std.specs.Prelude.{◌≡◌, Bool, true, false, cond, not, ◌&&◌, List, [], ◌∷◌, map, ℕ, zero, suc, ◌+◌, ◌-◌, ◌≤◌, ltb, eqb, length, get_or, take, Float}
+use Rattle.std.specs.Prelude.{◌≡◌, Bool, true, false, cond, not, ◌&&◌, List, [], ◌∷◌, map, ℕ, zero, suc, ◌+◌, ◌-◌, ◌≤◌, ltb, eqb, length, get_or, take, Float, Option, Some, None, Ok, Err}
 use Rattle.std.proofs.Math.Path.{refl}
 use Rattle.std.proofs.Common.{ap, ◌∙◌, add-one}
 use native.Mathlib.Omega.{arith}
 use Rattle.std.proofs.lemmas.List.{length-map}
 use Rattle.std.specs.Float.{nan}
+use Rattle.refusal.specs.Named.{number, refused_by}
 use Rattle.loops.specs.Fold.{fold}
 use Rattle.loops.specs.Loop.{from, turns}
 use Rattle.loops.specs.Places.{table}
 use Rattle.loops.specs.PlaceLaws.{length_table}
+use Rattle.basis.specs.declared.Degree.{Degree}
 use Rattle.basis.specs.Sizes.{max_samples}
-use Rattle.basis.specs.declared.OptionDegree.{OptionDegree}
-use Rattle.basis.specs.declared.OptionDegree.TheVariants.{Some, None}
 use Rattle.statistics.specs.Degrees.{max_degree}
 use Rattle.statistics.specs.Scores.{t_score, degrees_of_freedom}
 use Rattle.statistics.specs.declared.DegreeBound.{DegreeBound}
 use Rattle.statistics.specs.declared.Confidence.{Confidence}
 use Rattle.statistics.specs.declared.Tolerance.{Tolerance}
-use Rattle.samples.specs.Samples.{Sample}
+use Rattle.samples.specs.declared.Sample.{Sample}
 use Rattle.samples.specs.Columns.{samples_of, Columns, lengths, no_columns}
 use Rattle.samples.specs.ColumnLaws.{length_samples}
 use Rattle.monomial.specs.Rows.{Row, row_of, rows_of, weighted_rows}
@@ -41,21 +41,19 @@ use Rattle.covariance.specs.Pruning.{prunes, pruned_at, pruned_bytes}
 use Rattle.covariance.specs.Bands.{band_at, outlies, outlier_of, outliers_of}
 use Rattle.frame.specs.Frame.{decode}
 use Rattle.decimal.specs.Lines.{read_lines}
-use Rattle.book.specs.declared.Answer.{Answer}
-use Rattle.book.specs.declared.Answer.TheVariants as books
 use Rattle.book.specs.Refusals.{open_refusal, add_refusal, correct_refusal, withdraw_refusal, frame_add_refusal, lines_add_refusal}
-use Rattle.refusal.specs.Laws.{among, numbered}
-use Rattle.refusal.specs.Refusals.{most_number, by, settle}
+use Rattle.refusal.specs.NamedLaws.{number_fits}
+use Rattle.refusal.specs.Named.{named}
+use Rattle.refusal.specs.Refusals.{settle}
 use Rattle.refusal.specs.Tests.{capacity}
 use Rattle.book.specs.RefusalLaws.{open_numbers, add_numbers, correct_numbers, withdraw_numbers, frame_numbers, lines_numbers, add_room, correct_room, withdraw_room, frame_room, lines_room}
-use Rattle.book.specs.Calls.{Out, State, state_of, state_after, book_after, refused, add_next, add_many, open_out, add_out, correct_out, withdraw_out, add_frame_out, add_lines_out}
+use Rattle.book.specs.Calls.{Answer, Out, State, state_of, state_after, book_after, refused, add_next, add_many, open_out, add_out, correct_out, withdraw_out, add_frame_out, add_lines_out}
 use Rattle.book.specs.Window.{window_refusal, with_place, window_out}
 use Rattle.book.specs.WindowLaws.{window_numbers, window_room}
 use Rattle.measure.specs.Places.{term_places}
 use Rattle.measure.specs.Measures.{inverse_fails, measure_refusal}
 use Rattle.query.specs.Refusals.{fit_refusal, validate_refusal, band_refusal}
 use Rattle.query.specs.RefusalLaws.{fit_numbers, validate_numbers, band_numbers_lem, fit_room, validate_room}
-use Rattle.measure.specs.declared.BandAnswer.TheVariants as bands
 use Rattle.measure.specs.Fits.{FitOut, fit_refused, fit_past}
 use Rattle.query.specs.Fits.{fit_on, fit_out, validate_past, validate_on, validate_out}
 use Rattle.measure.specs.Bands.{BandOut, band_refused, band_past}
@@ -113,17 +111,17 @@ solved_most S b =
 -- ---- the calls that change a book, with weights or without
 
 -- O is what such a call leaves: k refuses it, or else its answer fits
-pub settled_fits : {O : Type 0} (answer : O → Answer) (k : ℕ) (good bad : O) → answer bad ≡ books.Refused k → k ≤ most_number → (k ≡ 0 → BookFits (answer good))
+pub settled_fits : {O : Type 0} (answer : O → Answer) (k : ℕ) (good bad : O) → answer bad ≡ refused_by k → (k ≡ 0 → BookFits (answer good))
     → BookFits (answer (settle k good bad))
 unfolding BookFits
-settled_fits answer zero good bad e h g = g refl
-settled_fits answer (suc k) good bad e h g = rw e (omega arith, h)
+settled_fits answer zero good bad e g = g refl
+settled_fits answer (suc k) good bad e g = rw e (number_fits (named (suc k)))
 
 -- the book after an answer that fits
 pub after_fits : (n : ℕ) (a : Answer) → n ≤ max_samples → BookFits a → book_after n a ≤ max_samples
 unfolding BookFits
-after_fits n (books.Book b) h f = f
-after_fits n (books.Refused k) h f = h
+after_fits n (Ok b) h f = f
+after_fits n (Err k) h f = h
 
 -- and after many steps, each of which leaves one that does
 pub many_fit : {A S : Type 0} (count : S → ℕ) (step : S → A → S) → ((s : S) (a : A) → count s ≤ max_samples → count (step s a) ≤ max_samples)
@@ -136,28 +134,28 @@ pub open_fits : (sums : List Float) → BookFits (open_out sums).answer
 unfolding open_out BookFits
 open_fits sums =
     let r = open_refusal (length sums) in
-    settled_fits (λ (o : Out). o.answer) r _ (refused r no_columns sums) refl (omega (arith, among _ (open_numbers (length sums)))) (λ e. omega arith)
+    settled_fits (λ (o : Out). o.answer) r _ (refused r no_columns sums) refl (λ e. omega arith)
 
 module _ (n : ℕ) (columns : Columns) (sums : List Float) where
   pub add_fits : (p : Sample) → BookFits (add_out n p columns sums).answer
   unfolding add_out BookFits
   add_fits p =
       let r = add_refusal n p (lengths columns) (length sums) in
-      settled_fits (λ (o : Out). o.answer) r _ (refused r columns sums) refl (omega (arith, among _ (add_numbers n (lengths columns) (length sums) p)))
+      settled_fits (λ (o : Out). o.answer) r _ (refused r columns sums) refl
       (λ e. (add_room n (lengths columns) (length sums) p e).0.most)
 
   pub correct_fits : (i : ℕ) (y : Float) → BookFits (correct_out n i y columns sums).answer
   unfolding correct_out BookFits
   correct_fits i y =
       let r = correct_refusal n i y (lengths columns) (length sums) in
-      settled_fits (λ (o : Out). o.answer) r _ (refused r columns sums) refl (omega (arith, among _ (correct_numbers n (lengths columns) (length sums) i y)))
+      settled_fits (λ (o : Out). o.answer) r _ (refused r columns sums) refl
       (λ e. (correct_room n (lengths columns) (length sums) i y e).0.most)
 
   pub withdraw_fits : (i : ℕ) → BookFits (withdraw_out n i columns sums).answer
   unfolding withdraw_out BookFits
   withdraw_fits i =
       let r = withdraw_refusal n i (lengths columns) (length sums) in
-      settled_fits (λ (o : Out). o.answer) r _ (refused r columns sums) refl (omega (arith, among _ (withdraw_numbers n (lengths columns) (length sums) i)))
+      settled_fits (λ (o : Out). o.answer) r _ (refused r columns sums) refl
       (λ e. omega (arith, (withdraw_room n (lengths columns) (length sums) i e).0.most))
 
 pub add_next_fits : (s : State) (p : Sample) → s.count ≤ max_samples → (add_next s p).count ≤ max_samples
@@ -172,14 +170,14 @@ module _ (n : ℕ) (columns : Columns) (sums : List Float) where
   unfolding add_frame_out BookFits
   frame_fits f =
       let r = frame_add_refusal n f (lengths columns) (length sums) in
-      settled_fits (λ (o : Out). o.answer) r _ (refused r columns sums) refl (omega (arith, among _ (frame_numbers n (lengths columns) (length sums) f)))
+      settled_fits (λ (o : Out). o.answer) r _ (refused r columns sums) refl
       (λ e. adds_fit (decode f) (state_of n columns sums) (omega (arith, (frame_room n (lengths columns) (length sums) f e).0.most)))
 
   pub lines_fits : (t : List ℕ) → BookFits (add_lines_out n t columns sums).answer
   unfolding add_lines_out BookFits
   lines_fits t =
       let r = lines_add_refusal n t (lengths columns) (length sums) in
-      settled_fits (λ (o : Out). o.answer) r _ (refused r columns sums) refl (omega (arith, among _ (lines_numbers n (lengths columns) (length sums) t)))
+      settled_fits (λ (o : Out). o.answer) r _ (refused r columns sums) refl
       (λ e. adds_fit (read_lines t) (state_of n columns sums) (omega (arith, (lines_room n (lengths columns) (length sums) t e).0.most)))
 
 -- a full window book is one sample shorter
@@ -196,7 +194,7 @@ unfolding window_out BookFits
 window_fits n columns sums p =
     let r = window_refusal n p (lengths columns) (length sums) in
     let s = state_of n columns sums in
-    settled_fits (λ (o : Out). o.answer) r _ (refused r columns sums) refl (omega (arith, among _ (window_numbers n p (lengths columns) (length sums))))
+    settled_fits (λ (o : Out). o.answer) r _ (refused r columns sums) refl
     (λ e. add_next_fits (with_place s) p (place_fits s (window_room n p (lengths columns) (length sums) e).0.most))
 
 -- ---- fit and validation
@@ -209,17 +207,16 @@ past_fits basis n degree rows sums h = go (is_solved sums rows (count_of basis d
     go true e = rw e h
     go false e = rw e (omega arith, omega arith)
 
-pub fit_settles : (k : ℕ) (good : FitOut) → k ≤ most_number → (k ≡ 0 → FitFits good.answer) → FitFits (settle k good (fit_refused k)).answer
+pub fit_settles : (k : ℕ) (good : FitOut) → (k ≡ 0 → FitFits good.answer) → FitFits (settle k good (fit_refused k)).answer
 unfolding FitFits
-fit_settles zero good h g = g refl
-fit_settles (suc k) good h g = (omega arith, h)
+fit_settles zero good g = g refl
+fit_settles (suc k) good g = number_fits (named (suc k))
 
 module _ (n : ℕ) (columns : Columns) (sums scratch coefficients : List Float) where
   pub fit_fits : (degree : ℕ) → FitFits (fit_out n columns sums scratch coefficients degree).answer
   unfolding fit_on
   fit_fits degree =
       fit_settles (fit_refusal n degree (samples_of n columns) (lengths columns) (length sums) (length scratch) (length coefficients)) _
-      (omega (arith, among _ (fit_numbers n (samples_of n columns) (lengths columns) (length sums) (length scratch) degree (length coefficients))))
       (λ e.
       past_fits Curve n degree _ _ (fit_room n (samples_of n columns) (lengths columns) (length sums) (length scratch) degree (length coefficients) e).1)
 
@@ -229,12 +226,11 @@ module _ (n : ℕ) (columns : Columns) (sums scratch coefficients : List Float) 
   validate_fits folds bound criterion =
       let samples = samples_of n columns in
       fit_settles (validate_refusal n folds bound samples (lengths columns) (length sums) (length scratch) (length coefficients)) _
-      (omega (arith, among _ (validate_numbers n samples (lengths columns) (length sums) (length scratch) folds bound (length coefficients))))
       (λ e.
       chosen_fits (validate_room n samples (lengths columns) (length sums) (length scratch) folds bound (length coefficients) e).1
       (validated_choice criterion (weighted_rows samples) folds (max_degree bound n)) refl)
     where
-      chosen_fits : max_degree bound n ≤ 15 → (o : OptionDegree) → validated_choice criterion (weighted_rows (samples_of n columns)) folds (max_degree bound n) ≡ o
+      chosen_fits : max_degree bound n ≤ 15 → (o : Option Degree) → validated_choice criterion (weighted_rows (samples_of n columns)) folds (max_degree bound n) ≡ o
           → FitFits (validate_past n o (rows_of (samples_of n columns)) (take 272 sums)).answer
       chosen_fits h None e = (omega arith, omega arith)
       chosen_fits h (Some d) e =
@@ -243,19 +239,15 @@ module _ (n : ℕ) (columns : Columns) (sums scratch coefficients : List Float) 
 
 -- ---- the band
 
-pub measure_most : (sums : List Float) (rows : List Row) (k : ℕ) → measure_refusal sums rows k ≤ most_number
-unfolding measure_refusal
-measure_most sums rows k = omega (arith, among _ (numbered (by (not (is_solved sums rows k)) 10 ∷ by (inverse_fails sums k) 12 ∷ [])))
-
-pub band_settles : (k : ℕ) (b : Band) → k ≤ most_number → BandFits (settle k (bands.Band b) (bands.Refused k))
+pub band_settles : (k : ℕ) (b : Band) → BandFits (settle k (Ok b) (refused_by k))
 unfolding BandFits
-band_settles zero b h = tt
-band_settles (suc k) b h = (omega arith, h)
+band_settles zero b = tt
+band_settles (suc k) b = number_fits (named (suc k))
 
-pub out_settles : (k : ℕ) (good : BandOut) → k ≤ most_number → BandFits good.answer → BandFits (settle k good (band_refused k)).answer
+pub out_settles : (k : ℕ) (good : BandOut) → BandFits good.answer → BandFits (settle k good (band_refused k)).answer
 unfolding BandFits
-out_settles zero good h g = g
-out_settles (suc k) good h g = (omega arith, h)
+out_settles zero good g = g
+out_settles (suc k) good g = number_fits (named (suc k))
 
 pub into_fits : (places : ℕ) (o : BandOut) → BandFits o.answer → BandFits (band_into places o).answer
 unfolding band_into BandFits
@@ -271,8 +263,7 @@ unfolding band_for band_past
 band_out_fits n x degree confidence tolerance columns sums scratch =
     let samples = samples_of n columns in
     out_settles (band_refusal n x degree confidence tolerance samples (lengths columns) (length sums) (length scratch)) _
-    (omega (arith, among _ (band_numbers_lem n samples (lengths columns) (length sums) (length scratch) x degree confidence tolerance)))
-    (band_settles (measure_refusal (take 272 sums) (rows_of samples) (count_of Curve degree)) _ (measure_most _ _ _))
+    (band_settles (measure_refusal (take 272 sums) (rows_of samples) (count_of Curve degree)) _)
 
 pub band_fits : (n : ℕ) (x : Float) (degree : ℕ) (confidence : Confidence) (tolerance : Tolerance) (columns : Columns) (sums scratch : List Float) (places : ℕ)
     → BandFits (band_into places (band_out n x degree confidence tolerance columns sums scratch)).answer
@@ -318,25 +309,24 @@ module _ (basis : Basis) (n : ℕ) (settings : Settings) (rows : List Row) (sums
   last_count =
       omega (arith, solved_most (tried settings.criterion sums rows (counts_of basis last)) (length (counts_of basis last)), length_table (count_of basis) (last + 1))
 
-  pub chosen_fits : (o : OptionDegree) → (choice_of settings.criterion sums rows (counts_of basis last)).chosen ≡ o
+  pub chosen_fits : (o : Option Degree) → (choice_of settings.criterion sums rows (counts_of basis last)).chosen ≡ o
       → ReportFits (report_of basis n settings rows sums (choice_of settings.criterion sums rows (counts_of basis last)).solved o).answer
   unfolding report_of ReportFits
   chosen_fits o q =
       of_either basis sums (refused_late n) _ (λ (r : ReportOut). ReportFits r.answer) o (omega arith, omega arith) (omega arith, omega arith)
       (λ d e. written_fits d.0 _ _ _ (omega (arith, (last_solved basis settings.criterion rows sums last d (q ∙ e)).0)) last_count)
 
-pub report_settles : (k : ℕ) (good : ReportOut) → k ≤ most_number → (k ≡ 0 → ReportFits good.answer)
+pub report_settles : (k : ℕ) (good : ReportOut) → (k ≡ 0 → ReportFits good.answer)
     → ReportFits (settle k good (refused_early k)).answer
 unfolding ReportFits
-report_settles zero good h g = g refl
-report_settles (suc k) good h g = (omega arith, h)
+report_settles zero good g = g refl
+report_settles (suc k) good g = number_fits (named (suc k))
 
 pub report_fits : (n : ℕ) (settings : Settings) (columns : Columns) (sums : List Float) (places : Places) → ReportFits (report_out n settings columns sums places).answer
 unfolding report_on report_past report_choice
 report_fits n settings columns sums places =
     let samples = samples_of n columns in
     report_settles (report_refusal n settings samples (lengths columns) (length sums) places) _
-    (omega (arith, among _ (report_numbers n settings samples (lengths columns) (length sums) places)))
     (λ e.
     let w = report_room n settings samples (lengths columns) (length sums) places e in
     chosen_fits Curve n settings (rows_of samples) (take 272 sums) (max_degree settings.bound n)

@@ -1,21 +1,24 @@
 -- What a group's calls answer fits its fields, as that of the same call without a group does, and reading it gives the answer back.
-use Rattle.std.specs.Prelude.{◌≡◌, Bool, true, false, cond, List, [], ◌∷◌, ltb, Float, take}
+use Rattle.std.specs.Prelude.{◌≡◌, Bool, true, false, cond, List, [], ◌∷◌, ltb, Float, take, Ok, Err}
 use Rattle.std.proofs.Math.Path.{refl}
 use Rattle.std.proofs.Common.{sym, ◌∙◌}
 use Prim.Native.Nat.{ℕ, zero, suc, ◌≤◌}
 use native.Mathlib.Omega.{arith}
 use Rattle.std.proofs.Math.ListN.{length, length-map}
+use Rattle.refusal.specs.Named.{number}
 use Rattle.loops.specs.Cases.{or_false}
 use Rattle.basis.specs.declared.Basis.{Basis}
 use Rattle.basis.specs.declared.Basis.TheVariants.{Curve, Surface}
 use Rattle.statistics.specs.Degrees.{max_degree}
-use Rattle.samples.specs.Samples.{Sample}
+use Rattle.samples.specs.declared.Sample.{Sample}
 use Rattle.samples.specs.Columns.{Columns, samples_of, lengths}
 use Rattle.samples.specs.ColumnLaws.{length_samples}
 use Rattle.monomial.specs.Rows.{Row, row_of, rows_of, weighted_of, weighted_rows}
 use Rattle.fit.specs.declared.Choice.{Choice}
-use Rattle.refusal.specs.Refusals.{Refusal, by, first_of, most_number}
-use Rattle.refusal.specs.Laws.{among, first_none, first_fails}
+use Rattle.refusal.specs.Refusals.{Test, by, first_of}
+use Rattle.refusal.specs.Laws.{first_none}
+use Rattle.refusal.specs.NamedLaws.{number_fits}
+use Rattle.refusal.specs.Named.{named}
 use Rattle.settings.specs.declared.Settings.{Settings}
 use Rattle.reporting.specs.declared.Places.{Places}
 use Rattle.reporting.specs.Limited.{Limited, limited_of}
@@ -35,9 +38,7 @@ use Rattle.split.specs.declared.Places.{Places as SplitPlaces}
 use Rattle.split.specs.Refusals.{split_refusal}
 use Rattle.split.specs.RefusalLaws.{split_room}
 use Rattle.split.specs.Splits.{SplitOut, split_refused}
-use Rattle.allowance.specs.declared.TableAnswer.{TableAnswer}
-use Rattle.allowance.specs.declared.TableAnswer.TheVariants as tables
-use Rattle.allowance.specs.Table.{table_places, counter_of, start_out, renew_out}
+use Rattle.allowance.specs.Table.{TableAnswer, table_places, counter_of, start_out, renew_out}
 use Rattle.allowance.specs.Refusals.{with_group, group_report_refusal, group_surface_refusal, group_split_refusal}
 use Rattle.allowance.specs.RefusalLaws.{group_report_numbers, group_surface_numbers, group_split_numbers}
 use Rattle.allowance.specs.Charges.{Charged, charged, group_report_on, group_surface_on, group_split_on}
@@ -49,11 +50,15 @@ use Rattle.capi.specs.ReadingLaws.{refusal_read, report_read}
 
 -- ---- a call that its group's tests let through is let through by its own
 
-passed : (group table : ℕ) (short : Bool) (later : List Refusal) → first_of (with_group group table (by short 1 ∷ later)) ≡ 0 → first_of (by short 1 ∷ later) ≡ 0
+falls : (short : Bool) (later : List Test) → short ≡ false → first_of later ≡ 0 → first_of (by short 1 ∷ later) ≡ 0
+unfolding first_of
+falls short later q e = rw q e
+
+passed : (group table : ℕ) (short : Bool) (later : List Test) → first_of (with_group group table (by short 1 ∷ later)) ≡ 0 → first_of (by short 1 ∷ later) ≡ 0
 passed group table short later e =
     let p1 = first_none _ 0 _ e in
     let p17 = first_none _ 16 _ p1.1 in
-    sym (first_fails 1 later refl (or_false (ltb table table_places) short p1.0).1 (sym p17.1))
+    falls short later (or_false (ltb table table_places) short p1.0).1 p17.1
 
 module _ (group table n : ℕ) (settings : Settings) (columns : List ℕ) where
   report_passed : (samples : List Sample) (sums : ℕ) (places : Places) → group_report_refusal group table n settings samples columns sums places ≡ 0
@@ -86,17 +91,17 @@ limited_fits basis n settings limit rows sums choice h = go (ltb limit choice.te
     go false = h
 
 module _ (group : ℕ) (table : List ℕ) where
-  report_charges : (k : ℕ) (past : ReportOut) (taken : ℕ) → k ≤ most_number → (k ≡ 0 → ReportFits past.answer)
+  report_charges : (k : ℕ) (past : ReportOut) (taken : ℕ) → (k ≡ 0 → ReportFits past.answer)
       → ReportFits (charged group table k (refused_early k) past taken).does.answer
   unfolding ReportFits
-  report_charges zero past taken h g = g refl
-  report_charges (suc k) past taken h g = (omega arith, h)
+  report_charges zero past taken g = g refl
+  report_charges (suc k) past taken g = number_fits (named (suc k))
 
-  split_charges : (k : ℕ) (past : SplitOut) (taken : ℕ) → k ≤ most_number → (k ≡ 0 → SplitFits past.answer)
+  split_charges : (k : ℕ) (past : SplitOut) (taken : ℕ) → (k ≡ 0 → SplitFits past.answer)
       → SplitFits (charged group table k (split_refused k []) past taken).does.answer
   unfolding SplitFits
-  split_charges zero past taken h g = g refl
-  split_charges (suc k) past taken h g = (omega arith, h)
+  split_charges zero past taken g = g refl
+  split_charges (suc k) past taken g = number_fits (named (suc k))
 
   pub group_report_fits : (n : ℕ) (settings : Settings) (columns : Columns) (sums : List Float) (places : Places)
       → ReportFits (group_report_out group table n settings columns sums places).does.answer
@@ -104,7 +109,6 @@ module _ (group : ℕ) (table : List ℕ) where
   group_report_fits n settings columns sums places =
       let samples = samples_of n columns in
       report_charges (group_report_refusal group (length table) n settings samples (lengths columns) (length sums) places) _ _
-      (omega (arith, among _ (group_report_numbers group (length table) n settings samples (lengths columns) (length sums) places)))
       (λ e.
       let w = report_room n settings samples (lengths columns) (length sums) places (report_passed group (length table) n settings (lengths columns) samples (length sums) places e) in
       limited_fits Curve n settings (counter_of table group) (rows_of samples) (take 272 sums) _
@@ -118,7 +122,6 @@ module _ (group : ℕ) (table : List ℕ) where
       let points = points_of n columns in
       let bound = max_degree settings.bound n in
       report_charges (group_surface_refusal group (length table) n settings points (point_lengths columns) places) _ _
-      (omega (arith, among _ (group_surface_numbers group (length table) n settings points (point_lengths columns) places)))
       (λ e.
       let w = surface_report_room n points (point_lengths columns) settings places (surface_passed group (length table) n settings (point_lengths columns) points places e) in
       rw (surface_choice_is n settings (rows_of_points points) (surface_sums points) w.1.0)
@@ -133,7 +136,6 @@ module _ (group : ℕ) (table : List ℕ) where
       let samples = samples_of n columns in
       let long : length (weighted_rows samples) ≡ n = length-map samples weighted_of ∙ length_samples n columns in
       split_charges (group_split_refusal group (length table) n settings samples (lengths columns) sums places) _ _
-      (omega (arith, among _ (group_split_numbers group (length table) n settings samples (lengths columns) sums places)))
       (λ e.
       let w = split_room n settings samples (lengths columns) sums places (split_passed group (length table) n settings (lengths columns) samples sums places e) in
       split-past-fits n settings (counter_of table group) (weighted_rows samples) (omega (arith, long, w.four)) (omega (arith, long, w.room.most)) (rw long w.most))
@@ -150,8 +152,8 @@ charged_into_lem places table o h = go (ltb places 1)
 
 table_read : (a : TableAnswer) → TableRead (packed_table a) a
 unfolding TableRead packed_table
-table_read tables.Done = refl
-table_read (tables.Refused k) = refusal_read k
+table_read (Ok tt) = refl
+table_read (Err k) = refusal_read (number k)
 
 pub start_back : (quota : ℕ) (table : List ℕ) → (let a = (start_out quota table).answer in TableRead (packed_table a) a)
 start_back quota table = table_read _

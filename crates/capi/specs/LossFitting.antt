@@ -5,8 +5,9 @@ use Rattle.basis.specs.declared.Basis.TheVariants.{Curve}
 use Rattle.statistics.specs.Degrees.{max_degree}
 use Rattle.samples.specs.Columns.{Columns, samples_of, lengths}
 use Rattle.monomial.specs.Rows.{Row, rows_of}
-use Rattle.refusal.specs.Refusals.{settle, most_number}
-use Rattle.refusal.specs.Laws.{among}
+use Rattle.refusal.specs.Refusals.{settle}
+use Rattle.refusal.specs.NamedLaws.{number_fits}
+use Rattle.refusal.specs.Named.{named}
 use Rattle.settings.specs.declared.Settings.{Settings}
 use Rattle.reporting.specs.ChosenLaws.{of_either}
 use Rattle.report.specs.Reports.{report_choice}
@@ -27,10 +28,10 @@ module _ (n : ℕ) (settings : Settings) (rows : List Row) (sums : List Float) (
       of_either Curve sums (loss_late n) _ (λ (o : LossOut). LossFits o.answer) (report_choice n settings rows sums).chosen (omega arith, omega arith) (omega arith, omega arith)
       (λ d e. by_fits d.0 (omega (arith, (chosen_solved n settings rows sums d e).0)))
 
-settles : (k : ℕ) (good : LossOut) → k ≤ most_number → (k ≡ 0 → LossFits good.answer) → LossFits (settle k good (loss_refused k)).answer
+settles : (k : ℕ) (good : LossOut) → (k ≡ 0 → LossFits good.answer) → LossFits (settle k good (loss_refused k)).answer
 unfolding LossFits
-settles zero good h g = g refl
-settles (suc k) good h g = (omega arith, h)
+settles zero good g = g refl
+settles (suc k) good g = number_fits (named (suc k))
 
 pub into_fits : (places : ℕ) (o : LossOut) → LossFits o.answer → LossFits (loss_into places o).answer
 unfolding loss_into LossFits
@@ -45,7 +46,6 @@ unfolding loss_on
 told_fits n settings columns sums scratch losses =
     let samples = samples_of n columns in
     settles (loss_refusal n settings samples (lengths columns) (length sums) (length scratch) (length losses)) _
-    (omega (arith, among _ (loss_numbers_lem n settings samples (lengths columns) (length sums) (length scratch) (length losses))))
     (λ e.
     past_fits n settings (rows_of samples) (take 272 sums) (loss_room n settings samples (lengths columns) (length sums) (length scratch) (length losses) e).2)
 

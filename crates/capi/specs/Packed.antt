@@ -1,48 +1,29 @@
 -- How the C interface packs an answer into one number of 64 bits, and what each of its calls promises. Definitions only.
-use Rattle.std.specs.Prelude.{◌≡◌, true, false, cond, List, [], ◌∷◌, ℕ, ◌+◌, ◌*◌, ◌≤◌, ◌<◌, ltb, Float, length, take}
+use Rattle.std.specs.Prelude.{◌≡◌, true, false, cond, List, [], ◌∷◌, ℕ, ◌+◌, ◌*◌, ◌≤◌, ◌<◌, ltb, Float, length, take, Option, Some, None, Ok, Err}
+use Rattle.refusal.specs.Named.{number}
 use Rattle.refusal.specs.Refusals.{most_number}
 use Rattle.basis.specs.Sizes.{max_samples, max_terms, sum_places}
-use Rattle.frame.specs.declared.cursor.Opened.{Opened}
-use Rattle.frame.specs.declared.cursor.Opened.TheVariants as readers
-use Rattle.frame.specs.declared.cursor.Read.{Read}
-use Rattle.frame.specs.declared.cursor.Read.TheVariants as reads
-use Rattle.book.specs.declared.Answer.{Answer}
-use Rattle.book.specs.declared.Answer.TheVariants as books
-use Rattle.book.specs.Calls.{Out}
+use Rattle.frame.specs.Handed.{Read, Opened}
+use Rattle.book.specs.Calls.{Answer, Out}
 use Rattle.two_column.specs.Pairs.{Columns as PairColumns}
 use Rattle.two_column.specs.Calls.{Out as PairOut}
-use Rattle.measure.specs.declared.FitAnswer.{FitAnswer}
-use Rattle.measure.specs.declared.FitAnswer.TheVariants as fits
-use Rattle.measure.specs.declared.BandAnswer.{BandAnswer}
-use Rattle.measure.specs.declared.BandAnswer.TheVariants as bands
-use Rattle.measure.specs.Fits.{FitOut, FitIs}
-use Rattle.measure.specs.Bands.{BandOut, BandIs, band_refused}
+use Rattle.measure.specs.Fits.{FitAnswer, FitOut, FitIs}
+use Rattle.measure.specs.Bands.{BandAnswer, BandOut, BandIs, band_refused}
 use Rattle.reporting.specs.declared.Places.{Places}
-use Rattle.reporting.specs.declared.ReportAnswer.{ReportAnswer}
-use Rattle.reporting.specs.declared.ReportAnswer.TheVariants as reports
-use Rattle.reporting.specs.Reports.{ReportOut, Does}
+use Rattle.reporting.specs.Reports.{ReportAnswer, ReportOut, Does}
 use Rattle.report.specs.Reports.{report_out}
 use Rattle.reporting.specs.Outputs.{LentOutputs, places_of}
 use Rattle.surface.specs.Points.{PointColumns, points_of, point_lengths}
 use Rattle.surface.specs.Surfaces.{surface_report_out}
 use Rattle.split.specs.declared.Places.{Places as SplitPlaces}
-use Rattle.split.specs.declared.SplitAnswer.{SplitAnswer}
-use Rattle.split.specs.declared.SplitAnswer.TheVariants as splits
 use Rattle.split.specs.Rooms.{most_tests}
-use Rattle.split.specs.Splits.{SplitOut, LentSplit, split_refused, split_out, places_of as split_places, Does as SplitDoes}
-use Rattle.allowance.specs.declared.TableAnswer.{TableAnswer}
-use Rattle.allowance.specs.declared.TableAnswer.TheVariants as tables
-use Rattle.allowance.specs.Table.{TableOut}
+use Rattle.split.specs.Splits.{SplitAnswer, SplitOut, LentSplit, split_refused, split_out, places_of as split_places, Does as SplitDoes}
+use Rattle.allowance.specs.Table.{TableAnswer, TableOut}
 use Rattle.allowance.specs.Charges.{Charged, group_report_on, group_surface_on, group_split_on}
-use Rattle.losses.specs.declared.LossAnswer.{LossAnswer}
-use Rattle.losses.specs.declared.LossAnswer.TheVariants as losses
-use Rattle.losses.specs.Losses.{LossOut, LossIs, loss_refused}
-use Rattle.scores.specs.declared.ScoresAnswer.{ScoresAnswer}
-use Rattle.scores.specs.declared.ScoresAnswer.TheVariants as scores
-use Rattle.scores.specs.Scores.{ScoresOut, ScoresIs, scores_refused}
+use Rattle.losses.specs.Losses.{LossAnswer, LossOut, LossIs, loss_refused}
+use Rattle.scores.specs.Scores.{ScoresAnswer, ScoresOut, ScoresIs, scores_refused}
 use Rattle.settings.specs.declared.Settings.{Settings}
-use Rattle.replay.specs.declared.Replayed.{Replayed}
-use Rattle.replay.specs.declared.Replayed.TheVariants as replays
+use Rattle.book.specs.declared.Book.{Book}
 use Rattle.replay.specs.Records.{calls_of, well_formed}
 use Rattle.replay.specs.Replay.{LentMemory, buffers_in, Ran}
 use Rattle.lent.specs.Slices.{Slice, before, after, contents}
@@ -57,13 +38,13 @@ packed_refusal number = number * 0x100_0000_0000_0000
 
 -- a book: its count
 unfoldable pub packed_book : Answer → ℕ
-packed_book (books.Book b) = b.count
-packed_book (books.Refused k) = packed_refusal k
+packed_book (Ok b) = b.count
+packed_book (Err r) = packed_refusal (number r)
 
 -- a fit or a validation: its degree
 unfoldable pub packed_fit : FitAnswer → ℕ
-packed_fit (fits.Fit d) = d.0
-packed_fit (fits.Refused k) = packed_refusal k
+packed_fit (Ok d) = d.0
+packed_fit (Err r) = packed_refusal (number r)
 
 -- four numbers: in bits 0 to 7, 8 to 15, 16 to 31 and 32 to 55
 abbrev pub packed_fields : ℕ → ℕ → ℕ → ℕ → ℕ
@@ -71,18 +52,18 @@ packed_fields a b c d = a + b * 0x100 + c * 0x1_0000 + d * 0x1_0000_0000
 
 -- a report: the degree, the solved degrees, the pruned terms, the outliers
 unfoldable pub packed_report : ReportAnswer → ℕ
-packed_report (reports.Report d solved outliers pruned) = packed_fields d.0 solved pruned outliers
-packed_report (reports.Refused k) = packed_refusal k
+packed_report (Ok r) = packed_fields r.degree.0 r.solved r.pruned r.outliers
+packed_report (Err r) = packed_refusal (number r)
 
 -- a band: 0, its three numbers are written
 unfoldable pub packed_band : BandAnswer → ℕ
-packed_band (bands.Band b) = 0
-packed_band (bands.Refused k) = packed_refusal k
+packed_band (Ok b) = 0
+packed_band (Err r) = packed_refusal (number r)
 
 -- value, lower and upper; a refused call writes none
 unfoldable pub band_numbers : BandAnswer → List Float
-band_numbers (bands.Band b) = b.value ∷ b.lower ∷ b.upper ∷ []
-band_numbers (bands.Refused k) = []
+band_numbers (Ok b) = b.value ∷ b.lower ∷ b.upper ∷ []
+band_numbers (Err r) = []
 
 -- a band into so many places: 1 judges them with the other lengths, before all else
 unfoldable pub band_into : ℕ → BandOut → BandOut
@@ -90,13 +71,13 @@ band_into places o = cond (ltb places 3) (band_refused 1) o
 
 -- a split: the degree before the break, the one after it, the number of samples before it, the pivot tests
 unfoldable pub packed_split : SplitAnswer → ℕ
-packed_split (splits.Split total at tests d e) = packed_fields d.0 e.0 at tests
-packed_split (splits.Refused k) = packed_refusal k
+packed_split (Ok r) = packed_fields r.before.0 r.after.0 r.at r.tests
+packed_split (Err r) = packed_refusal (number r)
 
 -- its total; a refused call writes none
 unfoldable pub split_total : SplitAnswer → List Float
-split_total (splits.Split total at tests d e) = total ∷ []
-split_total (splits.Refused k) = []
+split_total (Ok r) = r.total ∷ []
+split_total (Err r) = []
 
 -- a split whose total has so many places: 1 judges them with the other lengths, before all else
 unfoldable pub split_into : ℕ → SplitOut → SplitOut
@@ -108,18 +89,18 @@ charged_into places table o = cond (ltb places 1) (record { does = split_refused
 
 -- a table that was started or renewed: 0
 unfoldable pub packed_table : TableAnswer → ℕ
-packed_table tables.Done = 0
-packed_table (tables.Refused k) = packed_refusal k
+packed_table (Ok tt) = 0
+packed_table (Err r) = packed_refusal (number r)
 
 -- the losses: the degree, as a fit's; total and score are written
 unfoldable pub packed_losses : LossAnswer → ℕ
-packed_losses (losses.Losses d total score) = d.0
-packed_losses (losses.Refused k) = packed_refusal k
+packed_losses (Ok r) = r.degree.0
+packed_losses (Err r) = packed_refusal (number r)
 
 -- the total and the score; a refused call writes none
 unfoldable pub loss_numbers : LossAnswer → List Float
-loss_numbers (losses.Losses d total score) = total ∷ score ∷ []
-loss_numbers (losses.Refused k) = []
+loss_numbers (Ok r) = r.total ∷ r.score ∷ []
+loss_numbers (Err r) = []
 
 -- the losses, their numbers into so many places: 1 judges them with the other lengths, before all else
 unfoldable pub loss_into : ℕ → LossOut → LossOut
@@ -127,13 +108,13 @@ loss_into places o = cond (ltb places 2) (loss_refused 1) o
 
 -- the scores: the chosen degree, the solved degrees, the bound, the pivot tests
 unfoldable pub packed_scores : ScoresAnswer → ℕ
-packed_scores (scores.Scores d bound solved least tests) = packed_fields d.0 solved bound.0 tests
-packed_scores (scores.Refused k) = packed_refusal k
+packed_scores (Ok r) = packed_fields r.degree.0 r.solved r.bound.0 r.tests
+packed_scores (Err r) = packed_refusal (number r)
 
 -- the least score; a refused call writes none
 unfoldable pub least_number : ScoresAnswer → List Float
-least_number (scores.Scores d bound solved least tests) = least ∷ []
-least_number (scores.Refused k) = []
+least_number (Ok r) = r.least ∷ []
+least_number (Err r) = []
 
 -- the scores, the least one into so many places: 1 judges them with the other lengths, before all else
 unfoldable pub scores_into : ℕ → ScoresOut → ScoresOut
@@ -141,26 +122,26 @@ scores_into places o = cond (ltb places 1) (scores_refused 1) o
 
 -- a reader: the offset of its next sample
 unfoldable pub packed_opened : Opened → ℕ
-packed_opened (readers.Cursor c) = c.at
-packed_opened (readers.Refused k) = packed_refusal k
+packed_opened (Ok c) = c.at
+packed_opened (Err r) = packed_refusal (number r)
 
 -- what it finds: the offset behind the sample; 0, which is behind no sample, at the end
 unfoldable pub packed_read : Read → ℕ
-packed_read (reads.Sample x y w c) = c.at
-packed_read reads.End = 0
+packed_read (Some p) = p.1.at
+packed_read None = 0
 
 -- x, y and the weight; at the end none is written
 unfoldable pub read_numbers : Read → List Float
-read_numbers (reads.Sample x y w c) = x ∷ y ∷ w ∷ []
-read_numbers reads.End = []
+read_numbers (Some p) = p.0.x ∷ p.0.y ∷ p.0.w ∷ []
+read_numbers None = []
 
 -- a replay: the book's count; 255, which is no refusal's number, where the buffers hold no list of calls
 abbrev pub packed_malformed : ℕ
 packed_malformed = packed_refusal 255
 
-unfoldable pub packed_replay : Replayed → ℕ
-packed_replay (replays.Book b) = b.count
-packed_replay replays.Malformed = packed_malformed
+unfoldable pub packed_replay : Option Book → ℕ
+packed_replay (Some b) = b.count
+packed_replay None = packed_malformed
 
 -- ---- what fits its field: 01's numbers, and what the calls can answer
 
@@ -168,33 +149,33 @@ abbrev pub RefusalFits : ℕ → Type 0
 RefusalFits k = (1 ≤ k) × (k ≤ most_number)
 
 unfoldable pub BookFits : Answer → Type 0
-BookFits (books.Book b) = b.count ≤ max_samples
-BookFits (books.Refused k) = RefusalFits k
+BookFits (Ok b) = b.count ≤ max_samples
+BookFits (Err r) = RefusalFits (number r)
 
 unfoldable pub FitFits : FitAnswer → Type 0
-FitFits (fits.Fit d) = d.0 ≤ 15
-FitFits (fits.Refused k) = RefusalFits k
+FitFits (Ok d) = d.0 ≤ 15
+FitFits (Err r) = RefusalFits (number r)
 
 unfoldable pub BandFits : BandAnswer → Type 0
-BandFits (bands.Band b) = Unit {0}
-BandFits (bands.Refused k) = RefusalFits k
+BandFits (Ok b) = Unit {0}
+BandFits (Err r) = RefusalFits (number r)
 
 unfoldable pub ReportFits : ReportAnswer → Type 0
-ReportFits (reports.Report d solved outliers pruned) = (d.0 ≤ 15) × (solved ≤ max_terms) × (outliers ≤ max_samples) × (pruned ≤ max_terms)
-ReportFits (reports.Refused k) = RefusalFits k
+ReportFits (Ok r) = (r.degree.0 ≤ 15) × (r.solved ≤ max_terms) × (r.outliers ≤ max_samples) × (r.pruned ≤ max_terms)
+ReportFits (Err r) = RefusalFits (number r)
 
 unfoldable pub SplitFits : SplitAnswer → Type 0
-SplitFits (splits.Split total at tests d e) = (d.0 ≤ 15) × (e.0 ≤ 15) × (at ≤ max_samples) × (tests ≤ most_tests)
-SplitFits (splits.Refused k) = RefusalFits k
+SplitFits (Ok r) = (r.before.0 ≤ 15) × (r.after.0 ≤ 15) × (r.at ≤ max_samples) × (r.tests ≤ most_tests)
+SplitFits (Err r) = RefusalFits (number r)
 
 unfoldable pub LossFits : LossAnswer → Type 0
-LossFits (losses.Losses d total score) = d.0 ≤ 15
-LossFits (losses.Refused k) = RefusalFits k
+LossFits (Ok r) = r.degree.0 ≤ 15
+LossFits (Err r) = RefusalFits (number r)
 
 -- 16 degrees have at most 1 + 2 + .. + 16 pivot tests
 unfoldable pub ScoresFits : ScoresAnswer → Type 0
-ScoresFits (scores.Scores d bound solved least tests) = (d.0 ≤ 15) × (solved ≤ max_terms) × (bound.0 ≤ 15) × (tests ≤ 136)
-ScoresFits (scores.Refused k) = RefusalFits k
+ScoresFits (Ok r) = (r.degree.0 ≤ 15) × (r.solved ≤ max_terms) × (r.bound.0 ≤ 15) × (r.tests ≤ 136)
+ScoresFits (Err r) = RefusalFits (number r)
 
 -- ---- what each call promises: the packed answer of the book's own call, and every lent list as that call leaves it
 

@@ -1,37 +1,32 @@
 -- Laws of Reading.antt.
-use Rattle.std.specs.Prelude.{◌≡◌, refl, Bool, true, false, List, ℕ, zero, suc, ◌+◌, ◌-◌, ◌*◌, ◌/◌, ◌%◌, ◌≤◌, ◌<◌, leb, Float, length}
+use Rattle.std.specs.Prelude.{◌≡◌, refl, Bool, true, false, List, ℕ, zero, suc, ◌+◌, ◌-◌, ◌*◌, ◌/◌, ◌%◌, ◌≤◌, ◌<◌, leb, Float, length, Ok, Err}
 use Rattle.std.proofs.Common.{ap, ◌∙◌, mod-eq_of_lt, add-sub_cancel, arith, leb-true, leb-false}
 use Rattle.std.proofs.Math.Nat.{add-mul-div_right, div-eq_of_lt, mod-eq-sub-div-mul}
+use Rattle.refusal.specs.Named.{number}
+use Rattle.measure.specs.Bands.{BandAnswer}
+use Rattle.measure.specs.Fits.{FitAnswer}
+use Rattle.reporting.specs.Reports.{ReportAnswer}
 use Rattle.statistics.specs.declared.DegreeBound.{DegreeBound}
 use Rattle.statistics.specs.declared.Confidence.{Confidence}
 use Rattle.statistics.specs.declared.Tolerance.{Tolerance}
-use Rattle.samples.specs.Samples.{Sample}
+use Rattle.samples.specs.declared.Sample.{Sample}
 use Rattle.score.specs.declared.Criterion.{Criterion}
-use Rattle.book.specs.declared.Answer.{Answer}
-use Rattle.book.specs.declared.Answer.TheVariants as books
-use Rattle.book.specs.Calls.{open_out, add_out, correct_out, withdraw_out, add_frame_out, add_lines_out}
+use Rattle.book.specs.Calls.{Answer, open_out, add_out, correct_out, withdraw_out, add_frame_out, add_lines_out}
 use Rattle.book.specs.Window.{window_out}
 use Rattle.samples.specs.Columns.{Columns}
-use Rattle.two_column.specs.Pairs.{Pair, Columns as PairColumns}
+use Rattle.two_column.specs.declared.Pair.{Pair}
+use Rattle.two_column.specs.Pairs.{Columns as PairColumns}
 use Rattle.two_column.specs.Calls as pairs
 use Rattle.frame.specs.Frame.{frame_refusal, weighted, sample_bytes}
 use Rattle.frame.specs.Laws.{least_bytes}
 use Rattle.frame.specs.Handed.{next_of, opened_by, opened_of}
 use Rattle.frame.specs.HandedLaws.{next_whole, next_end}
-use Rattle.measure.specs.declared.FitAnswer.{FitAnswer}
-use Rattle.measure.specs.declared.FitAnswer.TheVariants as fits
-use Rattle.measure.specs.declared.BandAnswer.{BandAnswer}
-use Rattle.measure.specs.declared.BandAnswer.TheVariants as bands
 use Rattle.query.specs.Fits.{fit_out, validate_out}
 use Rattle.query.specs.Bands.{band_out}
 use Rattle.settings.specs.declared.Settings.{Settings}
 use Rattle.reporting.specs.declared.Places.{Places}
-use Rattle.reporting.specs.declared.ReportAnswer.{ReportAnswer}
-use Rattle.reporting.specs.declared.ReportAnswer.TheVariants as reports
 use Rattle.report.specs.Reports.{report_out}
-use Rattle.losses.specs.declared.LossAnswer.{LossAnswer}
-use Rattle.losses.specs.declared.LossAnswer.TheVariants as losses
-use Rattle.losses.specs.Losses.{loss_out}
+use Rattle.losses.specs.Losses.{LossAnswer, loss_out}
 use Rattle.ledger.specs.Ledger.{Call}
 use Rattle.ledger.specs.ReadCalls.{ReadCall}
 use Rattle.replay.specs.Replay.{Memory, Ran}
@@ -63,23 +58,23 @@ refusal_read k =
 
 pub book_read : (a : Answer) → BookFits a → BookRead (packed_book a) a
 unfolding BookFits BookRead packed_book
-book_read (books.Book b) h = (div-eq_of_lt (omega arith), mod-eq_of_lt (omega arith))
-book_read (books.Refused k) h = refusal_read k
+book_read (Ok b) h = (div-eq_of_lt (omega arith), mod-eq_of_lt (omega arith))
+book_read (Err k) h = refusal_read (number k)
 
 pub fit_read : (a : FitAnswer) → FitFits a → FitRead (packed_fit a) a
 unfolding FitFits FitRead packed_fit
-fit_read (fits.Fit d) h = (div-eq_of_lt (omega arith), mod-eq_of_lt (omega arith))
-fit_read (fits.Refused k) h = refusal_read k
+fit_read (Ok d) h = (div-eq_of_lt (omega arith), mod-eq_of_lt (omega arith))
+fit_read (Err k) h = refusal_read (number k)
 
 pub band_read : (a : BandAnswer) → BandFits a → BandRead (packed_band a) a
 unfolding BandFits BandRead packed_band
-band_read (bands.Band b) h = refl
-band_read (bands.Refused k) h = refusal_read k
+band_read (Ok b) h = refl
+band_read (Err k) h = refusal_read (number k)
 
 pub loss_read : (a : LossAnswer) → LossFits a → LossRead (packed_losses a) a
 unfolding LossFits LossRead packed_losses
-loss_read (losses.Losses d total score) h = (div-eq_of_lt (omega arith), mod-eq_of_lt (omega arith))
-loss_read (losses.Refused k) h = refusal_read k
+loss_read (Ok r) h = (div-eq_of_lt (omega arith), mod-eq_of_lt (omega arith))
+loss_read (Err k) h = refusal_read (number k)
 
 -- four numbers, each below what its field holds
 module _ (a b c d : ℕ) (ha : a < 0x100) (hb : b < 0x100) (hc : c < 0x1_0000) (hd : d < 0x100_0000) where
@@ -108,7 +103,11 @@ module _ (a b c d : ℕ) (ha : a < 0x100) (hb : b < 0x100) (hc : c < 0x1_0000) (
 
 pub report_read : (a : ReportAnswer) → ReportFits a → ReportRead (packed_report a) a
 unfolding ReportFits ReportRead packed_report
-report_read (reports.Report d s o p) h =
+report_read (Ok r) h =
+    let d = r.degree in
+    let s = r.solved in
+    let o = r.outliers in
+    let p = r.pruned in
     let hd : d.0 < 0x100 = omega (arith, h.0) in
     let hs : s < 0x100 = omega (arith, h.1) in
     let ho : o < 0x100_0000 = omega (arith, h.2) in
@@ -120,7 +119,7 @@ report_read (reports.Report d s o p) h =
       ap (λ q. q % 0x100) (third_of d.0 s p o hd hs hp ho ∙ u) ∙ lower_part 0x100 p (o * 0x100) (omega (arith, h.3)),
       ap (λ q. q % 0x1_0000) (fourth_of d.0 s p o hd hs hp ho) ∙ mod-eq_of_lt (omega (arith, h.2)),
     )
-report_read (reports.Refused k) h = refusal_read k
+report_read (Err k) h = refusal_read (number k)
 
 -- ---- so for every call, whatever it was given: the packed answer is read as the answer
 
@@ -200,7 +199,7 @@ reader_back f = by_number (frame_refusal f)
   where
     by_number : (k : ℕ) → OpenedRead (packed_opened (opened_by k)) (opened_by k)
     by_number zero = (refl, refl)
-    by_number (suc k) = refusal_read (suc k)
+    by_number (suc k) = refusal_read _
 
 pub next_back : (f : List ℕ) (at : ℕ) → length f < 0x100_0000_0000_0000 → ReadRead (packed_read (next_of f at)) (next_of f at)
 unfolding ReadRead packed_read

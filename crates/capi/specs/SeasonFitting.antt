@@ -1,5 +1,5 @@
 -- What the season's calls answer fits, as Fitting.antt has it of the book's, and reading a packed answer gives the answer back.
-use Rattle.std.specs.Prelude.{◌≡◌, Bool, true, false, List, ℕ, ◌+◌, ◌≤◌, ◌<◌, eqb, length, get_or, set}
+use Rattle.std.specs.Prelude.{◌≡◌, Bool, true, false, List, ℕ, ◌+◌, ◌≤◌, ◌<◌, eqb, length, get_or, set, Ok, Err}
 use Rattle.std.proofs.Math.Path.{refl, subst}
 use Rattle.std.proofs.Common.{◌∙◌, mod-eq_of_lt, eqb-true, length-set, get_or-set_same, get_or-set_other}
 use Rattle.std.proofs.Math.Nat.{div-eq_of_lt}
@@ -7,32 +7,26 @@ use native.Mathlib.Omega.{arith}
 use Rattle.std.proofs.lemmas.Bool.{eqb-false}
 use Rattle.std.proofs.Math.ListN.{length-replicate}
 use Rattle.std.proofs.lemmas.List.{get_or-replicate}
+use Rattle.refusal.specs.Named.{number, refused_by}
+use Rattle.reporting.specs.declared.Report.{Report}
+use Rattle.reporting.specs.Reports.{ReportAnswer}
 use Rattle.loops.specs.Loop.{from, turns}
 use Rattle.loops.specs.LoopLaws.{from_keeps, from_related}
 use Rattle.loops.specs.PlaceLaws.{map_at}
-use Rattle.refusal.specs.Laws.{among, numbered}
-use Rattle.refusal.specs.Refusals.{most_number}
 use Rattle.book.specs.Calls.{Out, State}
 use Rattle.ledger.specs.Ledger.{Change, adds, corrects, withdraws, frames, texts, windows, out_of}
 use Rattle.settings.specs.declared.Settings.{Settings}
-use Rattle.reporting.specs.declared.ReportAnswer.{ReportAnswer}
-use Rattle.reporting.specs.declared.ReportAnswer.TheVariants as reports
 use Rattle.reporting.specs.Outputs.{Outputs, places_of}
 use Rattle.stakes.specs.Parts.{stakes}
 use Rattle.stakes.specs.Season.{SeasonState, stake_state, stake_tests, stake_refusal, season_open_tests, season_open_refusal, read_stake}
 use Rattle.season.specs.Changes.{SeasonOut, left_alone, on_stake, season_out, opens, open_stake_out, carries, carry_stake_out, season_open_out}
-use Rattle.season_report.specs.declared.StakeReport.{StakeReport}
-use Rattle.season_report.specs.Reports.{parts_of, stake_report_out, passes, Reported, told_of, report_turn, unreported, season_report}
+use Rattle.season_report.specs.Reports.{parts_of, stake_report_out, passes, Reported, report_turn, unreported, season_report}
 use Rattle.capi.specs.Packed.{packed_book, packed_report, BookFits, ReportFits}
 use Rattle.capi.specs.Fitting.{settled_fits, open_fits, add_fits, correct_fits, withdraw_fits, frame_fits, lines_fits, window_fits, report_settles, report_fits}
 use Rattle.capi.specs.CarryFitting.{carry_fits}
 use Rattle.capi.specs.Reading.{number_in, count_in, BookRead, ReportRead}
 use Rattle.capi.specs.ReadingLaws.{book_read, report_read}
 use Rattle.capi.specs.SeasonPacked.{StakesFit, packed_stakes}
-
-pub stake_most : (s n : ℕ) → stake_refusal s n ≤ most_number
-unfolding stake_refusal
-stake_most s n = omega (arith, among _ (numbered (stake_tests s n)))
 
 -- ---- calls that change a season
 
@@ -50,7 +44,7 @@ module _ (s : ℕ) (S : SeasonState) where
   unfolding on_stake
   on_stake_fits call h =
       let r = stake_refusal s (length S.counts) in
-      settled_fits (λ (o : SeasonOut). o.answer) r _ (left_alone r S) refl (stake_most s (length S.counts)) (λ e. h (stake_state s S))
+      settled_fits (λ (o : SeasonOut). o.answer) r _ (left_alone r S) refl (λ e. h (stake_state s S))
 
   pub season_fits : (c : Change) → BookFits (season_out s S c).answer
   season_fits c = on_stake_fits (λ b. out_of b c) (λ b. change_fits b c)
@@ -74,8 +68,7 @@ pub season_open_fits : (S : SeasonState) → BookFits (season_open_out S).answer
 unfolding season_open_out season_open_refusal BookFits
 season_open_fits S =
     let r = season_open_refusal (length S.counts) (length S.sums) in
-    settled_fits (λ (o : SeasonOut). o.answer) r _ (left_alone r S) refl
-    (omega (arith, among _ (numbered (season_open_tests (length S.counts) (length S.sums))))) (λ e. omega arith)
+    settled_fits (λ (o : SeasonOut). o.answer) r _ (left_alone r S) refl (λ e. omega arith)
 
 pub season_open_back : (S : SeasonState) → (let a = (season_open_out S).answer in BookRead (packed_book a) a)
 season_open_back S = book_read _ (season_open_fits S)
@@ -83,18 +76,18 @@ season_open_back S = book_read _ (season_open_fits S)
 -- ---- reports
 
 passes_most : (a : ReportAnswer) → passes a ≤ 1
-passes_most (reports.Report d s o p) = omega arith
-passes_most (reports.Refused k) = omega arith
+passes_most (Ok r) = omega arith
+passes_most (Err k) = omega arith
 
 -- one stake's answer more
-set_fits : (told : List StakeReport) (j : ℕ) (a : ReportAnswer) → j < stakes → ReportFits a → StakesFit told → StakesFit (set told j (told_of a))
+set_fits : (told : List ReportAnswer) (j : ℕ) (a : ReportAnswer) → j < stakes → ReportFits a → StakesFit told → StakesFit (set told j a)
 set_fits told j a h f all =
-    record { long = length-set told j (told_of a) ∙ all.long; fits = λ i l d. by_test i l d (eqb i j) refl }
+    record { long = length-set told j a ∙ all.long; fits = λ i l d. by_test i l d (eqb i j) refl }
   where
-    by_test : (i : ℕ) → i < stakes → (d : StakeReport) (t : Bool) → eqb i j ≡ t → ReportFits (get_or (set told j (told_of a)) i d).answer
+    by_test : (i : ℕ) → i < stakes → (d : ReportAnswer) (t : Bool) → eqb i j ≡ t → ReportFits (get_or (set told j a) i d)
     by_test i l d true e =
-        rw (eqb-true i j e, get_or-set_same told j (told_of a) d (omega (arith, h, all.long))) f
-    by_test i l d false e = rw (get_or-set_other told j i (told_of a) d (eqb-false i j e)) (all.fits i l d)
+        rw (eqb-true i j e, get_or-set_same told j a d (omega (arith, h, all.long))) f
+    by_test i l d false e = rw (get_or-set_other told j i a d (eqb-false i j e)) (all.fits i l d)
 
 -- a count of 32 turns
 all_turns : from (λ (j n : ℕ). n + 1) 0 stakes 0 ≡ stakes
@@ -106,7 +99,7 @@ module _ (settings : Settings) (S : SeasonState) where
   unfolding read_stake
   stake_report_fits s w =
       let b = stake_state s S in
-      report_settles (stake_refusal s (length S.counts)) _ (stake_most s (length S.counts))
+      report_settles (stake_refusal s (length S.counts)) _
       (λ e. report_fits b.count settings b.columns b.sums (places_of (parts_of s w)))
 
   pub stake_report_back : (s : ℕ) (w : Outputs) → (let a = (stake_report_out settings s S w).answer in ReportRead (packed_report a) a)
@@ -118,17 +111,17 @@ module _ (settings : Settings) (S : SeasonState) where
       from_keeps (λ (t : Reported). StakesFit t.reports) (report_turn settings S) 0 stakes (unreported w)
       (λ j t a l f. set_fits t.reports j _ l (stake_report_fits j t.lent) f)
       (record {
-        long = length-replicate stakes (told_of (reports.Refused 1));
-        fits = λ i l d. rw (get_or-replicate stakes i (told_of (reports.Refused 1)) d l) (omega arith, omega arith);
+        long = length-replicate stakes (refused_by {A = Report} 1);
+        fits = λ i l d. rw (get_or-replicate stakes i (refused_by {A = Report} 1) d l) (omega arith, omega arith);
       })
 
   -- each of the 32 packed answers is read as its stake's
-  pub stakes_back : (w : Outputs) (i : ℕ) → i < stakes → (d : StakeReport) (p : ℕ)
-      → (let told = (season_report settings S w).reports in ReportRead (get_or (packed_stakes told) i p) (get_or told i d).answer)
+  pub stakes_back : (w : Outputs) (i : ℕ) → i < stakes → (d : ReportAnswer) (p : ℕ)
+      → (let told = (season_report settings S w).reports in ReportRead (get_or (packed_stakes told) i p) (get_or told i d))
   stakes_back w i l d p =
       let f = stakes_fit w in
       let told = (season_report settings S w).reports in
-      rw (map_at (λ (t : StakeReport). packed_report t.answer) told i d p (omega (arith, l, f.long))) (report_read _ (f.fits i l d))
+      rw (map_at packed_report told i d p (omega (arith, l, f.long))) (report_read _ (f.fits i l d))
 
   -- at most 32 stakes pass
   pub passed_most : (w : Outputs) → (season_report settings S w).passed ≤ stakes

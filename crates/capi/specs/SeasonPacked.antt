@@ -5,7 +5,7 @@ use Rattle.lent.specs.Slices.{Slice, before, after, contents}
 use Rattle.lent.specs.Written.{over}
 use Rattle.measure.specs.Fits.{FitOut}
 use Rattle.measure.specs.Bands.{BandOut}
-use Rattle.reporting.specs.Reports.{ReportOut}
+use Rattle.reporting.specs.Reports.{ReportAnswer, ReportOut}
 use Rattle.reporting.specs.Outputs.{LentOutputs}
 use Rattle.settings.specs.declared.Settings.{Settings}
 use Rattle.losses.specs.Losses.{LossOut}
@@ -16,7 +16,6 @@ use Rattle.stakes.specs.Parts.{stakes}
 use Rattle.stakes.specs.Season.{SeasonState}
 use Rattle.season.specs.Changes.{SeasonOut}
 use Rattle.season_query.specs.Reads.{StakeFitIs, stake_band_out, StakeBandIs, stake_loss_out, StakeLossIs, stake_scores_out, StakeScoresIs, stake_split_out, StakeSplitIs}
-use Rattle.season_report.specs.declared.StakeReport.{StakeReport}
 use Rattle.season_report.specs.Reports.{StakeReportIs, stake_report_out, Reported, season_report}
 use Rattle.capi.specs.Packed.{packed_refusal, packed_book, packed_fit, packed_band, band_numbers, band_into, packed_losses, loss_numbers, loss_into, packed_scores, least_number, scores_into, packed_split, split_total, split_into, packed_report, ReportFits}
 
@@ -85,13 +84,13 @@ abbrev pub StakeReportPackedIs : Settings → ℕ → SeasonState → ℕ → Le
 StakeReportPackedIs settings s S r w = StakeReportPacked s (stake_report_out settings s S w.found) r w
 
 -- the stakes' packed answers, in stake order
-abbrev pub packed_stakes : List StakeReport → List ℕ
-packed_stakes told = map (λ (t : StakeReport). packed_report t.answer) told
+abbrev pub packed_stakes : List ReportAnswer → List ℕ
+packed_stakes told = map packed_report told
 
 -- every stake's answer fits its fields
-pub record StakesFit (told : List StakeReport) : Type 0 where
+pub record StakesFit (told : List ReportAnswer) : Type 0 where
   pub long : length told ≡ stakes
-  pub fits : (i : ℕ) → i < stakes → (d : StakeReport) → ReportFits (get_or told i d).answer
+  pub fits : (i : ℕ) → i < stakes → (d : ReportAnswer) → ReportFits (get_or told i d)
 
 -- a: the lent places for the stakes' answers
 pub record SeasonReportPacked (o : Reported) (r : ℕ) (w : LentOutputs) (a : Slice ℕ) : Type 0 where

@@ -6,8 +6,9 @@ use Rattle.statistics.specs.declared.DegreeBound.{DegreeBound}
 use Rattle.statistics.specs.declared.Confidence.{Confidence}
 use Rattle.statistics.specs.declared.Tolerance.{Tolerance}
 use Rattle.score.specs.declared.Criterion.{Criterion}
-use Rattle.refusal.specs.Laws.{among, numbered}
-use Rattle.refusal.specs.Refusals.{most_number, settle}
+use Rattle.refusal.specs.Named.{named}
+use Rattle.refusal.specs.NamedLaws.{number_fits}
+use Rattle.refusal.specs.Refusals.{settle}
 use Rattle.settings.specs.declared.Settings.{Settings}
 use Rattle.book.specs.Calls.{State}
 use Rattle.measure.specs.Fits.{FitOut, fit_refused}
@@ -18,7 +19,7 @@ use Rattle.split.specs.Splits.{SplitOut, split_refused}
 use Rattle.stakes.specs.Parts.{stakes, part_of}
 use Rattle.stakes.specs.Season.{SeasonState, stake_state, stake_tests, stake_refusal, read_stake}
 use Rattle.season_query.specs.Reads.{fit_from, validate_from, stake_fit_out, band_from, stake_band_out, loss_from, stake_loss_out, scores_from, stake_scores_out, split_from, stake_split_out}
-use Rattle.capi.specs.Packed.{packed_fit, packed_band, band_into, packed_losses, loss_into, packed_scores, scores_into, packed_split, split_into, RefusalFits, FitFits, BandFits, LossFits, ScoresFits, SplitFits}
+use Rattle.capi.specs.Packed.{packed_fit, packed_band, band_into, packed_losses, loss_into, packed_scores, scores_into, packed_split, split_into, FitFits, BandFits, LossFits, ScoresFits, SplitFits}
 use Rattle.capi.specs.SeasonPacked.{stake_into}
 use Rattle.capi.specs.Fitting.{fit_fits, validate_fits, band_out_fits, into_fits as band-into}
 use Rattle.capi.specs.LossFitting.{told_fits, into_fits as loss-into}
@@ -29,19 +30,15 @@ use Rattle.capi.specs.ReadingLaws.{fit_read, band_read, loss_read}
 
 -- ---- of any kind O of answer: what is read of a stake, and what is judged with 1 after the stake's number
 
-stake_most : (s n : ℕ) → stake_refusal s n ≤ most_number
-unfolding stake_refusal
-stake_most s n = omega (arith, among _ (numbered (stake_tests s n)))
-
 module _ {O : Type 0} (F : O → Type 0) (s : ℕ) where
-  read_fits : (S : SeasonState) (call : State → O) (refused : ℕ → O) → ((k : ℕ) → RefusalFits k → F (refused k)) → F (call (stake_state s S))
+  read_fits : (S : SeasonState) (call : State → O) (refused : ℕ → O) → ((k : ℕ) → F (refused k)) → F (call (stake_state s S))
       → F (read_stake s S call refused)
   unfolding read_stake
-  read_fits S call refused none good = go (stake_refusal s (length S.counts)) (stake_most s (length S.counts))
+  read_fits S call refused none good = go (stake_refusal s (length S.counts))
     where
-      go : (r : ℕ) → r ≤ most_number → F (settle r (call (stake_state s S)) (refused r))
-      go zero h = good
-      go (suc r) h = none (suc r) (omega arith, h)
+      go : (r : ℕ) → F (settle r (call (stake_state s S)) (refused r))
+      go zero = good
+      go (suc r) = none (suc r)
 
   judged_fits : (into : O → O) (o : O) → ((p : O) → F p → F (into p)) → F o → F (stake_into s into o)
   judged_fits into o g h = go (leb stakes s)
@@ -58,7 +55,7 @@ module _ (s : ℕ) (S : SeasonState) (scratch : List Float) where
     unfolding FitFits
     stake_fit_fits degree =
         let b = stake_state s S in
-        read_fits (λ (o : FitOut). FitFits o.answer) s S (λ b. fit_from degree b (part_of s scratch) (part_of s coefficients)) fit_refused (λ k h. h)
+        read_fits (λ (o : FitOut). FitFits o.answer) s S (λ b. fit_from degree b (part_of s scratch) (part_of s coefficients)) fit_refused (λ k. number_fits (named k))
         (fit_fits b.count b.columns b.sums (part_of s scratch) (part_of s coefficients) degree)
 
     pub stake_validate_fits : (folds : ℕ) (bound : DegreeBound) (criterion : Criterion)
@@ -66,7 +63,7 @@ module _ (s : ℕ) (S : SeasonState) (scratch : List Float) where
     unfolding FitFits
     stake_validate_fits folds bound criterion =
         let b = stake_state s S in
-        read_fits (λ (o : FitOut). FitFits o.answer) s S (λ b. validate_from folds bound criterion b (part_of s scratch) (part_of s coefficients)) fit_refused (λ k h. h)
+        read_fits (λ (o : FitOut). FitFits o.answer) s S (λ b. validate_from folds bound criterion b (part_of s scratch) (part_of s coefficients)) fit_refused (λ k. number_fits (named k))
         (validate_fits b.count b.columns b.sums (part_of s scratch) (part_of s coefficients) folds bound criterion)
 
     pub stake_fit_back : (degree : ℕ) → (let a = (stake_fit_out (fit_from degree) s S scratch coefficients).answer in FitRead (packed_fit a) a)
@@ -85,7 +82,7 @@ module _ (s : ℕ) (S : SeasonState) (scratch : List Float) where
     stake_band_fits =
         let b = stake_state s S in
         judged_fits (λ (o : BandOut). BandFits o.answer) s (band_into places) _ (band-into places)
-        (read_fits (λ (o : BandOut). BandFits o.answer) s S (λ b. band_from x degree confidence tolerance b (part_of s scratch)) band_refused (λ k h. h)
+        (read_fits (λ (o : BandOut). BandFits o.answer) s S (λ b. band_from x degree confidence tolerance b (part_of s scratch)) band_refused (λ k. number_fits (named k))
         (band_out_fits b.count x degree confidence tolerance b.columns b.sums (part_of s scratch)))
 
     pub stake_band_back : BandRead (packed_band banded.answer) banded.answer
@@ -101,7 +98,7 @@ module _ (s : ℕ) (S : SeasonState) (scratch : List Float) where
       stake_loss_fits =
           let b = stake_state s S in
           judged_fits (λ (o : LossOut). LossFits o.answer) s (loss_into places) _ (loss-into places)
-          (read_fits (λ (o : LossOut). LossFits o.answer) s S (λ b. loss_from settings losses b (part_of s scratch)) loss_refused (λ k h. h)
+          (read_fits (λ (o : LossOut). LossFits o.answer) s S (λ b. loss_from settings losses b (part_of s scratch)) loss_refused (λ k. number_fits (named k))
           (told_fits b.count settings b.columns b.sums (part_of s scratch) losses))
 
       pub stake_loss_back : LossRead (packed_losses lost.answer) lost.answer
@@ -113,7 +110,7 @@ module _ (s : ℕ) (S : SeasonState) (scratch : List Float) where
       unfolding ScoresFits
       stake_scores_fits =
           let b = stake_state s S in
-          read_fits (λ (o : ScoresOut). ScoresFits o.answer) s S (λ b. scores_from settings solved told b (part_of s scratch)) scores_refused (λ k h. h)
+          read_fits (λ (o : ScoresOut). ScoresFits o.answer) s S (λ b. scores_from settings solved told b (part_of s scratch)) scores_refused (λ k. number_fits (named k))
           (scores_fits b.count settings b.columns b.sums (part_of s scratch) solved told)
 
       module _ (places : ℕ) where
@@ -131,7 +128,7 @@ module _ (s : ℕ) (S : SeasonState) (scratch : List Float) where
       unfolding SplitFits
       stake_split_fits =
           let b = stake_state s S in
-          read_fits (λ (o : SplitOut). SplitFits o.answer) s S (λ b. split_from settings limit earlier later b (part_of s scratch)) (λ k. split_refused k []) (λ k h. h)
+          read_fits (λ (o : SplitOut). SplitFits o.answer) s S (λ b. split_from settings limit earlier later b (part_of s scratch)) (λ k. split_refused k []) (λ k. number_fits (named k))
           (split_fits b.count settings limit b.columns (length b.sums) _)
 
       module _ (places : ℕ) where

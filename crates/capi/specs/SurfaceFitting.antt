@@ -7,7 +7,6 @@ use Rattle.basis.specs.declared.Basis.TheVariants.{Surface}
 use Rattle.statistics.specs.Degrees.{max_degree}
 use Rattle.statistics.specs.declared.Confidence.{Confidence}
 use Rattle.statistics.specs.declared.Tolerance.{Tolerance}
-use Rattle.refusal.specs.Laws.{among}
 use Rattle.settings.specs.declared.Settings.{Settings}
 use Rattle.measure.specs.Measures.{measure_refusal}
 use Rattle.measure.specs.Bands.{band_past}
@@ -19,7 +18,7 @@ use Rattle.surface.specs.RefusalLaws.{surface_fit_numbers, surface_band_numbers,
 use Rattle.surface.specs.Surfaces.{last_tried, surface_fit_on, surface_fit_out, surface_band_on, surface_band_out, surface_report_past, surface_report_on, surface_report_out}
 use Rattle.surface.specs.TriedLaws.{last_within, surface_choice_is}
 use Rattle.capi.specs.Packed.{packed_fit, packed_band, packed_report, band_into, FitFits, BandFits, ReportFits}
-use Rattle.capi.specs.Fitting.{past_fits, fit_settles, measure_most, band_settles, out_settles, into_fits, chosen_fits, report_settles}
+use Rattle.capi.specs.Fitting.{past_fits, fit_settles, band_settles, out_settles, into_fits, chosen_fits, report_settles}
 use Rattle.capi.specs.Reading.{FitRead, BandRead, ReportRead}
 use Rattle.capi.specs.ReadingLaws.{fit_read, band_read, report_read}
 
@@ -28,7 +27,6 @@ module _ (n : ℕ) (columns : PointColumns) where
   unfolding surface_fit_on
   surface_fit_fits degree scratch coefficients =
       fit_settles (surface_fit_refusal n (points_of n columns) (point_lengths columns) degree (length scratch) (length coefficients)) _
-      (omega (arith, among _ (surface_fit_numbers n (points_of n columns) (point_lengths columns) degree (length scratch) (length coefficients))))
       (λ e.
       past_fits Surface n degree _ _ (omega (arith, (surface_fit_room n (points_of n columns) (point_lengths columns) degree (length scratch) (length coefficients) e).1.0)))
 
@@ -39,8 +37,7 @@ module _ (n : ℕ) (columns : PointColumns) where
       let points = points_of n columns in
       into_fits places _
       (out_settles (surface_band_refusal n points (point_lengths columns) x z degree confidence tolerance (length scratch)) _
-      (omega (arith, among _ (surface_band_numbers n points (point_lengths columns) x z degree confidence tolerance (length scratch))))
-      (band_settles (measure_refusal (surface_sums points) (rows_of_points points) (count_of Surface degree)) _ (measure_most _ _ _)))
+      (band_settles (measure_refusal (surface_sums points) (rows_of_points points) (count_of Surface degree)) _))
 
   pub surface_report_fits : (settings : Settings) (places : Places) → ReportFits (surface_report_out n settings columns places).answer
   unfolding surface_report_on surface_report_past
@@ -48,7 +45,6 @@ module _ (n : ℕ) (columns : PointColumns) where
       let points = points_of n columns in
       let bound = max_degree settings.bound n in
       report_settles (surface_report_refusal n points (point_lengths columns) settings places) _
-      (omega (arith, among _ (surface_report_numbers n points (point_lengths columns) settings places)))
       (λ e.
       let w = surface_report_room n points (point_lengths columns) settings places e in
       rw (surface_choice_is n settings (rows_of_points points) (surface_sums points) w.1.0)

@@ -32,12 +32,15 @@ ghost use Rattle.capi.specs.Packed.{packed_fields, packed_report, ReportFits, pa
 
 use basis::Degree;
 use book::Book;
-use frame::{Cursor, Read};
-use losses::LossAnswer;
-use measure::BandAnswer;
-use reporting::ReportAnswer;
-use scores::ScoresAnswer;
-use split::SplitAnswer;
+use covariance::Band;
+use frame::Cursor;
+use losses::LossTotals;
+use refusal::Refusal;
+use reporting::Report;
+use samples::Sample;
+use scores::ScoreTable;
+use split::Break;
+use two_column::Pair;
 
 // The places that a band is written to, the total and the score of losses, and a reader's sample.
 const BAND: usize = 3;
@@ -56,111 +59,90 @@ fn fields(a: usize, b: usize, c: usize, d: usize) -> u64
 }
 
 // A report: the degree, the solved degrees, the pruned terms and the outliers.
-fn packed_report(answer: ReportAnswer) -> u64
+fn packed_report(answer: Result<Report, Refusal>) -> u64
     requires { ReportFits answer }
     ensures { result ≡ packed_report answer }
 {
     match answer {
-        ReportAnswer::Report {
-            degree,
-            solved,
-            outliers,
-            pruned,
-        } => fields(degree.0, solved, pruned, outliers),
-        ReportAnswer::Refused(k) => packed::refused(k),
+        Ok(r) => fields(r.degree.0, r.solved, r.pruned, r.outliers),
+        Err(refusal) => packed::refused(refusal),
     }
 }
 
 // A band: 0, and its value, lower and upper are written.
-fn packed_band(answer: BandAnswer, numbers: &mut [f64]) -> u64
+fn packed_band(answer: Result<Band, Refusal>, numbers: &mut [f64]) -> u64
     requires { 3 ≤ length numbers.old }
     ensures { (result ≡ packed_band answer) × (after numbers ≡ over (band_numbers answer) (before numbers)) }
 {
     match answer {
-        BandAnswer::Band(b) => {
+        Ok(b) => {
             numbers[0] = b.value;
             numbers[1] = b.lower;
             numbers[2] = b.upper;
             0
         }
-        BandAnswer::Refused(k) => packed::refused(k),
+        Err(refusal) => packed::refused(refusal),
     }
 }
 
 // A split: both degrees, the samples before the break and the pivot tests; its total is written.
-fn packed_split(answer: SplitAnswer, total: &mut [f64]) -> u64
+fn packed_split(answer: Result<Break, Refusal>, total: &mut [f64]) -> u64
     requires split_fits { SplitFits answer }
     requires in_bounds { 1 ≤ length total.old }
     ensures { (result ≡ packed_split answer) × (after total ≡ over (split_total answer) (before total)) }
 {
     match answer {
-        SplitAnswer::Split {
-            total: sum,
-            at,
-            tests,
-            before,
-            after,
-        } => {
-            total[0] = sum;
-            fields(before.0, after.0, at, tests)
+        Ok(b) => {
+            total[0] = b.total;
+            fields(b.before.0, b.after.0, b.at, b.tests)
         }
-        SplitAnswer::Refused(k) => packed::refused(k),
+        Err(refusal) => packed::refused(refusal),
     }
 }
 
 // The losses: the degree, and their total and score are written.
-fn packed_losses(answer: LossAnswer, numbers: &mut [f64]) -> u64
+fn packed_losses(answer: Result<LossTotals, Refusal>, numbers: &mut [f64]) -> u64
     requires { 2 ≤ length numbers.old }
     ensures { (result ≡ packed_losses answer) × (after numbers ≡ over (loss_numbers answer) (before numbers)) }
 {
     match answer {
-        LossAnswer::Losses {
-            degree,
-            total,
-            score,
-        } => {
-            numbers[0] = total;
-            numbers[1] = score;
-            degree.0 as u64
+        Ok(l) => {
+            numbers[0] = l.total;
+            numbers[1] = l.score;
+            l.degree.0 as u64
         }
-        LossAnswer::Refused(k) => packed::refused(k),
+        Err(refusal) => packed::refused(refusal),
     }
 }
 
 // The scores: the chosen degree, the solved degrees, the bound and the pivot tests; the least is written.
-fn packed_scores(answer: ScoresAnswer, least: &mut [f64]) -> u64
+fn packed_scores(answer: Result<ScoreTable, Refusal>, least: &mut [f64]) -> u64
     requires scores_fits { ScoresFits answer }
     requires in_bounds { 1 ≤ length least.old }
     ensures { (result ≡ packed_scores answer) × (after least ≡ over (least_number answer) (before least)) }
 {
     match answer {
-        ScoresAnswer::Scores {
-            degree,
-            bound,
-            solved,
-            least: score,
-            tests,
-        } => {
-            least[0] = score;
-            fields(degree.0, solved, bound.0, tests)
+        Ok(s) => {
+            least[0] = s.least;
+            fields(s.degree.0, s.solved, s.bound.0, s.tests)
         }
-        ScoresAnswer::Refused(k) => packed::refused(k),
+        Err(refusal) => packed::refused(refusal),
     }
 }
 
 // What a reader finds: the offset behind the sample, whose x, y and weight are written; 0, which is behind no sample, at the end.
-fn packed_read(answer: Read, numbers: &mut [f64]) -> u64
+fn packed_read(answer: Option<(Sample, Cursor)>, numbers: &mut [f64]) -> u64
     requires { 3 ≤ length numbers.old }
     ensures { (result ≡ packed_read answer) × (after numbers ≡ over (read_numbers answer) (before numbers)) }
 {
     match answer {
-        Read::Sample(x, y, w, c) => {
-            numbers[0] = x;
-            numbers[1] = y;
-            numbers[2] = w;
-            c.at as u64
+        Some((sample, behind)) => {
+            numbers[0] = sample.x;
+            numbers[1] = sample.y;
+            numbers[2] = sample.w;
+            behind.at as u64
         }
-        Read::End => 0,
+        None => 0,
     }
 }
 
@@ -186,7 +168,8 @@ pub extern "C" fn stakebook_add(
 ) -> u64
     ensures { BookPacked (add_out count (record { x = x; y = y; w = weight }) (columns_of (before xs) (before ys) (before ws)) (before sums)) result (columns_of (after xs) (after ys) (after ws)) (after sums) }
 {
-    packed::book(book::add(Book { count }, x, y, weight, xs, ys, ws, sums))
+    let sample = Sample { x, y, w: weight };
+    packed::book(book::add(Book { count }, sample, xs, ys, ws, sums))
 }
 
 // One sample at the end; a full book first loses sample 0.
@@ -203,7 +186,8 @@ pub extern "C" fn stakebook_add_window(
 ) -> u64
     ensures { BookPacked (window_out count (record { x = x; y = y; w = weight }) (columns_of (before xs) (before ys) (before ws)) (before sums)) result (columns_of (after xs) (after ys) (after ws)) (after sums) }
 {
-    packed::book(book::add_window(Book { count }, x, y, weight, xs, ys, ws, sums))
+    let sample = Sample { x, y, w: weight };
+    packed::book(book::add_window(Book { count }, sample, xs, ys, ws, sums))
 }
 
 // Sample i gets a new y.
@@ -287,7 +271,7 @@ pub extern "C" fn stakebook_two_column_add(
 ) -> u64
     ensures { PairPacked (pair_add_out count (record { x = x; y = y }) (pair_columns (before xs) (before ys)) (before sums)) result (pair_columns (after xs) (after ys)) (after sums) }
 {
-    packed::book(two_column::add(Book { count }, x, y, xs, ys, sums))
+    packed::book(two_column::add(Book { count }, Pair { x, y }, xs, ys, sums))
 }
 
 // Sample i gets a new y.
@@ -426,7 +410,7 @@ pub extern "C" fn stakebook_band(
     ensures { BandPacked (band_into (length (before numbers)) (band_out count x degree (confidence_of confidence score) (tolerance_of tolerance value) (columns_of xs.now ys.now ws.now) sums.now (before scratch))) result scratch numbers }
 {
     if numbers.len() < BAND {
-        return packed::refused(1);
+        return packed::refused(Refusal::Short);
     }
     let with = settings::confidence(confidence, score);
     let allowed = settings::tolerance(tolerance, value);
@@ -565,7 +549,7 @@ pub extern "C" fn stakebook_surface_band(
 {
     let places = numbers.len();
     if places < BAND {
-        return packed::refused(1);
+        return packed::refused(Refusal::Short);
     }
     let with = settings::confidence(confidence, score);
     let allowed = settings::tolerance(tolerance, value);
@@ -639,7 +623,7 @@ pub extern "C" fn stakebook_split(
     ensures { SplitPackedIs count (settings_in words.now values.now) limit (columns_of xs.now ys.now ws.now) sums.now result (lent_split scratch earlier later) total }
 {
     if total.len() < 1 {
-        return packed::refused(1);
+        return packed::refused(Refusal::Short);
     }
     let settings = settings::listed(words, values);
     let answer = split::split(
@@ -674,7 +658,7 @@ pub extern "C" fn stakebook_losses(
     ensures { LossPacked (loss_into (length (before numbers)) (loss_out count (settings_in words.now values.now) (columns_of xs.now ys.now ws.now) sums.now (before scratch) (before losses))) result scratch losses numbers }
 {
     if numbers.len() < TOLD {
-        return packed::refused(1);
+        return packed::refused(Refusal::Short);
     }
     let settings = settings::listed(words, values);
     packed_losses(
@@ -702,7 +686,7 @@ pub extern "C" fn stakebook_scores(
     ensures { ScoresPacked (scores_into (length (before least)) (scores_out count (settings_in words.now values.now) (columns_of xs.now ys.now ws.now) sums.now (before scratch) (before solved) (before scores))) result scratch solved scores least }
 {
     if least.len() < 1 {
-        return packed::refused(1);
+        return packed::refused(Refusal::Short);
     }
     let settings = settings::listed(words, values);
     let answer = scores::scores(
@@ -837,7 +821,7 @@ pub extern "C" fn stakebook_group_split(
     ensures { GroupSplitPackedIs group count (settings_in words.now values.now) (columns_of xs.now ys.now ws.now) sums.now result (lent_split scratch earlier later) total table }
 {
     if total.len() < 1 {
-        return packed::refused(1);
+        return packed::refused(Refusal::Short);
     }
     let settings = settings::listed(words, values);
     let answer = allowance::group_split(
@@ -871,7 +855,7 @@ pub extern "C" fn stakebook_next(frame: &[u8], at: usize, numbers: &mut [f64]) -
     ensures { ReadPacked (next_of frame.now at) result numbers }
 {
     if numbers.len() < SAMPLE {
-        return packed::refused(1);
+        return packed::refused(Refusal::Short);
     }
     packed_read(frame::next(frame, Cursor { at }), numbers)
 }

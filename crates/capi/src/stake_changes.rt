@@ -7,6 +7,7 @@ ghost use Rattle.season.specs.Changes.{season_out, carry_stake_out, open_stake_o
 ghost use Rattle.capi.specs.SeasonPacked.{SeasonPacked};
 
 use crate::packed;
+use samples::Sample;
 
 // An empty book for each of the 32 stakes.
 #[unsafe(no_mangle)]
@@ -43,7 +44,8 @@ pub extern "C" fn stakebook_season_add(
 ) -> u64
     ensures { SeasonPacked (season_out stake (season_of (before counts) (columns_of (before xs) (before ys) (before ws)) (before sums)) (adds (record { x = x; y = y; w = weight }))) result (season_of (after counts) (columns_of (after xs) (after ys) (after ws)) (after sums)) }
 {
-    packed::book(season::add(stake, x, y, weight, counts, xs, ys, ws, sums))
+    let sample = Sample { x, y, w: weight };
+    packed::book(season::add(stake, sample, counts, xs, ys, ws, sums))
 }
 
 // One sample at the end; a full book first loses sample 0.
@@ -61,7 +63,8 @@ pub extern "C" fn stakebook_season_add_window(
 ) -> u64
     ensures { SeasonPacked (season_out stake (season_of (before counts) (columns_of (before xs) (before ys) (before ws)) (before sums)) (windows (record { x = x; y = y; w = weight }))) result (season_of (after counts) (columns_of (after xs) (after ys) (after ws)) (after sums)) }
 {
-    packed::book(season::add_window(stake, x, y, weight, counts, xs, ys, ws, sums))
+    let sample = Sample { x, y, w: weight };
+    packed::book(season::add_window(stake, sample, counts, xs, ys, ws, sums))
 }
 
 // All samples of a frame at the end, or none.

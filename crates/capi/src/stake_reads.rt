@@ -9,6 +9,7 @@ ghost use Rattle.capi.specs.SeasonPacked.{StakeFitPacked, StakeBandPackedIs, Sta
 
 use crate::{BAND, TOLD, packed, packed_band, packed_losses, packed_scores, packed_split};
 use basis::Degree;
+use refusal::Refusal;
 use stakes::STAKES;
 
 // The fit of the asked degree.
@@ -95,10 +96,10 @@ pub extern "C" fn stakebook_season_band(
     ensures { StakeBandPackedIs (band_from x degree (confidence_of confidence score) (tolerance_of tolerance value)) stake (season_of counts.now (columns_of xs.now ys.now ws.now) sums.now) result scratch numbers }
 {
     if STAKES <= stake {
-        return packed::refused(18);
+        return packed::refused(Refusal::NoStake);
     }
     if numbers.len() < BAND {
-        return packed::refused(1);
+        return packed::refused(Refusal::Short);
     }
     let with = settings::confidence(confidence, score);
     let allowed = settings::tolerance(tolerance, value);
@@ -136,10 +137,10 @@ pub extern "C" fn stakebook_season_losses(
     ensures { StakeLossPackedIs (loss_from (settings_in words.now values.now) (before losses)) stake (season_of counts.now (columns_of xs.now ys.now ws.now) sums.now) result scratch losses numbers }
 {
     if STAKES <= stake {
-        return packed::refused(18);
+        return packed::refused(Refusal::NoStake);
     }
     if numbers.len() < TOLD {
-        return packed::refused(1);
+        return packed::refused(Refusal::Short);
     }
     let settings = settings::listed(words, values);
     let answer = season_query::losses(stake, settings, counts, xs, ys, ws, sums, scratch, losses);
@@ -165,10 +166,10 @@ pub extern "C" fn stakebook_season_scores(
     ensures { StakeScoresPackedIs (scores_from (settings_in words.now values.now) (before solved) (before scores)) stake (season_of counts.now (columns_of xs.now ys.now ws.now) sums.now) result scratch solved scores least }
 {
     if STAKES <= stake {
-        return packed::refused(18);
+        return packed::refused(Refusal::NoStake);
     }
     if least.len() < 1 {
-        return packed::refused(1);
+        return packed::refused(Refusal::Short);
     }
     let settings = settings::listed(words, values);
     let answer = season_query::scores(
@@ -197,10 +198,10 @@ pub extern "C" fn stakebook_season_split(
     ensures { StakeSplitPackedIs (split_from (settings_in words.now values.now) limit (before earlier) (before later)) stake (season_of counts.now (columns_of xs.now ys.now ws.now) sums.now) result (lent_split scratch earlier later) total }
 {
     if STAKES <= stake {
-        return packed::refused(18);
+        return packed::refused(Refusal::NoStake);
     }
     if total.len() < 1 {
-        return packed::refused(1);
+        return packed::refused(Refusal::Short);
     }
     let settings = settings::listed(words, values);
     let answer = season_query::split(

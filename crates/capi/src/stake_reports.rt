@@ -10,6 +10,7 @@ ghost use Rattle.stakes.specs.Season.{season_of};
 ghost use Rattle.capi.specs.SeasonPacked.{StakesFit, packed_stakes, StakeReportPackedIs, SeasonReportPackedIs};
 
 use crate::{packed, packed_report};
+use refusal::Refusal;
 use season_report::SeasonReport;
 use stakes::STAKES;
 
@@ -60,9 +61,7 @@ fn put_stakes(told: SeasonReport, answers: &mut [u64])
     ensures { after answers ≡ over (packed_stakes told.reports) (before answers) }
 {
     for stake in 0..STAKES {
-        let report = told.reports[stake];
-        let answer = report.answer;
-        answers[stake] = packed_report(answer);
+        answers[stake] = packed_report(told.reports[stake]);
     }
 }
 
@@ -88,7 +87,7 @@ pub extern "C" fn stakebook_season_report(
     ensures { SeasonReportPackedIs (settings_in words.now values.now) (season_of counts.now (columns_of xs.now ys.now ws.now) sums.now) result (outputs scratch coefficients errors pruned lower upper outliers) answers }
 {
     if answers.len() < STAKES {
-        return packed::refused(1);
+        return packed::refused(Refusal::Short);
     }
     let settings = settings::listed(words, values);
     let told = season_report::season_report(

@@ -1,3 +1,4 @@
 -- Helper laws of the proofs.
-pub mod Parts
+pub mod Hexadecimal
+pub mod Pairs
 pub mod Spelled

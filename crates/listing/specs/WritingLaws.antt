@@ -6,6 +6,7 @@ use Rattle.std.proofs.lemmas.List.Edits.{sets, sets-eq}
 use Rattle.std.proofs.Math.Seq.{length-sets, set_out}
 use Rattle.loops.specs.Places.{table}
 use Rattle.loops.specs.PlaceLaws.{table_again}
+use Rattle.listing.specs.declared.writing.Writer.{Writer}
 use Rattle.listing.specs.Writing.{last_place, up_to, Wrote}
 
 sets_append : (s : List ℕ) (i : ℕ) (t u : List ℕ) → sets s i (t ++ u) ≡ sets (sets s i t) (i + length t) u
@@ -19,35 +20,36 @@ sets_past s i (b ∷ t) h =
     ap (λ z. sets z (suc i) t) e ∙ sets_past s (suc i) t (omega arith)
 
 -- nothing was written yet
-pub wrote_none : (s : List ℕ) (i : ℕ) → i ≤ last_place → Wrote s i [] s i
-wrote_none s i h = record { text = refl; behind = omega arith }
+pub wrote_none : (s : Writer) → s.at ≤ last_place → Wrote s [] s
+wrote_none s h = record { text = refl; behind = omega arith; same = refl }
 
-pub length_wrote : {s t q : List ℕ} {i r : ℕ} → Wrote s i t q r → length q ≡ length s
-length_wrote {s} {t} {q} {i} {r} w = ap length w.text ∙ length-sets s i t
+pub length_wrote : {s q : Writer} {t : List ℕ} → Wrote s t q → length q.out.now ≡ length s.out.now
+length_wrote {s} {t = t} w = ap length w.text ∙ length-sets s.out.now s.at t
 
 -- the same text, said otherwise
-pub wrote_same : {s t u q : List ℕ} {i r : ℕ} → t ≡ u → Wrote s i t q r → Wrote s i u q r
-wrote_same {s} {t} {u} {q} {i} {r} e w = subst (λ z. Wrote s i z q r) e w
+pub wrote_same : {s q : Writer} {t u : List ℕ} → t ≡ u → Wrote s t q → Wrote s u q
+wrote_same {s} {q} e w = subst (λ z. Wrote s z q) e w
 
 -- one text behind another. A slice's length is a usize; what the first text left is as long.
-pub then : {s o q t u : List ℕ} {i j r : ℕ} → length s ≤ last_place → Wrote s i t o j → (length o ≤ last_place → Wrote o j u q r) → Wrote s i (t ++ u) q r
-then {s} {o} {q} {t} {u} {i} {j} {r} h a f =
+pub then : {s o q : Writer} {t u : List ℕ} → length s.out.now ≤ last_place → Wrote s t o → (length o.out.now ≤ last_place → Wrote o u q) → Wrote s (t ++ u) q
+then {s} {o} {q} {t} {u} h a f =
     let b = f (omega (arith, length_wrote a)) in record {
-      text = b.text ∙ ap₂ (λ y z. sets y z u) a.text a.behind ∙ joined (leb (i + length t) last_place) refl ∙ sym (sets_append s i t u);
-      behind = b.behind ∙ ap (λ z. up_to (z + length u)) a.behind ∙ further i (length t) (length u) ∙ ap (λ z. up_to (i + z)) (sym (length-append t u));
+      text = b.text ∙ ap₂ (λ y z. sets y z u) a.text a.behind ∙ joined (leb (s.at + length t) last_place) refl ∙ sym (sets_append s.out.now s.at t u);
+      behind = b.behind ∙ ap (λ z. up_to (z + length u)) a.behind ∙ further s.at (length t) (length u) ∙ ap (λ z. up_to (s.at + z)) (sym (length-append t u));
+      same = b.same ∙ a.same;
     }
   where
     further : (i a b : ℕ) → up_to (up_to (i + a) + b) ≡ up_to (i + (a + b))
     further i a b = omega arith
 
-    joined : (c : Bool) → leb (i + length t) last_place ≡ c → sets (sets s i t) (up_to (i + length t)) u ≡ sets (sets s i t) (i + length t) u
+    joined : (c : Bool) → leb (s.at + length t) last_place ≡ c → sets (sets s.out.now s.at t) (up_to (s.at + length t)) u ≡ sets (sets s.out.now s.at t) (s.at + length t) u
     joined true e =
-        let l = leb-true (i + length t) last_place e in
-        ap (λ z. sets (sets s i t) z u) (omega arith)
+        let l = leb-true (s.at + length t) last_place e in
+        ap (λ z. sets (sets s.out.now s.at t) z u) (omega arith)
     joined false e =
-        let l = leb-false (i + length t) last_place e in
-        let k = length-sets s i t in
-        sets_past (sets s i t) (up_to (i + length t)) u (omega arith) ∙ sym (sets_past (sets s i t) (i + length t) u (omega arith))
+        let l = leb-false (s.at + length t) last_place e in
+        let k = length-sets s.out.now s.at t in
+        sets_past (sets s.out.now s.at t) (up_to (s.at + length t)) u (omega arith) ∙ sym (sets_past (sets s.out.now s.at t) (s.at + length t) u (omega arith))
 
 flatten_snoc : (l : List (List ℕ)) (t : List ℕ) → flatten (l ++ (t ∷ [])) ≡ flatten l ++ t
 unfolding flatten
@@ -58,7 +60,8 @@ flatten_snoc (u ∷ l) t = ap (λ z. u ++ z) (flatten_snoc l t) ∙ sym (append_
 pub flatten_again : (f : ℕ → List ℕ) (n : ℕ) → flatten (table f n) ++ f n ≡ flatten (table f (n + 1))
 flatten_again f n = sym (ap flatten (table_again f n) ∙ flatten_snoc (table f n) (f n))
 
--- Where there is room, the text stands in front, the rest is as it was, and the answer is the text's length.
-pub wrote_whole : {s t q : List ℕ} {r : ℕ} → length s ≤ last_place → length t ≤ length s → Wrote s 0 t q r → (q ≡ t ++ drop (length t) s) × (r ≡ length t)
-wrote_whole {s} {t} {q} {r} h k w =
-    (w.text ∙ sets-eq t s 0 (omega arith) ∙ ap (λ z. t ++ drop z s) (zero-add (length t)), omega (arith, w.behind))
+-- Where there is room, the text stands in front, the rest is as it was, and the place is the text's length.
+pub wrote_whole : {s q : Writer} {t : List ℕ} → s.at ≡ 0 → length s.out.now ≤ last_place → length t ≤ length s.out.now → Wrote s t q
+    → (q.out.now ≡ t ++ drop (length t) s.out.now) × (q.at ≡ length t)
+wrote_whole {s} {t = t} e h k w =
+    (w.text ∙ ap (λ z. sets s.out.now z t) e ∙ sets-eq t s.out.now 0 (omega arith) ∙ ap (λ z. t ++ drop z s.out.now) (zero-add (length t)), omega (arith, w.behind))

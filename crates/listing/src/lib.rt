@@ -1,131 +1,82 @@
-// The bytes that `stakebook` prints, written into lent memory, and the writers that they are made of.
-// Every writer puts a text at a place as far as there is room, changes nothing else, and answers the place behind the whole text: from 0 on,
+// The bytes that `stakebook` prints, written into lent memory, and the writer that they are made with.
+// Every function puts a text at the writer's place as far as there is room, changes nothing else, and leaves the place behind the whole text: from 0 on,
 // the length needed.
 #![tactic(auto)]
 
 mod writing;
 
-ghost use Rattle.std.specs.Prelude.{◌≡◌, ◌+◌, ◌≤◌, min, length};
-ghost use Rattle.listing.specs.Listing.{c_line, c_lines, listing, loss_line, loss_lines, total_line, loss_listing, refused_line};
+ghost use Rattle.listing.specs.Listing.{c_line, listing, loss_line, total_line, loss_listing, refused_line};
 ghost use Rattle.listing.specs.Writing.{Wrote};
 
 use basis::Degree;
-pub use writing::{put_byte, put_decimal, put_double, put_hex, put_line, put_number, put_text};
+pub use writing::Writer;
 
 // A c line: index, coefficient and error.
-fn put_c_line(out: &mut [u8], at: usize, i: u64, c: f64, e: f64) -> usize
-    ensures { Wrote out.old at (c_line i c e) out.new result }
+fn put_c_line(w: &mut Writer, i: u64, c: f64, e: f64)
+    ensures { Wrote w.old (c_line i c e) w.new }
 {
-    let word = b"c";
-    let a = put_text(out, at, word);
-    let b = put_number(out, a, i);
-    let d = put_double(out, b, c);
-    let f = put_double(out, d, e);
-    put_byte(out, f, b'\n')
+    w.text(b"c");
+    w.number(i);
+    w.double(c);
+    w.double(e);
+    w.byte(b'\n');
 }
 
-// The first k c lines.
-fn put_c_lines(out: &mut [u8], at: usize, k: usize, coefficients: &[f64], errors: &[f64]) -> usize
-    requires { (k ≤ length coefficients.now) × (k ≤ length errors.now) }
-    ensures { Wrote out.old at (c_lines k coefficients.now errors.now) out.new result }
-{
-    let mut here = at;
-    let mut i = 0;
-    while i < k {
-        here = put_c_line(out, here, i as u64, coefficients[i], errors[i]);
-        i += 1;
-    }
-    here
-}
-
-fn smaller(a: usize, b: usize) -> usize
-    ensures { result ≡ min a b }
-{
-    if a < b { a } else { b }
-}
-
-// How many c lines a degree has, if n coefficients and errors are given.
-fn c_count(degree: Degree, n: usize) -> usize
-    ensures { result ≡ min (degree.0 + 1) n }
-{
-    let d = degree.0;
-    if d < n { d + 1 } else { n }
-}
-
-// The listing of a report on n samples. Answers its length, which is above the buffer's where it doesn't fit.
+// The listing of a report on n samples.
 pub fn write_listing(
-    out: &mut [u8],
+    w: &mut Writer,
     n: usize,
     degree: Degree,
     coefficients: &[f64],
     errors: &[f64],
     outliers: usize,
     pruned: usize,
-) -> usize
-    ensures { Wrote out.old 0 (listing n degree.0 coefficients.now errors.now outliers pruned) out.new result }
+)
+    ensures { Wrote w.old (listing n degree.0 coefficients.now errors.now outliers pruned) w.new }
 {
-    let given = smaller(coefficients.len(), errors.len());
-    let k = c_count(degree, given);
-    let d = degree.0;
-    let word1 = b"n";
-    let a = put_line(out, 0, word1, n as u64);
-    let word2 = b"degree";
-    let b = put_line(out, a, word2, d as u64);
-    let c = put_c_lines(out, b, k, coefficients, errors);
-    let word3 = b"outliers";
-    let e = put_line(out, c, word3, outliers as u64);
-    let word4 = b"pruned";
-    put_line(out, e, word4, pruned as u64)
+    w.line(b"n", n as u64);
+    w.line(b"degree", degree.0 as u64);
+    let terms = degree.0.saturating_add(1);
+    for (i, (c, e)) in coefficients.iter().zip(errors).take(terms).enumerate() {
+        put_c_line(w, i as u64, *c, *e);
+    }
+    w.line(b"outliers", outliers as u64);
+    w.line(b"pruned", pruned as u64);
 }
 
 // A loss line: index and loss.
-fn put_loss_line(out: &mut [u8], at: usize, i: u64, loss: f64) -> usize
-    ensures { Wrote out.old at (loss_line i loss) out.new result }
+fn put_loss_line(w: &mut Writer, i: u64, loss: f64)
+    ensures { Wrote w.old (loss_line i loss) w.new }
 {
-    let word = b"loss";
-    let a = put_text(out, at, word);
-    let b = put_number(out, a, i);
-    let c = put_double(out, b, loss);
-    put_byte(out, c, b'\n')
-}
-
-// The first n loss lines.
-fn put_loss_lines(out: &mut [u8], at: usize, n: usize, losses: &[f64]) -> usize
-    requires { n ≤ length losses.now }
-    ensures { Wrote out.old at (loss_lines n losses.now) out.new result }
-{
-    let mut here = at;
-    let mut i = 0;
-    while i < n {
-        here = put_loss_line(out, here, i as u64, losses[i]);
-        i += 1;
-    }
-    here
+    w.text(b"loss");
+    w.number(i);
+    w.double(loss);
+    w.byte(b'\n');
 }
 
 // The line of the total of the losses.
-fn put_total(out: &mut [u8], at: usize, total: f64) -> usize
-    ensures { Wrote out.old at (total_line total) out.new result }
+fn put_total(w: &mut Writer, total: f64)
+    ensures { Wrote w.old (total_line total) w.new }
 {
-    let word = b"total";
-    let a = put_text(out, at, word);
-    let b = put_double(out, a, total);
-    put_byte(out, b, b'\n')
+    w.text(b"total");
+    w.double(total);
+    w.byte(b'\n');
 }
 
-// The losses of n samples, line by line, and their total, from a place on. Answers the place behind them.
-pub fn write_losses(out: &mut [u8], at: usize, n: usize, losses: &[f64], total: f64) -> usize
-    ensures { Wrote out.old at (loss_listing n losses.now total) out.new result }
+// The losses of n samples, line by line, and their total.
+pub fn write_losses(w: &mut Writer, n: usize, losses: &[f64], total: f64)
+    ensures { Wrote w.old (loss_listing n losses.now total) w.new }
 {
-    let k = smaller(n, losses.len());
-    let a = put_loss_lines(out, at, k, losses);
-    put_total(out, a, total)
+    let told = &losses[..n.min(losses.len())];
+    for (i, loss) in told.iter().enumerate() {
+        put_loss_line(w, i as u64, *loss);
+    }
+    put_total(w, total);
 }
 
-// The line of a refusal. Answers its length.
-pub fn write_refused(out: &mut [u8], refused: u8) -> usize
-    ensures { Wrote out.old 0 (refused_line refused) out.new result }
+// The line of a refusal.
+pub fn write_refused(w: &mut Writer, refused: u8)
+    ensures { Wrote w.old (refused_line refused) w.new }
 {
-    let word = b"refused";
-    put_line(out, 0, word, refused as u64)
+    w.line(b"refused", refused as u64);
 }

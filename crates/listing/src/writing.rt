@@ -1,94 +1,79 @@
-// Writers of bytes, texts and numbers into lent memory.
-ghost use Rattle.std.specs.Prelude.{◌≡◌, [], ◌∷◌, ◌+◌, ◌<◌};
-ghost use Rattle.listing.specs.Text.{glyph as Text·glyph, decimal, hexadecimal, bits_of, line};
-ghost use Rattle.listing.specs.Writing.{Wrote, up_to};
+// A writer of bytes, texts and numbers into lent memory.
+ghost use Rattle.std.specs.Prelude.{[], ◌∷◌};
+ghost use Rattle.listing.specs.Text.{decimal, hexadecimal, bits_of, line};
 
-// The place behind a place; the last place stays.
-fn behind(at: usize) -> usize
-    ensures { result ≡ up_to (at + 1) }
-{
-    if at < 0xFFFF_FFFF_FFFF_FFFF {
-        at + 1
-    } else {
-        at
+// The digits of `hex`.
+const HEX: [u8; 16] = *b"0123456789ABCDEF";
+
+// Lent memory, and the place in it where the next byte goes. Past the memory's end bytes are counted and not written, so that the place tells the length
+// needed; the last place stays.
+#[derive(Drop)]
+pub struct Writer<'a> {
+    pub out: &'a mut [u8],
+    pub at: usize,
+}
+
+impl Writer<'_> {
+    ghost use Rattle.listing.specs.Writing.{Wrote};
+
+    // One byte.
+    pub fn byte(&mut self, b: u8)
+        ensures { Wrote self.old (b ∷ []) self.new }
+    {
+        if self.at < self.out.len() {
+            self.out[self.at] = b;
+        }
+        self.at = self.at.saturating_add(1);
     }
-}
 
-// One byte.
-pub fn put_byte(out: &mut [u8], at: usize, b: u8) -> usize
-    ensures { Wrote out.old at (b ∷ []) out.new result }
-{
-    let next = behind(at);
-    if at < out.len() {
-        out[at] = b;
-        return next;
+    // The bytes of a text.
+    pub fn text(&mut self, text: &[u8])
+        ensures { Wrote self.old text.now self.new }
+    {
+        for b in text {
+            self.byte(*b);
+        }
     }
-    next
-}
 
-// The bytes of a text.
-pub fn put_text(out: &mut [u8], at: usize, text: &[u8]) -> usize
-    ensures { Wrote out.old at text.now out.new result }
-{
-    let mut here = at;
-    let mut i = 0;
-    while i < text.len() {
-        here = put_byte(out, here, text[i]);
-        i += 1;
+    // A number in decimal digits.
+    pub fn decimal(&mut self, n: u64)
+        ensures { Wrote self.old (decimal n) self.new }
+    {
+        self.text(itoa::Buffer::new().format(n).as_bytes());
     }
-    here
-}
 
-// A number in decimal digits.
-pub fn put_decimal(out: &mut [u8], at: usize, n: u64) -> usize
-    ensures { Wrote out.old at (decimal n) out.new result }
-{
-    let mut digits = [0u8; 20];
-    let k = io::decimal(n, &mut digits);
-    put_text(out, at, &digits[..k])
-}
-
-fn glyph(d: u64) -> u8
-    requires { d < 16 }
-    ensures { result ≡ Text·glyph d }
-{
-    if d < 10 { 48 + d as u8 } else { 55 + d as u8 }
-}
-
-// A word in 16 hexadecimal digits, capitals.
-pub fn put_hex(out: &mut [u8], at: usize, n: u64) -> usize
-    ensures { Wrote out.old at (hexadecimal n) out.new result }
-{
-    let mut here = at;
-    let mut i: u64 = 0;
-    while i < 16 {
-        here = put_byte(out, here, glyph((n >> (60 - 4 * i)) % 16));
-        i += 1;
+    // A word in 16 hexadecimal digits, capitals.
+    pub fn hex(&mut self, n: u64)
+        ensures { Wrote self.old (hexadecimal n) self.new }
+    {
+        for i in 0..16u64 {
+            let digit = (n >> (60 - 4 * i)) % 16;
+            self.byte(HEX[digit as usize]);
+        }
     }
-    here
-}
 
-// A space and a number in decimal digits.
-pub fn put_number(out: &mut [u8], at: usize, n: u64) -> usize
-    ensures { Wrote out.old at (32 ∷ decimal n) out.new result }
-{
-    let here = put_byte(out, at, b' ');
-    put_decimal(out, here, n)
-}
+    // A space and a number in decimal digits.
+    pub fn number(&mut self, n: u64)
+        ensures { Wrote self.old (32 ∷ decimal n) self.new }
+    {
+        self.byte(b' ');
+        self.decimal(n);
+    }
 
-// A space and a double's bits in hexadecimal digits; 7FF8000000000000 for a NaN.
-pub fn put_double(out: &mut [u8], at: usize, x: f64) -> usize
-    ensures { Wrote out.old at (32 ∷ bits_of x) out.new result }
-{
-    let here = put_byte(out, at, b' ');
-    put_hex(out, here, value::to_bits(x))
-}
+    // A space and a double's bits in hexadecimal digits; 7FF8000000000000 for a NaN.
+    pub fn double(&mut self, x: f64)
+        ensures { Wrote self.old (32 ∷ bits_of x) self.new }
+    {
+        self.byte(b' ');
+        self.hex(value::to_bits(x));
+    }
 
-// A line of a word and a number.
-pub fn put_line(out: &mut [u8], at: usize, word: &[u8], n: u64) -> usize
-    ensures { Wrote out.old at (line word.now (decimal n ∷ [])) out.new result }
-{
-    let a = put_text(out, at, word);
-    let b = put_number(out, a, n);
-    put_byte(out, b, b'\n')
+    // A line of a word and a number.
+    pub fn line(&mut self, word: &[u8], n: u64)
+        ensures { Wrote self.old (line word.now (decimal n ∷ [])) self.new }
+    {
+        self.text(word);
+        self.number(n);
+        self.byte(b'\n');
+    }
 }

@@ -1,19 +1,17 @@
 -- One call: what it answers becomes its results, and what it leaves the next state.
+use Rattle.std.specs.Prelude.{Ok, Err}
 use mathlib.Core.Path.{◌≡◌, refl, ap, subst, ◌∙◌}
 use mathlib.Core.List.{List, ◌++◌}
 use Prim.Native.Nat.{ℕ, zero, suc, ◌+◌, ◌-◌, ◌≤◌, ◌<◌}
 use native.Mathlib.Omega.{arith}
 use lib.ListN.{length, take, drop}
 use lib.Ieee.{Float}
-use Rattle.book.specs.declared.Answer.{Answer}
-use Rattle.book.specs.declared.Answer.TheVariants as answers
-use Rattle.book.specs.Calls.{Is, State, state_of, book_after, add_out, correct_out, withdraw_out}
+use Rattle.refusal.specs.Named.{number}
+use Rattle.book.specs.Calls.{Answer, Is, State, state_of, book_after, add_out, correct_out, withdraw_out}
 use Rattle.samples.specs.Columns.{Columns}
 use Rattle.settings.specs.declared.Settings.{Settings}
 use Rattle.reporting.specs.declared.Places.{Places}
-use Rattle.reporting.specs.declared.ReportAnswer.{ReportAnswer}
-use Rattle.reporting.specs.declared.ReportAnswer.TheVariants as tells
-use Rattle.reporting.specs.Reports.{ReportOut, Does}
+use Rattle.reporting.specs.Reports.{ReportAnswer, ReportOut, Does}
 use Rattle.reporting.specs.Outputs.{Outputs, nothing, places_of}
 use Rattle.ledger.specs.Ledger.{said, changes, reads, Change, adds, corrects, withdraws, out_of, next, reply}
 use Rattle.ledger.specs.ReadCalls.{reports, read_on}
@@ -26,23 +24,23 @@ use Rattle.replay.proofs.Laws.{window_over, window_length, over_nothing}
 -- what is recorded of an answer
 pub change_count : (n : ℕ) (a : Answer) → (change_record n a).count ≡ book_after n a
 unfolding change_record
-change_count n (answers.Book b) = refl
-change_count n (answers.Refused r) = refl
+change_count n (Ok b) = refl
+change_count n (Err r) = refl
 
 change_results : (n : ℕ) (a : Answer) → results_in (change_record n a) ≡ results_of (said a)
 unfolding change_record results_of
-change_results n (answers.Book b) = refl
-change_results n (answers.Refused r) = refl
+change_results n (Ok b) = refl
+change_results n (Err r) = refl
 
 pub report_count : (n : ℕ) (a : ReportAnswer) → (report_record n a).count ≡ n
 unfolding report_record
-report_count n (tells.Report d s o p) = refl
-report_count n (tells.Refused r) = refl
+report_count n (Ok r) = refl
+report_count n (Err r) = refl
 
 pub report_results_lem : (n : ℕ) (a : ReportAnswer) → results_in (report_record n a) ≡ report_results a
 unfolding report_record
-report_results_lem n (tells.Report d s o p) = refl
-report_results_lem n (tells.Refused r) = refl
+report_results_lem n (Ok r) = refl
+report_results_lem n (Err r) = refl
 
 -- a call that changes a book
 module _ (s : State) (c : Change) (r : Answer) (d : Done) (left : Columns) (t : List Float) where

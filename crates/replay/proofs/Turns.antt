@@ -1,4 +1,5 @@
 -- The loop of a replay: one call, all calls so far, and all.
+use Rattle.std.specs.Prelude.{Some, None}
 use mathlib.Core.Path.{◌≡◌, refl, sym, ap, subst, ◌∙◌}
 use mathlib.Core.Bool.{true, false, false≢true}
 use mathlib.Core.List.{List, ◌++◌}
@@ -15,10 +16,9 @@ use Rattle.loops.specs.PlaceLaws.{length_table}
 use Rattle.runs.specs.Runs.{replies as replies_of}
 use Rattle.runs.specs.RunLaws.{length_replies, replies_table}
 use Rattle.lent.specs.Written.{over}
-use Rattle.book.specs.declared.Answer.{Answer}
 use Rattle.book.specs.Refusals.{open_refusal}
 use Rattle.refusal.specs.Refusals.{first_of}
-use Rattle.book.specs.Calls.{Is, State, state_of, book_of, book_after, open_out}
+use Rattle.book.specs.Calls.{Answer, Is, State, state_of, book_of, book_after, open_out}
 use Rattle.samples.specs.Columns.{Columns, no_columns, Column}
 use Rattle.settings.specs.declared.Settings.{Settings}
 use Rattle.reporting.specs.declared.Places.{Places}
@@ -29,7 +29,6 @@ use Rattle.ledger.specs.Ledger.{Call, Reply, next, reply, program, final, progra
 use Rattle.ledger.specs.ReadCalls.{ReadCall, Told, read_on}
 use Rattle.ledger.proofs.Book.{whole_book}
 use Rattle.replay.specs.declared.Done.{Done}
-use Rattle.replay.specs.declared.Replayed.TheVariants as replays
 use Rattle.replay.specs.Records.{settings_at, places_at, call_of, call_at, call_count, calls_of, well_formed}
 use Rattle.replay.specs.Replay.{Memory, Ran, ReplayIs, buffers_in, results_of, written_of, over_at, write_all, put_results, put_outputs}
 use Rattle.replay.specs.Steps.{results_in, change_record, Changed, Reported, Turned}
@@ -180,9 +179,9 @@ module _ (kinds words : List ℕ) (numbers : List Float) (width : ℕ) (m : Memo
 
 module _ (kinds words : List ℕ) (numbers : List Float) (width : ℕ) (m : Memory) where
   pub replay_malformed : well_formed kinds words numbers width (buffers_in m) ≡ false
-      → ReplayIs kinds words numbers width (record { found = m; left = m }) replays.Malformed
+      → ReplayIs kinds words numbers width (record { found = m; left = m }) None
   replay_malformed e = record { malformed = λ h. (refl, refl); ran = λ h. absurd (false≢true (sym e ∙ h)) }
 
   pub replay_ran : well_formed kinds words numbers width (buffers_in m) ≡ true → (n : ℕ) (m' : Memory) → Ran (calls_of kinds words numbers) width n m m'
-      → ReplayIs kinds words numbers width (record { found = m; left = m' }) (replays.Book (record { count = n }))
+      → ReplayIs kinds words numbers width (record { found = m; left = m' }) (Some (record { count = n }))
   replay_ran e n m' r = record { malformed = λ h. absurd (false≢true (sym h ∙ e)); ran = λ h. record { count = n; answer = refl; ran = r } }

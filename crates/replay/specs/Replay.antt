@@ -1,31 +1,29 @@
 -- What replaying a list of calls leaves, by the plain ledger. Definitions only.
-use Rattle.std.specs.Prelude.{◌≡◌, true, false, List, [], ◌∷◌, ◌++◌, ℕ, ◌+◌, ◌*◌, length, take, drop, Float}
-use Rattle.book.specs.declared.Answer.TheVariants as answers
+use Rattle.std.specs.Prelude.{◌≡◌, true, false, List, [], ◌∷◌, ◌++◌, ℕ, ◌+◌, ◌*◌, length, take, drop, Float, Option, Some, None, Ok, Err}
+use Rattle.refusal.specs.Named.{number}
+use Rattle.reporting.specs.Reports.{ReportAnswer}
 use Rattle.samples.specs.Columns.{Columns, columns_of}
 use Rattle.lent.specs.Written.{over}
-use Rattle.reporting.specs.declared.ReportAnswer.{ReportAnswer}
-use Rattle.reporting.specs.declared.ReportAnswer.TheVariants as reports
 use Rattle.reporting.specs.Outputs.{nothing, Outputs, LentOutputs, places_of}
 use Rattle.ledger.specs.Ledger.{Call, Reply, said, told, lent_of, final, opened, ledger_end, ledger_replies}
 use Rattle.ledger.specs.ReadCalls.{ReadCall, Told, fit_reply, band_reply, report_reply, split_reply, loss_reply, scores_reply, read_on}
 use Rattle.ledger.specs.Whole.{WholeBook}
 use Rattle.lent.specs.Slices.{Slice, before, after}
 use Rattle.replay.specs.declared.Buffers.{Buffers}
-use Rattle.replay.specs.declared.Replayed.{Replayed}
-use Rattle.replay.specs.declared.Replayed.TheVariants as replays
+use Rattle.book.specs.declared.Book.{Book}
 use Rattle.replay.specs.Records.{calls_of, well_formed}
 
 -- ---- what is recorded of a reply
 
 -- five results: the refusal's number, 0 for none; the book's count or the degree; solved degrees; outliers; pruned terms
 abbrev pub report_results : ReportAnswer → List ℕ
-report_results (reports.Report d s o p) = 0 ∷ d.0 ∷ s ∷ o ∷ p ∷ []
-report_results (reports.Refused r) = r ∷ 0 ∷ 0 ∷ 0 ∷ 0 ∷ []
+report_results (Ok r) = 0 ∷ r.degree.0 ∷ r.solved ∷ r.outliers ∷ r.pruned ∷ []
+report_results (Err r) = (number r) ∷ 0 ∷ 0 ∷ 0 ∷ 0 ∷ []
 
 -- (fits, validations, bands, losses and scores stand in no record)
 unfoldable pub results_of : Reply Told → List ℕ
-results_of (said (answers.Book b)) = 0 ∷ b.count ∷ 0 ∷ 0 ∷ 0 ∷ []
-results_of (said (answers.Refused r)) = r ∷ 0 ∷ 0 ∷ 0 ∷ 0 ∷ []
+results_of (said (Ok b)) = 0 ∷ b.count ∷ 0 ∷ 0 ∷ 0 ∷ []
+results_of (said (Err r)) = (number r) ∷ 0 ∷ 0 ∷ 0 ∷ 0 ∷ []
 results_of (told (report_reply o)) = report_results o.answer
 results_of (told (fit_reply o)) = 0 ∷ 0 ∷ 0 ∷ 0 ∷ 0 ∷ []
 results_of (told (band_reply o)) = 0 ∷ 0 ∷ 0 ∷ 0 ∷ 0 ∷ []
@@ -113,14 +111,14 @@ abbrev pub buffers_in : Memory → Buffers
 buffers_in m = buffers_of m.sums m.results m.outputs
 
 -- the answer is a book, and it and the memory are what the calls leave
-pub record RanBook (cs : List (Call ReadCall)) (width : ℕ) (m m' : Memory) (r : Replayed) : Type 0 where
+pub record RanBook (cs : List (Call ReadCall)) (width : ℕ) (m m' : Memory) (r : Option Book) : Type 0 where
   pub count : ℕ
-  pub answer : r ≡ replays.Book (record { count = count })
+  pub answer : r ≡ Some (record { count = count })
   pub ran : Ran cs width count m m'
 
 -- r is the answer, m the memory
-pub record ReplayIs (kinds words : List ℕ) (numbers : List Float) (width : ℕ) (m : LentMemory) (r : Replayed) : Type 0 where
+pub record ReplayIs (kinds words : List ℕ) (numbers : List Float) (width : ℕ) (m : LentMemory) (r : Option Book) : Type 0 where
   -- buffers that hold no list of calls: they say so, and no place is written
-  pub malformed : well_formed kinds words numbers width (buffers_in m.found) ≡ false → (r ≡ replays.Malformed) × (m.left ≡ m.found)
+  pub malformed : well_formed kinds words numbers width (buffers_in m.found) ≡ false → (r ≡ None) × (m.left ≡ m.found)
   -- any other: all its calls were run
   pub ran : well_formed kinds words numbers width (buffers_in m.found) ≡ true → RanBook (calls_of kinds words numbers) width m.found m.left r

@@ -1,12 +1,9 @@
 -- What one call of a replay leaves. Definitions only.
-use Rattle.std.specs.Prelude.{◌≡◌, List, [], ◌∷◌, ℕ, ◌+◌, ◌*◌, ◌≤◌, length, Float}
-use Rattle.book.specs.declared.Answer.{Answer}
-use Rattle.book.specs.declared.Answer.TheVariants as answers
-use Rattle.book.specs.Calls.{State, state_of}
+use Rattle.std.specs.Prelude.{◌≡◌, List, [], ◌∷◌, ℕ, ◌+◌, ◌*◌, ◌≤◌, length, Float, Ok, Err}
+use Rattle.refusal.specs.Named.{number}
+use Rattle.book.specs.Calls.{Answer, State, state_of}
 use Rattle.reporting.specs.declared.Places.{Places}
-use Rattle.reporting.specs.declared.ReportAnswer.{ReportAnswer}
-use Rattle.reporting.specs.declared.ReportAnswer.TheVariants as reports
-use Rattle.reporting.specs.Reports.{ReportOut}
+use Rattle.reporting.specs.Reports.{ReportAnswer, ReportOut}
 use Rattle.ledger.specs.Ledger.{Call, next, reply}
 use Rattle.ledger.specs.ReadCalls.{ReadCall, read_on}
 use Rattle.replay.specs.declared.Done.{Done}
@@ -20,13 +17,13 @@ results_in d = d.number ∷ d.size ∷ d.solved ∷ d.outliers ∷ d.pruned ∷ 
 
 -- after the answer of a call that changes a book of n samples
 unfoldable pub change_record : ℕ → Answer → Done
-change_record n (answers.Book b) = record { count = b.count; number = 0; size = b.count; solved = 0; outliers = 0; pruned = 0 }
-change_record n (answers.Refused r) = record { count = n; number = r; size = 0; solved = 0; outliers = 0; pruned = 0 }
+change_record n (Ok b) = record { count = b.count; number = 0; size = b.count; solved = 0; outliers = 0; pruned = 0 }
+change_record n (Err r) = record { count = n; number = (number r); size = 0; solved = 0; outliers = 0; pruned = 0 }
 
 -- after a report's
 unfoldable pub report_record : ℕ → ReportAnswer → Done
-report_record n (reports.Report d s o p) = record { count = n; number = 0; size = d.0; solved = s; outliers = o; pruned = p }
-report_record n (reports.Refused r) = record { count = n; number = r; size = 0; solved = 0; outliers = 0; pruned = 0 }
+report_record n (Ok r) = record { count = n; number = 0; size = r.degree.0; solved = r.solved; outliers = r.outliers; pruned = r.pruned }
+report_record n (Err r) = record { count = n; number = (number r); size = 0; solved = 0; outliers = 0; pruned = 0 }
 
 -- a call that changes a book
 pub record Changed (s : State) (c : Call ReadCall) (d : Done) (left : Columns) (sums : List Float) : Type 0 where

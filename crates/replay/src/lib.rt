@@ -13,16 +13,11 @@ ghost use Rattle.replay.specs.Steps.{results_in, change_record, report_record, C
 ghost use Rattle.samples.specs.Columns.{columns_of};
 
 use basis::SUMS;
-use book::{Answer, Book};
-use reporting::{Places, ReportAnswer};
+use book::Book;
+use refusal::Refusal;
+use reporting::{Places, Report};
+use samples::Sample;
 use settings::Settings;
-
-// How a replay ends: with the book after the last call, or because the buffers do not hold a list of calls.
-#[derive(Clone, Copy)]
-pub enum Replayed {
-    Book(Book),
-    Malformed,
-}
 
 // How many places the buffers have that are written.
 #[derive(Clone, Copy)]
@@ -165,69 +160,54 @@ fn well_formed(kinds: &[u32], words: &[usize], numbers: &[f64], width: usize, b:
 }
 
 // After the answer of a call that changes a book.
-fn record_change(old: Book, a: Answer) -> Done
-    ensures { result ≡ change_record old.count a }
+fn record_change(old: Book, answer: Result<Book, Refusal>) -> Done
+    ensures { result ≡ change_record old.count answer }
 {
-    match a {
-        Answer::Book(b) => {
-            let n = b.count;
-            Done {
-                count: n,
-                number: 0,
-                size: n,
-                solved: 0,
-                outliers: 0,
-                pruned: 0,
-            }
-        }
-        Answer::Refused(k) => {
-            let n = old.count;
-            let number = k as usize;
-            Done {
-                count: n,
-                number,
-                size: 0,
-                solved: 0,
-                outliers: 0,
-                pruned: 0,
-            }
-        }
+    let none = Done {
+        count: old.count,
+        number: 0,
+        size: 0,
+        solved: 0,
+        outliers: 0,
+        pruned: 0,
+    };
+    match answer {
+        Ok(book) => Done {
+            count: book.count,
+            size: book.count,
+            ..none
+        },
+        Err(refusal) => Done {
+            number: u8::from(refusal) as usize,
+            ..none
+        },
     }
 }
 
 // After a report's.
-fn record_report(old: Book, a: ReportAnswer) -> Done
-    ensures { result ≡ report_record old.count a }
+fn record_report(old: Book, answer: Result<Report, Refusal>) -> Done
+    ensures { result ≡ report_record old.count answer }
 {
-    let n = old.count;
-    match a {
-        ReportAnswer::Report {
-            degree,
-            solved,
-            outliers,
-            pruned,
-        } => {
-            let size = degree.0;
-            Done {
-                count: n,
-                number: 0,
-                size,
-                solved,
-                outliers,
-                pruned,
-            }
-        }
-        ReportAnswer::Refused(k) => {
-            let number = k as usize;
-            Done {
-                count: n,
-                number,
-                size: 0,
-                solved: 0,
-                outliers: 0,
-                pruned: 0,
-            }
-        }
+    let none = Done {
+        count: old.count,
+        number: 0,
+        size: 0,
+        solved: 0,
+        outliers: 0,
+        pruned: 0,
+    };
+    match answer {
+        Ok(report) => Done {
+            size: report.degree.0,
+            solved: report.solved,
+            outliers: report.outliers,
+            pruned: report.pruned,
+            ..none
+        },
+        Err(refusal) => Done {
+            number: u8::from(refusal) as usize,
+            ..none
+        },
     }
 }
 
@@ -262,7 +242,7 @@ fn change(
     ensures { Changed (state_of book.count (columns_of (before xs) (before ys) (before ws)) (before sums)) (call_of kind index x y w settings places) result (columns_of (after xs) (after ys) (after ws)) (after sums) }
 {
     if kind == 0 {
-        let a = book::add(book, x, y, w, xs, ys, ws, sums);
+        let a = book::add(book, Sample { x, y, w }, xs, ys, ws, sums);
         return record_change(book, a);
     }
     if kind == 1 {
@@ -403,14 +383,13 @@ fn run(
     requires { well_formed kinds.now words.now numbers.now width (buffers_of sums.old results.old (outputs_now scratch coefficients errors pruned lower upper outliers)) ≡ true }
     ensures { RunIs (calls_of kinds.now words.now numbers.now) width result.count (memory xs ys ws sums results (outputs scratch coefficients errors pruned lower upper outliers)) }
 {
-    let a = book::open(sums);
-    let first = record_change(Book { count: 0 }, a);
-    let mut count = first.count;
+    let answer = book::open(sums);
+    let first = record_change(Book { count: 0 }, answer);
+    let mut book = Book { count: first.count };
     let m = kinds.len() / 5;
-    let mut k = 0;
-    while k < m {
-        let book = turn(
-            Book { count: count },
+    for k in 0..m {
+        book = turn(
+            book,
             kinds,
             words,
             numbers,
@@ -429,13 +408,11 @@ fn run(
             upper,
             outliers,
         );
-        count = book.count;
-        k += 1;
     }
-    Book { count: count }
+    book
 }
 
-// The calls are run where the buffers hold a list of calls; else nothing is written.
+// The calls are run where the buffers hold a list of calls, and the book after the last call is answered; else nothing is written.
 pub fn replay(
     kinds: &[u32],
     words: &[usize],
@@ -453,7 +430,7 @@ pub fn replay(
     lower: &mut [f64],
     upper: &mut [f64],
     outliers: &mut [u8],
-) -> Replayed
+) -> Option<Book>
     ensures { ReplayIs kinds.now words.now numbers.now width (memory xs ys ws sums results (outputs scratch coefficients errors pruned lower upper outliers)) result }
 {
     let places = Places {
@@ -471,7 +448,7 @@ pub fn replay(
         outputs: places,
     };
     if !well_formed(kinds, words, numbers, width, b) {
-        return Replayed::Malformed;
+        return None;
     }
     let book = run(
         kinds,
@@ -491,5 +468,5 @@ pub fn replay(
         upper,
         outliers,
     );
-    Replayed::Book(book)
+    Some(book)
 }

@@ -9,10 +9,10 @@ use Rattle.capi.proofs.packed_band.Goals as goal
 pub bounds-numbers-1 : goal.bounds-numbers-1
 bounds-numbers-1 c = simp length-set (omega (arith, c.requires))
 
-pub returns-in-Band : goal.returns-in-Band
+pub returns-in-Ok : goal.returns-in-Ok
 unfolding packed_band band_numbers
-returns-in-Band c = rw c.in-Band.is (refl, three_written _ _ _ c.args.numbers.now c.requires)
+returns-in-Ok c = rw c.in-Ok.is (refl, three_written _ _ _ c.args.numbers.now c.requires)
 
-pub returns-in-Refused : goal.returns-in-Refused
+pub returns-in-Err : goal.returns-in-Err
 unfolding packed_band band_numbers
-returns-in-Refused c = rw c.in-Refused.is (c.refused.ensures, refl)
+returns-in-Err c = rw c.in-Err.is (c.refused.ensures, refl)

@@ -4,10 +4,10 @@ use Rattle.capi.specs.Packed.{packed_losses, loss_numbers}
 use Rattle.capi.proofs.Promises.{two_written}
 use Rattle.capi.proofs.packed_losses.Goals as goal
 
-pub returns-in-Losses : goal.returns-in-Losses
+pub returns-in-Ok : goal.returns-in-Ok
 unfolding packed_losses loss_numbers
-returns-in-Losses c = rw c.in-Losses.is (refl, two_written _ _ c.args.numbers.now c.requires)
+returns-in-Ok c = rw c.in-Ok.is (refl, two_written _ _ c.args.numbers.now c.requires)
 
-pub returns-in-Refused : goal.returns-in-Refused
+pub returns-in-Err : goal.returns-in-Err
 unfolding packed_losses loss_numbers
-returns-in-Refused c = rw c.in-Refused.is (c.refused.ensures, refl)
+returns-in-Err c = rw c.in-Err.is (c.refused.ensures, refl)

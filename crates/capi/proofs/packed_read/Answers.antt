@@ -9,10 +9,10 @@ use Rattle.capi.proofs.packed_read.Goals as goal
 pub bounds-numbers-1 : goal.bounds-numbers-1
 bounds-numbers-1 c = simp length-set (omega (arith, c.requires))
 
-pub returns-in-Sample : goal.returns-in-Sample
+pub returns-in-Some : goal.returns-in-Some
 unfolding packed_read read_numbers
-returns-in-Sample c = rw c.in-Sample.is (refl, three_written _ _ _ c.args.numbers.now c.requires)
+returns-in-Some c = rw c.in-Some.is (refl, three_written _ _ _ c.args.numbers.now c.requires)
 
-pub returns-in-End : goal.returns-in-End
+pub returns-in-None : goal.returns-in-None
 unfolding packed_read read_numbers
-returns-in-End c = rw c.in-End.is (refl, refl)
+returns-in-None c = rw c.in-None.is (refl, refl)

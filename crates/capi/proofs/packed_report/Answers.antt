@@ -6,13 +6,13 @@ use Rattle.capi.proofs.packed_report.Goals as goal
 pub fields-requires : goal.fields-requires
 unfolding ReportFits
 fields-requires c =
-    let fits = rw c.in-Report.is at c.requires in
+    let fits = rw c.in-Ok.is at c.requires in
     (omega (arith, fits.0), omega (arith, fits.1), omega (arith, fits.3), omega (arith, fits.2))
 
-pub returns-in-Report : goal.returns-in-Report
+pub returns-in-Ok : goal.returns-in-Ok
 unfolding packed_report
-returns-in-Report c = rw c.in-Report.is c.fields.ensures
+returns-in-Ok c = rw c.in-Ok.is c.fields.ensures
 
-pub returns-in-Refused : goal.returns-in-Refused
+pub returns-in-Err : goal.returns-in-Err
 unfolding packed_report
-returns-in-Refused c = rw c.in-Refused.is c.refused.ensures
+returns-in-Err c = rw c.in-Err.is c.refused.ensures

@@ -9,13 +9,13 @@ pub fields-requires : goal.fields-requires
 unfolding SplitFits
 fields-requires c =
     let given = c.requires.split_fits in
-    let fits = rw c.in-Split.is at given in
+    let fits = rw c.in-Ok.is at given in
     (omega (arith, fits.0), omega (arith, fits.1), omega (arith, fits.2), omega (arith, fits.3))
 
-pub returns-in-Split : goal.returns-in-Split
+pub returns-in-Ok : goal.returns-in-Ok
 unfolding packed_split split_total
-returns-in-Split c = rw c.in-Split.is (c.fields.ensures, one_written _ c.args.total.now c.requires.in_bounds)
+returns-in-Ok c = rw c.in-Ok.is (c.fields.ensures, one_written _ c.args.total.now c.requires.in_bounds)
 
-pub returns-in-Refused : goal.returns-in-Refused
+pub returns-in-Err : goal.returns-in-Err
 unfolding packed_split split_total
-returns-in-Refused c = rw c.in-Refused.is (c.refused.ensures, refl)
+returns-in-Err c = rw c.in-Err.is (c.refused.ensures, refl)

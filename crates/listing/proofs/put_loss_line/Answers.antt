@@ -7,4 +7,4 @@ use Rattle.listing.proofs.put_loss_line.Goals as goal
 
 pub returns : goal.returns
 unfolding loss_line line fields ascii
-returns c = then (omega (arith, c.well_formed)) c.put_text-a.ensures (λ h. then h c.put_number-b.ensures (λ k. then k c.put_double-c.ensures (λ _. c.put_byte.ensures)))
+returns c = then (omega arith) c.text.ensures (λ h. then h c.number.ensures (λ k. then k c.double.ensures (λ _. c.byte.ensures)))

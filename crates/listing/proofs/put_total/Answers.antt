@@ -7,4 +7,4 @@ use Rattle.listing.proofs.put_total.Goals as goal
 
 pub returns : goal.returns
 unfolding total_line line fields ascii
-returns c = then (omega (arith, c.well_formed)) c.put_text-a.ensures (λ h. then h c.put_double-b.ensures (λ _. c.put_byte.ensures))
+returns c = then (omega arith) c.text.ensures (λ h. then h c.double.ensures (λ _. c.byte.ensures))

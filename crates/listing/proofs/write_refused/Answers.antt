@@ -5,4 +5,4 @@ use Rattle.listing.proofs.write_refused.Goals as goal
 
 pub returns : goal.returns
 unfolding refused_line ascii
-returns c = c.put_line.ensures
+returns c = c.line.ensures

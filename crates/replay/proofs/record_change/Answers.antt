@@ -1,12 +1,12 @@
 -- `replay::record_change` meets its contract.
-use mathlib.Core.Path.{sym, ap}
+use mathlib.Core.Path.{refl, sym, ap}
 use Rattle.replay.specs.Steps.{change_record}
 use Rattle.replay.proofs.record_change.Goals as goal
 
-pub returns-in-Book : goal.returns-in-Book
+pub returns-in-Ok : goal.returns-in-Ok
 unfolding change_record
-returns-in-Book c = sym (ap (change_record c.args.old.count) c.in-Book.is)
+returns-in-Ok c = sym (ap (change_record c.args.old.count) c.in-Ok.is)
 
-pub returns-in-Refused : goal.returns-in-Refused
+pub returns-in-Err : goal.returns-in-Err
 unfolding change_record
-returns-in-Refused c = sym (ap (change_record c.args.old.count) c.in-Refused.is)
+returns-in-Err c = rw (c.in-Err.is, c.from.ensures) refl

@@ -3,10 +3,10 @@ use borrow.Author.Rules.{rules}
 use Rattle.capi.specs.Packed.{packed_opened}
 use Rattle.capi.proofs.packed.opened.Goals as goal
 
-pub returns-in-Cursor : goal.returns-in-Cursor
+pub returns-in-Ok : goal.returns-in-Ok
 unfolding packed_opened
-returns-in-Cursor c = search rules
+returns-in-Ok c = search rules
 
-pub returns-in-Refused : goal.returns-in-Refused
+pub returns-in-Err : goal.returns-in-Err
 unfolding packed_opened
-returns-in-Refused c = rw c.in-Refused.is c.refused.ensures
+returns-in-Err c = rw c.in-Err.is c.refused.ensures

@@ -1,12 +1,12 @@
 -- `capi::packed::replay` meets its contract.
-use borrow.Author.Rules.{rules}
+use Rattle.std.proofs.Common.{rules}
 use Rattle.capi.specs.Packed.{packed_replay}
 use Rattle.capi.proofs.packed.replay.Goals as goal
 
-pub returns-in-Book : goal.returns-in-Book
+pub returns-in-Some : goal.returns-in-Some
 unfolding packed_replay
-returns-in-Book c = search rules
+returns-in-Some c = search rules
 
-pub returns-in-Malformed : goal.returns-in-Malformed
+pub returns-in-None : goal.returns-in-None
 unfolding packed_replay
-returns-in-Malformed c = rw c.in-Malformed.is c.refused.ensures
+returns-in-None c = rw c.in-None.is

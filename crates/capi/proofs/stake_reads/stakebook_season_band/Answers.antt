@@ -5,11 +5,11 @@ use Rattle.capi.proofs.StakePromises.{beyond, few, enough, band_none, band_done}
 use Rattle.capi.proofs.stake_reads.stakebook_season_band.Goals as goal
 
 pub returns-then-stake-ge-STAKES : goal.returns-then-stake-ge-STAKES
-returns-then-stake-ge-STAKES c = band_none _ _ 18 (beyond _ _ _ _ _ c.if-stake-ge-STAKES.true) refl refl _ c.refused.ensures
+returns-then-stake-ge-STAKES c = band_none _ _ 18 refl (beyond _ _ _ _ _ c.if-stake-ge-STAKES.true) refl refl _ c.refused.ensures
 
 pub returns-then-numbers-lt-BAND : goal.returns-then-numbers-lt-BAND
 unfolding band_into
-returns-then-numbers-lt-BAND c = band_none _ _ 1 (few _ _ _ _ _ c.if-stake-ge-STAKES.false c.if-numbers-lt-BAND.true) refl refl _ c.refused-then-numbers-lt-BAND.ensures
+returns-then-numbers-lt-BAND c = band_none _ _ 1 refl (few _ _ _ _ _ c.if-stake-ge-STAKES.false c.if-numbers-lt-BAND.true) refl refl _ c.refused-then-numbers-lt-BAND.ensures
 
 pub returns : goal.returns
 unfolding band_into

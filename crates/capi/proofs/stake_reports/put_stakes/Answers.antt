@@ -21,7 +21,7 @@ packed_report-requires c = c.requires.stakes_fit.fits c.loop-stake.stake c.loop-
 
 pub loop-stake-preserved : goal.loop-stake-preserved
 loop-stake-preserved c =
-    let f : ℕ → ℕ → ℕ = λ k _. packed_report (get_or c.args.told.reports k past).answer in (
+    let f : ℕ → ℕ → ℕ = λ k _. packed_report (get_or c.args.told.reports k past) in (
       search rules,
       simp length-set c.loop-stake.invariant.1,
       rw (c.packed_report.ensures, c.loop-stake.invariant.2) (each_again f c.loop-stake.stake c.args.answers.now 0 (omega (arith, c.loop-stake-test.true, c.requires.stakes_in_bounds))),
