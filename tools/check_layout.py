@@ -15,7 +15,7 @@ import sys
 from itertools import takewhile, zip_longest
 from pathlib import Path
 
-KIT = {'check', 'io'}
+KIT = {'check', 'io', 'itoa'}
 LONGEST = 300
 CRATES = Path('crates')
 DESIGN = Path('docs/DESIGN.md')
