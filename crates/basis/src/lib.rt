@@ -11,7 +11,7 @@ pub const TERMS: usize = 16;
 
 pub const HIGHEST: usize = 15;
 
-// The places of A, and of A and g together.
+// The places of A, and of A and g together. Lent sums are slices of so many places or more, which a clause says, and no arrays: a user may lend more.
 pub const MATRIX: usize = 256;
 
 pub const SUMS: usize = 272;
@@ -29,7 +29,8 @@ pub enum Basis {
 #[derive(Clone, Copy)]
 pub struct Degree(pub usize);
 
-// The number of coefficients, k.
+// The number of coefficients, k. It has no bound of its own: `score` takes any count, and a bounded type would ask more of its callers. So clauses say that it is
+// at most 16 where 16 places are read.
 #[derive(Clone, Copy)]
 pub struct CoefficientCount(pub usize);
 

@@ -1,4 +1,5 @@
-// Writing to lent memory from its first place on, and taking a place out.
+// Writing to lent memory from its first place on, and taking a place out. Callers hold the whole memory and promise what stands past the first n places: a
+// cut at each call, with a law that joins the two parts again, is no plainer than a count beside the slice.
 #![tactic(auto)]
 
 ghost use Rattle.std.specs.Prelude.{◌≡◌, ◌++◌, ◌≤◌, ◌<◌, length, drop, replicate};

@@ -21,78 +21,65 @@ pub struct Settings {
 }
 
 // How a degree is bounded; a custom bound is the degree.
+#[tactic(auto, unfolding(crate::specs::Numbers::bound_of))]
 pub fn bound(number: u32, degree: usize) -> DegreeBound
     ensures { result ≡ bound_of number degree }
 {
-    if number == 0 {
-        return DegreeBound::Conservative;
+    match number {
+        0 => DegreeBound::Conservative,
+        1 => DegreeBound::Relaxed,
+        2 => DegreeBound::Aggressive,
+        _ => DegreeBound::Custom(Degree(degree)),
     }
-    if number == 1 {
-        return DegreeBound::Relaxed;
-    }
-    if number == 2 {
-        return DegreeBound::Aggressive;
-    }
-    DegreeBound::Custom(Degree(degree))
 }
 
+#[tactic(auto, unfolding(crate::specs::Numbers::criterion_of))]
 pub fn criterion(number: u32) -> Criterion
     ensures { result ≡ criterion_of number }
 {
-    if number == 0 {
-        return Criterion::Aic;
+    match number {
+        0 => Criterion::Aic,
+        _ => Criterion::Bic,
     }
-    Criterion::Bic
 }
 
 // A custom confidence is the z score.
+#[tactic(auto, unfolding(crate::specs::Numbers::confidence_of))]
 pub fn confidence(number: u32, score: f64) -> Confidence
     ensures { result ≡ confidence_of number score }
 {
-    if number == 0 {
-        return Confidence::P80;
+    match number {
+        0 => Confidence::P80,
+        1 => Confidence::P90,
+        2 => Confidence::P95,
+        3 => Confidence::P98,
+        4 => Confidence::P99,
+        5 => Confidence::P999,
+        _ => Confidence::Custom(score),
     }
-    if number == 1 {
-        return Confidence::P90;
-    }
-    if number == 2 {
-        return Confidence::P95;
-    }
-    if number == 3 {
-        return Confidence::P98;
-    }
-    if number == 4 {
-        return Confidence::P99;
-    }
-    if number == 5 {
-        return Confidence::P999;
-    }
-    Confidence::Custom(score)
 }
 
 // Every tolerance but none carries the value.
+#[tactic(auto, unfolding(crate::specs::Numbers::tolerance_of))]
 pub fn tolerance(number: u32, value: f64) -> Tolerance
     ensures { result ≡ tolerance_of number value }
 {
-    if number == 0 {
-        return Tolerance::None;
+    match number {
+        0 => Tolerance::None,
+        1 => Tolerance::Absolute(value),
+        2 => Tolerance::Variance(value),
+        _ => Tolerance::Measurement(value),
     }
-    if number == 1 {
-        return Tolerance::Absolute(value);
-    }
-    if number == 2 {
-        return Tolerance::Variance(value);
-    }
-    Tolerance::Measurement(value)
 }
 
+#[tactic(auto, unfolding(crate::specs::Numbers::pruning_of))]
 pub fn pruning(number: u32) -> PruningRule
     ensures { result ≡ pruning_of number }
 {
-    if number == 0 {
-        return PruningRule::Positive;
+    match number {
+        0 => PruningRule::Positive,
+        _ => PruningRule::Size,
     }
-    PruningRule::Size
 }
 
 // The settings by their numbers: the one place where the C interface and records build them.
@@ -126,20 +113,14 @@ pub fn numbered(
 fn word(words: &[u32], i: usize) -> u32
     ensures { result ≡ get_or words.now i 0 }
 {
-    if i < words.len() {
-        return words[i];
-    }
-    0
+    words.get(i).copied().unwrap_or(0)
 }
 
 // A value that is not lent is +0.
 fn value(values: &[f64], i: usize) -> f64
     ensures { result ≡ get_or values.now i zero_f }
 {
-    if i < values.len() {
-        return values[i];
-    }
-    0.0
+    values.get(i).copied().unwrap_or(0.0)
 }
 
 // The settings from lists, which grow with the settings: what is not lent is 0, and what is past the last setting is not read.

@@ -1,5 +1,5 @@
 -- The first places of a list, then +0, as the code copies them and as the definitions say it.
-use Rattle.std.proofs.Common.{◌≡◌, List, ◌++◌, ℕ, ◌+◌, ◌-◌, ◌*◌, ◌≤◌, length, get_or, take, drop, replicate, sym, ap, ◌∙◌, arith, length-drop}
+use Rattle.std.proofs.Common.{◌≡◌, List, ◌++◌, ℕ, ◌+◌, ◌-◌, ◌*◌, ◌≤◌, length, get_or, take, drop, replicate, sym, ap, ◌∙◌, arith, length-drop, length-take-le}
 use Rattle.std.proofs.lemmas.List.{length-replicate}
 use Rattle.std.proofs.Math.Seq.{get_or-drop}
 use Rattle.std.specs.Float.Ieee.{Float, nan}
@@ -23,3 +23,7 @@ right_is sums k h l =
 pub front_is : (k : ℕ) (b : List Float) → k ≤ 16 → length b ≡ 16 → take k b ++ drop k (replicate 16 zero_f) ≡ front k b
 unfolding front
 front_is k b h n = sym (each_copy nan k b (replicate 16 zero_f) (omega (arith, n)) (omega (arith, length-replicate 16 zero_f)))
+
+-- what is copied is cut to n places
+pub cut_is : (m n : ℕ) (l : List Float) → n ≤ length l → take n l ++ drop (length (take n l)) (replicate m zero_f) ≡ take n l ++ drop n (replicate m zero_f)
+cut_is m n l h = ap (λ k. take n l ++ drop k (replicate m zero_f)) (length-take-le n l h)

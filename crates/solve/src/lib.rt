@@ -28,12 +28,14 @@ pub fn eliminate(
     ensures { record { at = result; state = record { m = m.new; b = b.new } } ≡ eliminate_f start.now k.0 (record { m = m.old; b = b.old }) }
 {
     let n = k.0;
-    // Document 01 asks for loops with labels here, left at the first failing pivot; p is then how many held.
-    let mut p = 0;
-    'pivots: while p < n {
+    // Document 01 asks for loops with labels here, left at the first failing pivot.
+    // The loops here and below count: M[r][c] stands at 16r + c, a place that is worked out from two indices.
+    let mut held = n;
+    'pivots: for p in 0..n {
         let pp = 16 * p + p;
         let least = PIVOT_RATIO * start[pp];
         if !(m[pp] > least) {
+            held = p;
             break 'pivots;
         }
         'rows: for r in p + 1..n {
@@ -43,9 +45,8 @@ pub fn eliminate(
             }
             b[r] -= f * b[p];
         }
-        p += 1;
     }
-    p
+    held
 }
 
 // From the last row of m up, b becomes the k coefficients.
@@ -63,13 +64,13 @@ pub fn back_substitution(k: CoefficientCount, m: &[f64; MATRIX], b: &mut [f64; T
     }
 }
 
-// The first n places of s, then +0.
-fn front<const N: usize>(s: &[f64], n: usize) -> [f64; N]
-    requires { (n ≤ length s.now) × (n ≤ N) }
-    ensures { result ≡ take n s.now ++ drop n (replicate N zero_f) }
+// The values, then +0.
+fn front<const N: usize>(s: &[f64]) -> [f64; N]
+    requires { length s.now ≤ N }
+    ensures { result ≡ s.now ++ drop (length s.now) (replicate N zero_f) }
 {
     let mut a = [0.0; N];
-    a[..n].copy_from_slice(&s[..n]);
+    a[..s.len()].copy_from_slice(s);
     a
 }
 
@@ -103,8 +104,8 @@ pub fn eliminated(sums: &[f64], k: CoefficientCount) -> Elimination
 {
     let n = k.0;
     // No step for k coefficients reads past the first k rows.
-    let mut m = front(sums, 16 * n);
-    let mut b = front(&sums[MATRIX..], n);
+    let mut m = front(&sums[..16 * n]);
+    let mut b = front(&sums[MATRIX..][..n]);
     let held = eliminate(sums, k, &mut m, &mut b);
     Elimination { held, m, b }
 }
@@ -121,7 +122,7 @@ impl Elimination {
                 c: [0.0; TERMS],
             };
         }
-        let mut c = front(&self.b, k.0);
+        let mut c = front(&self.b[..k.0]);
         back_substitution(k, &self.m, &mut c);
         Solved { held: k.0, c }
     }
@@ -160,7 +161,7 @@ pub fn inverse(sums: &[f64], k: CoefficientCount) -> Inverted
     ensures { result ≡ inverse_f sums.now k.0 }
 {
     let n = k.0;
-    let mut l = front(sums, MATRIX);
+    let mut l = front(&sums[..MATRIX]);
     ridge(k, &mut l);
     let mut v = [0.0; MATRIX];
     for j in 0..n {

@@ -334,7 +334,8 @@ fn holds_nan(a: &[f64]) -> bool
     found
 }
 
-// Whether one of the deviations is a NaN, which an infinite d makes of an infinite size.
+// Whether one of the deviations is a NaN, which an infinite d makes of an infinite size. A loop of its own, as each sum has (sums.rt): a closure's contract
+// is longer than the loop, and most medians take the other.
 fn makes_nan(a: &[f64], d: f64) -> bool
     ensures { result ≡ any_nan (distances d a.now) }
 {

@@ -1,4 +1,5 @@
-// Sums in index order from +0.
+// Sums in index order from +0. Each has its own loop: tried as a `fold` of a closure, the proof didn't close, and a loop that is handed a closure has to
+// say what it asks of it, which is no plainer.
 ghost use Rattle.std.specs.Prelude.{◌≡◌, map};
 ghost use Rattle.std.specs.Float.{binary64};
 ghost use Rattle.std.specs.Float.Ieee.{sub};
