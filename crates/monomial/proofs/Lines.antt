@@ -1,20 +1,21 @@
 -- The lines of the corner, passed one after the other: line i is k places of A and one of g. f says what becomes of a place.
 use mathlib.Core.Path.{◌≡◌, refl, sym, ap, ◌∙◌}
 use mathlib.Core.Bool.{Bool, true, false}
-use mathlib.Core.List.{List, [], ◌∷◌}
+use mathlib.Core.List.{List}
 use Prim.Native.Nat.{ℕ, ◌+◌, ◌*◌, ◌≤◌, ◌<◌}
 use native.Mathlib.Omega.{arith}
 use borrow.Author.Tests.{ltb-true, ltb-false}
 use lib.Dec.{ltb}
-use lib.ListN.{length, get_or, set, drop, length-set, drop_of_length-le}
-use lib.Seq.{get_or-set_same, get_or-set_other, drop-append-le}
+use lib.ListN.{length, get_or, set, length-set}
+use lib.Seq.{get_or-set_same, get_or-set_other}
 use lib.Ieee.{Float, nan, binary64, add}
 use Rattle.loops.specs.Fold.{fold}
 use Rattle.loops.specs.FoldLaws.{fold_snoc}
+use Rattle.loops.specs.Places.{table}
 use Rattle.basis.specs.declared.Basis.{Basis}
 use Rattle.monomial.specs.Terms.{terms_at}
 use Rattle.monomial.specs.Rows.{row_at, WeightedRow, weighted_row, weight_at, weighted_at, weighted_rows_at}
-use Rattle.monomial.specs.RowLaws.{length_weighted_at, weighted_at_again}
+use Rattle.monomial.specs.RowLaws.{weighted_at_again}
 use Rattle.monomial.specs.Sums.{weighted_product, add_row, add_rows}
 use Rattle.monomial.specs.Corner.{SameCorner, CornerSet}
 use Rattle.monomial.specs.CornerLaws.{corner_itself, corner_then, add_row_at, row_corner, length_add_rows}
@@ -103,21 +104,19 @@ lines_done k s t r fits l w =
 
 -- ---- rows one after the other
 
-pub rows_none : (k start : ℕ) (basis : Basis) (xs zs ys ws s : List Float) → CornerSet k (add_rows s (drop start (weighted_rows_at basis start xs zs ys ws))) s s
-unfolding fold
-rows_none k start basis xs zs ys ws s =
-    rw (drop_of_length-le (weighted_rows_at basis start xs zs ys ws) {i = start} (omega (arith, length_weighted_at basis xs zs ys ws start)))
-    (record { long = refl; corner = corner_itself k s; rest = λ p e. refl })
+pub rows_none : (k : ℕ) (basis : Basis) (xs zs ys ws s : List Float) → CornerSet k (add_rows s (weighted_rows_at basis 0 xs zs ys ws)) s s
+unfolding fold weighted_rows_at table
+rows_none k basis xs zs ys ws s = record { long = refl; corner = corner_itself k s; rest = λ p e. refl }
 
-pub rows_more : (k t start : ℕ) (basis : Basis) (xs zs ys ws s u v terms : List Float) (w : Float) → k ≤ 16 → start ≤ t → 272 ≤ length s
-    → CornerSet k (add_rows s (drop start (weighted_rows_at basis t xs zs ys ws))) s u → terms ≡ terms_at basis (get_or xs t nan) (get_or zs t nan) → w ≡ weight_at ws t
-    → CornerSet k (add_row u (weighted_row terms (get_or ys t nan) w)) u v → CornerSet k (add_rows s (drop start (weighted_rows_at basis (t + 1) xs zs ys ws))) s v
+pub rows_more : (k t : ℕ) (basis : Basis) (xs zs ys ws s u v terms : List Float) (w : Float) → k ≤ 16 → 272 ≤ length s
+    → CornerSet k (add_rows s (weighted_rows_at basis t xs zs ys ws)) s u → terms ≡ terms_at basis (get_or xs t nan) (get_or zs t nan) → w ≡ weight_at ws t
+    → CornerSet k (add_row u (weighted_row terms (get_or ys t nan) w)) u v → CornerSet k (add_rows s (weighted_rows_at basis (t + 1) xs zs ys ws)) s v
 unfolding row_at weighted_at
-rows_more k t start basis xs zs ys ws s u v terms a fits h l w e b m =
-    rw (weighted_at_again basis xs zs ys ws t, drop-append-le start before (row ∷ []) (omega (arith, length_weighted_at basis xs zs ys ws t)), fold_snoc add_row s (drop start before) row)
+rows_more k t basis xs zs ys ws s u v terms a fits l w e b m =
+    rw (weighted_at_again basis xs zs ys ws t, fold_snoc add_row s before row)
     (record {
       long = m.long ∙ w.long;
-      corner = corner_then (same m) (row_corner k fits u (add_rows s (drop start before)) row (omega (arith, w.long)) (omega (arith, length_add_rows s (drop start before))) w.corner);
+      corner = corner_then (same m) (row_corner k fits u (add_rows s before) row (omega (arith, w.long)) (omega (arith, length_add_rows s before)) w.corner);
       rest = λ p q. m.rest p q ∙ w.rest p q;
     })
   where

@@ -6,12 +6,11 @@ use native.Mathlib.Omega.{arith}
 use lib.ListN.{length, get_or, set, take, drop, length-set, length-append, length-drop, get_or-append}
 use lib.Seq.{ext_get_or, get_or-set_same, get_or-set_other, get_or-take, get_or-drop, get_or-append-add, length-take-le, take_at, drop_at}
 use lib.Ieee.{Float, nan, binary64, add}
-use Rattle.loops.specs.Places.{each, table}
+use Rattle.loops.specs.Places.{each}
 use Rattle.loops.specs.PlaceLaws.{each_at, each_past, each_rest, each_same, each_split, length_each, tail_through}
-use Rattle.value.specs.Power.{power_f}
-use Rattle.basis.specs.declared.Basis.TheVariants.{Curve}
+use Rattle.basis.specs.declared.Basis.{Basis}
 use Rattle.monomial.specs.Terms.{terms_at}
-use Rattle.monomial.specs.Rows.{WeightedRow, weighted_row, weighted_of, row_at, row_of, weight_at, weighted_at, weighted_rows_at}
+use Rattle.monomial.specs.Rows.{WeightedRow, weighted_row, row_at, weight_at, weighted_at, weighted_rows_at}
 use Rattle.monomial.specs.Sums.{weighted_product, add_row, add_rows}
 use Rattle.monomial.specs.Parts.{without_y}
 use Rattle.monomial.specs.SumLaws.{length_add_row, weighted_no_y}
@@ -155,12 +154,10 @@ tails : (m : List Float) (r q : WeightedRow) → 256 ≤ length m → lent_tail 
 tails m r q h =
     rw (tail_through (added_g r 16) 256 m, tail_through (added_g q 16) 256 (take 256 m ++ added_g r 16 (drop 256 m)), take_at (take 256 m) (added_g r 16 (drop 256 m)) 256 (length-take-le 256 m h), drop_at (take 256 m) (added_g r 16 (drop 256 m)) 256 (length-take-le 256 m h))
 
-pub two_added : (u m terms later : List Float) (x y w next z v : Float) → 256 ≤ length u → terms ≡ table (power_f x) 16 → later ≡ table (power_f next) 16
-    → SameUpper m (added_two (weighted_row terms y w) (weighted_row later z v) u)
-    → SameUpper (lent_tail (weighted_row later z v) (lent_tail (weighted_row terms y w) m)) (add_row (add_row u (weighted_of (record { x = x; y = y; w = w }))) (weighted_of (record { x = next; y = z; w = v })))
-unfolding row_of
-two_added u m terms later x y w next z v h e d g =
-    rw (sym e, sym d, tails m r q l)
+pub two_added : (u m terms later : List Float) (y w z v : Float) → 256 ≤ length u → SameUpper m (added_two (weighted_row terms y w) (weighted_row later z v) u)
+    → SameUpper (lent_tail (weighted_row later z v) (lent_tail (weighted_row terms y w) m)) (add_row (add_row u (weighted_row terms y w)) (weighted_row later z v))
+two_added u m terms later y w z v h g =
+    rw (tails m r q l)
     (rw (two_parts u r q h) at (upper_tail m (added_two r q u) (λ t. added_g q 16 (added_g r 16 t)) l g))
   where
     r : WeightedRow
@@ -173,13 +170,21 @@ two_added u m terms later x y w next z v h e d g =
     l = omega (arith, g.long, length_each (λ k e. gains (without_y q) k (gains (without_y r) k e)) 256 u)
 
 -- one row more of the columns, and two
-pub one_more : (t : ℕ) (xs ys ws s u : List Float) (w : Float) → 272 ≤ length u → SameUpper u (add_rows s (weighted_rows_at Curve t xs xs ys ws)) → w ≡ weight_at ws t
-    → SameUpper (add_row u (weighted_of (record { x = get_or xs t nan; y = get_or ys t nan; w = w }))) (add_rows s (weighted_rows_at Curve (t + 1) xs xs ys ws))
-unfolding row_at row_of weighted_at terms_at
-one_more t xs ys ws s u w h i e = rw (e, fold_rows_again add_row s Curve t xs xs ys ws) (row_upper u (add_rows s (weighted_rows_at Curve t xs xs ys ws)) (weighted_at Curve xs xs ys ws t) h i)
+module _ (basis : Basis) (xs zs ys ws s : List Float) where
+  -- one row more
+  again : (t : ℕ) (u : List Float) → 272 ≤ length u → SameUpper u (add_rows s (weighted_rows_at basis t xs zs ys ws))
+      → SameUpper (add_row u (weighted_at basis xs zs ys ws t)) (add_rows s (weighted_rows_at basis (t + 1) xs zs ys ws))
+  again t u h i = rw (fold_rows_again add_row s basis t xs zs ys ws) (row_upper u (add_rows s (weighted_rows_at basis t xs zs ys ws)) (weighted_at basis xs zs ys ws t) h i)
 
-pub two_more : (t : ℕ) (xs ys ws s u o : List Float) (w v : Float) → 272 ≤ length u → SameUpper u (add_rows s (weighted_rows_at Curve t xs xs ys ws)) → w ≡ weight_at ws t → v ≡ weight_at ws (t + 1)
-    → SameUpper o (add_row (add_row u (weighted_of (record { x = get_or xs t nan; y = get_or ys t nan; w = w }))) (weighted_of (record { x = get_or xs (t + 1) nan; y = get_or ys (t + 1) nan; w = v })))
-    → SameUpper o (add_rows s (weighted_rows_at Curve (t + 1 + 1) xs xs ys ws))
-two_more t xs ys ws s u o w v h i e d g =
-    upper_then g (one_more (t + 1) xs ys ws s (add_row u (weighted_of (record { x = get_or xs t nan; y = get_or ys t nan; w = w }))) v (omega (arith, length_add_row u (weighted_of (record { x = get_or xs t nan; y = get_or ys t nan; w = w })))) (one_more t xs ys ws s u w h i e) d)
+  pub one_more : (t : ℕ) (u terms : List Float) (w : Float) → 272 ≤ length u → SameUpper u (add_rows s (weighted_rows_at basis t xs zs ys ws))
+      → terms ≡ terms_at basis (get_or xs t nan) (get_or zs t nan) → w ≡ weight_at ws t
+      → SameUpper (add_row u (weighted_row terms (get_or ys t nan) w)) (add_rows s (weighted_rows_at basis (t + 1) xs zs ys ws))
+  unfolding row_at weighted_at
+  one_more t u terms w h i b e = rw (b, e) (again t u h i)
+
+  pub two_more : (t : ℕ) (u o : List Float) → 272 ≤ length u → SameUpper u (add_rows s (weighted_rows_at basis t xs zs ys ws))
+      → SameUpper o (add_row (add_row u (weighted_at basis xs zs ys ws t)) (weighted_at basis xs zs ys ws (t + 1)))
+      → SameUpper o (add_rows s (weighted_rows_at basis (t + 1 + 1) xs zs ys ws))
+  two_more t u o h i g =
+      upper_then g
+      (again (t + 1) (add_row u (weighted_at basis xs zs ys ws t)) (omega (arith, length_add_row u (weighted_at basis xs zs ys ws t))) (again t u h i))

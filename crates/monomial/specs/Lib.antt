@@ -3,6 +3,8 @@ pub mod Terms
 pub mod TermLaws
 pub mod Rows
 pub mod RowLaws
+pub mod Reading
+pub mod ReadingLaws
 pub mod Adding
 pub mod AddingLaws
 pub mod Sums

@@ -1,21 +1,25 @@
 // The fitted value, and the 272 sums that a fit is solved from: A[i][j] at 16i + j, g[i] at 256 + i.
 #![tactic(auto)]
 
-ghost use Rattle.std.specs.Prelude.{◌≡◌, ◌++◌, ◌+◌, ◌≤◌, length, take, drop};
+mod reading;
+mod rows;
+
+ghost use Rattle.std.specs.Prelude.{◌≡◌, ◌++◌, ◌+◌, ◌≤◌, ◌<◌, length, take, drop};
 ghost use Rattle.std.specs.Float.{binary64};
 ghost use Rattle.std.specs.Float.Ieee.{add};
 ghost use Rattle.basis.specs.Sizes.{matrix_places, max_terms, sum_places};
-ghost use Rattle.basis.specs.declared.Basis.TheVariants.{Curve};
 ghost use Rattle.loops.specs.Places.{each, table};
 ghost use Rattle.value.specs.Numbers.{zero_f};
 ghost use Rattle.value.specs.Power.{power_f};
 ghost use Rattle.monomial.specs.Terms.{surface_terms, terms_at};
-ghost use Rattle.monomial.specs.Rows.{weighted_row, weighted_of, weight_at, weighted_rows_at, fitted as fitted_f};
+ghost use Rattle.monomial.specs.Rows.{weighted_row, weighted_of, weighted_at, fitted as fitted_f};
+ghost use Rattle.monomial.specs.Reading.{weighted_read};
 ghost use Rattle.monomial.specs.Sums.{weighted_product, add_row, add_rows, sums_of};
 ghost use Rattle.monomial.specs.Corner.{CornerSet};
 ghost use Rattle.monomial.specs.Upper.{SameUpper, Symmetric};
 
 use basis::{Basis, CoefficientCount, SUMS, TERMS};
+pub use rows::Rows;
 
 // Coefficient × term value, ascending, for the k coefficients.
 pub fn fitted(k: CoefficientCount, c: &[f64; TERMS], terms: &[f64; TERMS]) -> f64
@@ -24,6 +28,7 @@ pub fn fitted(k: CoefficientCount, c: &[f64; TERMS], terms: &[f64; TERMS]) -> f6
 {
     let n = k.0;
     let mut v = 0.0;
+    // by index: by `zip` the code is as long, and its invariant longer, which then speaks of what two iterators have left
     for j in 0..n {
         v = v + c[j] * terms[j];
     }
@@ -97,7 +102,8 @@ fn surface_terms(x: f64, z: f64) -> [f64; TERMS]
     ]
 }
 
-// The term values at x and z.
+// The term values at x and z. Inlined, so that they are built where they are added.
+#[inline(always)]
 pub fn terms_at(basis: Basis, x: f64, z: f64) -> [f64; TERMS]
     ensures { result ≡ terms_at basis x z }
 {
@@ -127,17 +133,8 @@ pub fn fitted_at(basis: Basis, k: CoefficientCount, c: &[f64; TERMS], x: f64, z:
     }
 }
 
-// The weight of place t; 1 where no weight is lent.
-fn weight_at(ws: &[f64], t: usize) -> f64
-    ensures { result ≡ weight_at ws.now t }
-{
-    if t < ws.len() {
-        return ws[t];
-    }
-    1.0
-}
-
-// Adds the weighted products of two term values to the 256 places of A.
+// Adds the weighted products of two term values to the 256 places of A. The loops here and below count: place 16i + j is worked out from two indices, and a row
+// is read off several columns.
 fn add_matrix(sums: &mut [f64], terms: &[f64; TERMS], w: f64)
     requires { matrix_places ≤ length sums.old }
     ensures { sums.new ≡ each (λ k v. add binary64 v (weighted_product (weighted_row terms.now zero_f w) k)) matrix_places sums.old }
@@ -196,85 +193,26 @@ fn add_lines(sums: &mut [f64], k: CoefficientCount, terms: &[f64; TERMS], y: f64
     }
 }
 
-// The same. The 16 of the whole is written out, so that its loops are unrolled.
+// The same. A cubic's 4 and the 16 of the whole are written out, so that their loops are unrolled and no other power is worked out.
 fn add_row_corner(sums: &mut [f64], k: CoefficientCount, terms: &[f64; TERMS], y: f64, w: f64)
     requires { (sum_places ≤ length sums.old) × (k.0 ≤ max_terms) }
     ensures { CornerSet k.0 (add_row sums.old (weighted_row terms.now y w)) sums.old sums.new }
 {
-    if k.0 == 16 {
-        add_lines(sums, CoefficientCount(16), terms, y, w);
-        return;
-    }
-    add_lines(sums, k, terms, y, w);
-}
-
-// Adds the rows of the places from start on and before end in that corner.
-fn add_rows_corner(
-    basis: Basis,
-    xs: &[f64],
-    zs: &[f64],
-    ys: &[f64],
-    ws: &[f64],
-    start: usize,
-    end: usize,
-    k: CoefficientCount,
-    sums: &mut [f64],
-)
-    requires { (start ≤ end) × (end ≤ length xs.now) × (end ≤ length zs.now) × (end ≤ length ys.now) × (k.0 ≤ max_terms) × (sum_places ≤ length sums.old) }
-    ensures { CornerSet k.0 (add_rows sums.old (drop start (weighted_rows_at basis end xs.now zs.now ys.now ws.now))) sums.old sums.new }
-{
-    for t in start..end {
-        let terms = terms_at(basis, xs[t], zs[t]);
-        add_row_corner(&mut *sums, k, &terms, ys[t], weight_at(ws, t));
+    match k.0 {
+        4 => add_lines(sums, CoefficientCount(4), terms, y, w),
+        16 => add_lines(sums, CoefficientCount(16), terms, y, w),
+        _ => add_lines(sums, k, terms, y, w),
     }
 }
 
-// Rows in a cubic's corner. Its 4 is written out, so that the loops are unrolled and no other power is worked out.
-fn add_rows_cubic(
-    basis: Basis,
-    xs: &[f64],
-    zs: &[f64],
-    ys: &[f64],
-    ws: &[f64],
-    start: usize,
-    end: usize,
-    sums: &mut [f64],
-)
-    requires { (start ≤ end) × (end ≤ length xs.now) × (end ≤ length zs.now) × (end ≤ length ys.now) × (sum_places ≤ length sums.old) }
-    ensures { CornerSet 4 (add_rows sums.old (drop start (weighted_rows_at basis end xs.now zs.now ys.now ws.now))) sums.old sums.new }
+// Adds rows in the corner of k rows and columns, which is all that k coefficients are solved from.
+pub fn add_corner(rows: Rows<'_>, k: CoefficientCount, sums: &mut [f64])
+    requires { (k.0 ≤ max_terms) × (sum_places ≤ length sums.old) }
+    ensures { CornerSet k.0 (add_rows sums.old (weighted_read rows.entry)) sums.old sums.new }
 {
-    for t in start..end {
-        let terms = terms_at(basis, xs[t], zs[t]);
-        add_lines(
-            &mut *sums,
-            CoefficientCount(4),
-            &terms,
-            ys[t],
-            weight_at(ws, t),
-        );
+    for t in 0..rows.len() {
+        add_row_corner(&mut *sums, k, &rows.terms(t), rows.ys[t], rows.weight(t));
     }
-}
-
-// Adds the rows of the places from start on and before end in the corner of k rows and columns, which is all that k coefficients are solved from.
-pub fn add_corner(
-    basis: Basis,
-    xs: &[f64],
-    zs: &[f64],
-    ys: &[f64],
-    ws: &[f64],
-    start: usize,
-    end: usize,
-    k: CoefficientCount,
-    sums: &mut [f64],
-)
-    requires { (start ≤ end) × (end ≤ length xs.now) × (end ≤ length zs.now) × (end ≤ length ys.now) × (k.0 ≤ max_terms) × (sum_places ≤ length sums.old) }
-    ensures { CornerSet k.0 (add_rows sums.old (drop start (weighted_rows_at basis end xs.now zs.now ys.now ws.now))) sums.old sums.new }
-{
-    if k.0 == 4 {
-        add_rows_cubic(basis, xs, zs, ys, ws, start, end, sums);
-        return;
-    }
-    add_rows_corner(basis, xs, zs, ys, ws, start, end, k, sums);
 }
 
 // Adds the weighted products of two term values, first those of one row and then those of another, on and above the diagonal of A. A line begins at an
@@ -294,16 +232,20 @@ fn add_upper(sums: &mut [f64], terms: &[f64; TERMS], w: f64, later: &[f64; TERMS
     }
 }
 
-// Adds two samples' weighted products on and above the diagonal of A and in g, one sample after the other at each place: a place is read and written once.
-fn add_two(sums: &mut [f64], x: f64, y: f64, w: f64, next: f64, z: f64, v: f64)
-    requires { sum_places ≤ length sums.old }
-    ensures { SameUpper sums.new (add_row (add_row sums.old (weighted_of (record { x = x; y = y; w = w }))) (weighted_of (record { x = next; y = z; w = v }))) }
+// Adds the weighted products of row t and of the next on and above the diagonal of A and in g, one row after the other at each place: a place is read and
+// written once.
+fn add_two(rows: Rows<'_>, t: usize, sums: &mut [f64])
+    requires { (sum_places ≤ length sums.old) × (t + 1 < length rows.ys.now) }
+    ensures { SameUpper sums.new (add_row (add_row sums.old (weighted_at rows.entry.basis rows.entry.xs.now rows.entry.zs.now rows.entry.ys.now rows.entry.ws.now t)) (weighted_at rows.entry.basis rows.entry.xs.now rows.entry.zs.now rows.entry.ys.now rows.entry.ws.now (t + 1))) }
 {
-    let terms = value::powers(x);
-    let later = value::powers(next);
+    let next = t + 1;
+    let terms = rows.terms(t);
+    let later = rows.terms(next);
+    let w = rows.weight(t);
+    let v = rows.weight(next);
     add_upper(&mut *sums, &terms, w, &later, v);
-    add_right(&mut sums[256..], &terms, y, w);
-    add_right(&mut sums[256..], &later, z, v);
+    add_right(&mut sums[256..], &terms, rows.ys[t], w);
+    add_right(&mut sums[256..], &later, rows.ys[next], v);
 }
 
 // Copies what stands above the diagonal of A to the places below it.
@@ -318,57 +260,39 @@ fn mirror(sums: &mut [f64])
     }
 }
 
-// The 272 places become the sums over the first n places of the columns, folded afresh. A is symmetric, so half of it is folded and then mirrored.
-pub fn fold_sums(xs: &[f64], ys: &[f64], ws: &[f64], n: usize, sums: &mut [f64])
-    requires sum_places_in_bounds { sum_places ≤ length sums.old }
-    requires n_in_bounds { (n ≤ length xs.now) × (n ≤ length ys.now) }
-    ensures { sums.new ≡ sums_of (weighted_rows_at Curve n xs.now xs.now ys.now ws.now) ++ drop sum_places sums.old }
+// The 272 places become the sums over the rows, folded afresh. A is symmetric, so half of it is folded and then mirrored.
+pub fn fold_sums(rows: Rows<'_>, sums: &mut [f64])
+    requires { sum_places ≤ length sums.old }
+    ensures { sums.new ≡ sums_of (weighted_read rows.entry) ++ drop sum_places sums.old }
 {
-    for k in 0..SUMS {
-        sums[k] = 0.0;
-    }
+    let n = rows.len();
+    sums[..SUMS].fill(0.0);
     let pairs = n / 2;
     for p in 0..pairs {
-        let t = 2 * p;
-        let next = t + 1;
-        add_two(
-            &mut *sums,
-            xs[t],
-            ys[t],
-            weight_at(ws, t),
-            xs[next],
-            ys[next],
-            weight_at(ws, next),
-        );
+        add_two(rows, 2 * p, sums);
     }
     // the last of an odd number
-    let rest = 2 * pairs;
-    for t in rest..n {
-        add_sample(&mut *sums, xs[t], ys[t], weight_at(ws, t));
+    for t in 2 * pairs..n {
+        add_row(&mut *sums, &rows.terms(t), rows.ys[t], rows.weight(t));
     }
     mirror(&mut *sums);
 }
 
-// The first 16 places become g over the first n places of the columns, folded afresh.
-fn fold_right(xs: &[f64], ys: &[f64], ws: &[f64], n: usize, g: &mut [f64])
-    requires max_terms_in_bounds { max_terms ≤ length g.old }
-    requires n_in_bounds { (n ≤ length xs.now) × (n ≤ length ys.now) }
-    ensures { g.new ≡ drop matrix_places (sums_of (weighted_rows_at Curve n xs.now xs.now ys.now ws.now)) ++ drop max_terms g.old }
+// The first 16 places become g over the rows, folded afresh.
+fn fold_right(rows: Rows<'_>, g: &mut [f64])
+    requires { max_terms ≤ length g.old }
+    ensures { g.new ≡ drop matrix_places (sums_of (weighted_read rows.entry)) ++ drop max_terms g.old }
 {
-    for k in 0..TERMS {
-        g[k] = 0.0;
-    }
-    for t in 0..n {
-        let terms = value::powers(xs[t]);
-        add_right(&mut *g, &terms, ys[t], weight_at(ws, t));
+    g[..TERMS].fill(0.0);
+    for t in 0..rows.len() {
+        add_right(&mut *g, &rows.terms(t), rows.ys[t], rows.weight(t));
     }
 }
 
-// The 16 places of g are folded afresh over the first n places of the columns. A and all other places are untouched.
-pub fn refold_right(xs: &[f64], ys: &[f64], ws: &[f64], n: usize, sums: &mut [f64])
-    requires sum_places_in_bounds { sum_places ≤ length sums.old }
-    requires n_in_bounds { (n ≤ length xs.now) × (n ≤ length ys.now) }
-    ensures { sums.new ≡ take matrix_places sums.old ++ (drop matrix_places (sums_of (weighted_rows_at Curve n xs.now xs.now ys.now ws.now)) ++ drop sum_places sums.old) }
+// The 16 places of g are folded afresh over the rows. A and all other places are untouched.
+pub fn refold_right(rows: Rows<'_>, sums: &mut [f64])
+    requires { sum_places ≤ length sums.old }
+    ensures { sums.new ≡ take matrix_places sums.old ++ (drop matrix_places (sums_of (weighted_read rows.entry)) ++ drop sum_places sums.old) }
 {
-    fold_right(xs, ys, ws, n, &mut sums[256..]);
+    fold_right(rows, &mut sums[256..]);
 }

@@ -1,10 +1,9 @@
 -- `monomial::refold_right` meets its contract: g is folded in the tail that is lent.
 use lib.ListN.{drop}
 use Rattle.loops.specs.PlaceLaws.{tail_back}
-use Rattle.basis.specs.declared.Basis.TheVariants.{Curve}
-use Rattle.monomial.specs.Rows.{weighted_rows_at}
 use Rattle.monomial.specs.Sums.{sums_of}
+use Rattle.monomial.specs.Reading.{weighted_read}
 use Rattle.monomial.proofs.refold_right.Goals as goal
 
 pub returns : goal.returns
-returns c = rw c.fold_right.ensures (tail_back 256 16 c.args.sums.now (drop 256 (sums_of (weighted_rows_at Curve c.args.n c.args.xs.now c.args.xs.now c.args.ys.now c.args.ws.now))))
+returns c = rw c.fold_right.ensures (tail_back 256 16 c.args.sums.now (drop 256 (sums_of (weighted_read c.args.rows))))
