@@ -1,5 +1,5 @@
 -- Document 01's T1 to T12 hold: the law of Cases.antt.
-use Rattle.std.specs.Prelude.{◌≡◌, refl, Bool, true, false, List, ℕ, zero, suc, ◌<◌, take, Float, Some}
+use Rattle.std.specs.Prelude.{◌≡◌, refl, ℕ, zero, suc, ◌<◌, take, Float, Option, Some, None}
 use Rattle.std.proofs.Common.{sym, ap, ◌∙◌, arith}
 use Rattle.std.specs.Int.Count.{count_trailing_zeros}
 use Rattle.std.specs.Float.{binary64}
@@ -14,24 +14,23 @@ use Rattle.statistics.specs.Degrees.{root, root_up_to, max_degree}
 use Rattle.statistics.specs.Medians.{insert, sort, infinite, midpoint, any_nan, median_of}
 use Rattle.statistics.specs.Table.{table_entry, thousandths, z_thousandths}
 use Rattle.statistics.specs.Scores.{milli, z_at, z_score, entry_at, table_score, t_score}
-use Rattle.monomial.specs.Rows.{Row, rows_of, weighted_rows}
+use Rattle.monomial.specs.Rows.{rows_of, weighted_rows}
 use Rattle.monomial.specs.Sums.{sums_of}
 use Rattle.solve.specs.declared.Solved.{Solved}
 use Rattle.score.specs.Score.{likelihood_of, aic_of}
 use Rattle.score.specs.declared.Criterion.TheVariants.{Aic}
 use Rattle.choice.specs.Choice.{degree, yields, least_of, near, chosen_of}
 use Rattle.choice.specs.ChoiceLaws.{least_same, chosen_same}
-use Rattle.choice.specs.declared.Scored.{Scored}
 use Rattle.basis.specs.Counts.{count_of}
 use Rattle.fit.specs.Chosen.{tried, choice_of}
-use Rattle.fit.specs.Solved.{is_solved, scored_by}
-use Rattle.cases.specs.Cases.{line, twice, Cases}
-use Rattle.cases.specs.Solutions.{line_degree_1, line_score_0, line_score_1, twice_score_0, twice_score_1}
+use Rattle.fit.specs.SolvedLaws.{scored_some}
+use Rattle.cases.specs.Cases.{line, Cases}
+use Rattle.cases.specs.Solutions.{line_degree_1, line_score_0, line_score_1, twice_score_0, twice_score_1, twice_unsolved}
 
 -- ---- the parts
 
 -- what is known of degrees 0 and 1
-abbrev known : Scored → Scored → ℕ → Scored
+abbrev known : Option Float → Option Float → ℕ → Option Float
 known a b zero = a
 known a b (suc d) = b
 
@@ -40,7 +39,7 @@ below_two P a b zero h = a
 below_two P a b (suc zero) h = b
 below_two P a b (suc (suc d)) h = absurd (omega arith)
 
-line_chosen : chosen_of (known (record { solved = true; score = aic_of 3 1 zero_f }) (record { solved = true; score = aic_of 3 2 zero_f })) 2 ≡ Some (degree 0)
+line_chosen : chosen_of (known (Some (aic_of 3 1 zero_f)) (Some (aic_of 3 2 zero_f))) 2 ≡ Some (degree 0)
 unfolding chosen_of least_of yields near seek seeks from turns aic_of likelihood_of maximum_f is_nan ln_f ln_positive ln_bits m_bits k_biased ln_sum of_int of_bits to_bits round size span climb odd units sum add sub mul div neg lt le eq count_trailing_zeros
 line_chosen = refl
 
@@ -48,17 +47,13 @@ line_above : sub binary64 (aic_of 3 1 zero_f) (aic_of 3 2 zero_f) ≡ two_f
 unfolding aic_of likelihood_of maximum_f is_nan ln_f ln_positive ln_bits m_bits k_biased ln_sum of_int of_bits to_bits round size span climb odd units sum add sub mul div neg lt le eq count_trailing_zeros
 line_above = refl
 
-line_least : least_of (known (record { solved = true; score = aic_of 3 1 zero_f }) (record { solved = true; score = aic_of 3 2 zero_f })) 2 ≡ aic_of 3 2 zero_f
+line_least : least_of (known (Some (aic_of 3 1 zero_f)) (Some (aic_of 3 2 zero_f))) 2 ≡ aic_of 3 2 zero_f
 unfolding least_of yields from turns aic_of likelihood_of maximum_f is_nan ln_f ln_positive ln_bits m_bits k_biased ln_sum of_int of_bits to_bits round size span climb odd units sum add sub mul div neg lt le eq count_trailing_zeros
 line_least = refl
 
-twice_chosen : chosen_of (known (record { solved = true; score = aic_of 2 1 zero_f }) (record { solved = false; score = zero_f })) 2 ≡ Some (degree 0)
+twice_chosen : chosen_of (known (Some (aic_of 2 1 zero_f)) None) 2 ≡ Some (degree 0)
 unfolding chosen_of least_of yields near seek seeks from turns aic_of likelihood_of maximum_f is_nan ln_f ln_positive ln_bits m_bits k_biased ln_sum of_int of_bits to_bits round size span climb odd units sum add sub mul div neg lt le eq count_trailing_zeros
 twice_chosen = refl
-
-solved_is : (sums : List Float) (rows : List Row) (k : ℕ) (t : Bool) (v : Float) → scored_by Aic sums rows rows k ≡ record { solved = t; score = v } → is_solved sums rows k ≡ t
-unfolding scored_by
-solved_is sums rows k t v e = ap (λ (s : Scored). s.solved) e
 
 -- ---- the theorem
 
@@ -76,10 +71,10 @@ cases =
       t8 = refl;
       t9 = refl;
       t10 = ap (λ (s : Solved). take 2 s.c) line_degree_1;
-      t10_solved = solved_is (sums_of (weighted_rows line)) (rows_of line) 2 true _ line_score_1;
+      t10_solved = (scored_some Aic (sums_of (weighted_rows line)) (rows_of line) (rows_of line) 2 line_score_1).0;
       t11 = chosen_same _ _ 2 (below_two _ line_score_0 line_score_1) ∙ line_chosen;
-      t11_above = rw (line_score_0, line_score_1) line_above;
-      t11_least = least_same _ _ 2 (below_two _ line_score_0 line_score_1) ∙ line_least ∙ sym (ap (λ (s : Scored). s.score) line_score_1);
-      t12_unsolved = solved_is (sums_of (weighted_rows twice)) (rows_of twice) 2 false _ twice_score_1;
+      t11_above = (aic_of 3 1 zero_f, aic_of 3 2 zero_f, line_score_0, line_score_1, line_above);
+      t11_least = line_score_1 ∙ ap Some (sym (least_same _ _ 2 (below_two _ line_score_0 line_score_1) ∙ line_least));
+      t12_unsolved = twice_unsolved;
       t12 = chosen_same _ _ 2 (below_two _ twice_score_0 twice_score_1) ∙ twice_chosen;
     }

@@ -58,10 +58,10 @@ pub record Cases : Type 0 where
   pub t10_solved : is_solved (sums_of (weighted_rows line)) (rows_of line) 2 ≡ true
   -- the same by AIC, Custom 1, choose degree 0,
   pub t11 : (choice_of Aic (sums_of (weighted_rows line)) (rows_of line) (counts_of Curve (max_degree (Custom (degree 1)) 3))).chosen ≡ Some (degree 0)
-  -- whose score is exactly 2 above
-  pub t11_above : sub binary64 (scored_by Aic (sums_of (weighted_rows line)) (rows_of line) (rows_of line) 1).score (scored_by Aic (sums_of (weighted_rows line)) (rows_of line) (rows_of line) 2).score ≡ two_f
-  -- degree 1's, which is the least
-  pub t11_least : least_of (tried Aic (sums_of (weighted_rows line)) (rows_of line) (counts_of Curve (max_degree (Custom (degree 1)) 3))) 2 ≡ (scored_by Aic (sums_of (weighted_rows line)) (rows_of line) (rows_of line) 2).score
+  -- whose score is exactly 2 above degree 1's,
+  pub t11_above : (v : Float) × (a : Float) × (scored_by Aic (sums_of (weighted_rows line)) (rows_of line) (rows_of line) 1 ≡ Some v) × (scored_by Aic (sums_of (weighted_rows line)) (rows_of line) (rows_of line) 2 ≡ Some a) × (sub binary64 v a ≡ two_f)
+  -- which is the least
+  pub t11_least : scored_by Aic (sums_of (weighted_rows line)) (rows_of line) (rows_of line) 2 ≡ Some (least_of (tried Aic (sums_of (weighted_rows line)) (rows_of line) (counts_of Curve (max_degree (Custom (degree 1)) 3))) 2)
   -- (2,1),(2,5), T11's settings: degree 1 unsolved, choice 0
   pub t12_unsolved : is_solved (sums_of (weighted_rows twice)) (rows_of twice) 2 ≡ false
   pub t12 : (choice_of Aic (sums_of (weighted_rows twice)) (rows_of twice) (counts_of Curve (max_degree (Custom (degree 1)) 2))).chosen ≡ Some (degree 0)

@@ -1,27 +1,18 @@
-// The choice among the degrees below b, of which each is solved or not and has a score. The arrays have 16 places, so b is at most 16.
+// The choice among the degrees 0, 1, .. of which each has a score if it is solved, and else none.
 #![tactic(auto)]
 
-ghost use Rattle.std.specs.Prelude.{◌≡◌, ◌≤◌, get_or};
-ghost use Rattle.std.specs.Float.{nan};
-ghost use Rattle.basis.specs.Sizes.{max_terms};
-ghost use Rattle.choice.specs.Choice.{scored_at, yields, near, least_of, chosen_of, chosen_score, Below, flag_count};
+ghost use Rattle.std.specs.Prelude.{◌≡◌, length};
+ghost use Rattle.choice.specs.Choice.{scored_at, yields, near, least_of, chosen_of, chosen_score, solved_count};
 
-use basis::{Degree, TERMS};
-
-// A degree's score, where it is solved.
-#[derive(Clone, Copy)]
-pub struct Scored {
-    pub solved: bool,
-    pub score: f64,
-}
+use basis::Degree;
 
 // The least score a yields to a smaller one of a solved degree.
-fn yielded(solved: bool, score: f64, a: f64) -> f64
-    ensures { result ≡ yields (record { solved = solved; score = score }) a }
+fn yielded(score: Option<f64>, a: f64) -> f64
+    ensures { result ≡ yields score a }
 {
-    if !solved {
+    let Some(score) = score else {
         return a;
-    }
+    };
     if score < a {
         return score;
     }
@@ -29,63 +20,51 @@ fn yielded(solved: bool, score: f64, a: f64) -> f64
 }
 
 // A solved degree's score is at most 2 above a.
-fn is_near(solved: bool, score: f64, a: f64) -> bool
-    ensures { result ≡ near a (record { solved = solved; score = score }) }
+fn is_near(score: Option<f64>, a: f64) -> bool
+    ensures { result ≡ near a score }
 {
-    if !solved {
+    let Some(score) = score else {
         return false;
-    }
+    };
     score - a <= 2.0
 }
 
 // The least score: it starts at +infinity and yields to each smaller one of a solved degree.
-pub fn least(solved: &[bool; TERMS], score: &[f64; TERMS], b: usize) -> f64
-    requires { b ≤ max_terms }
-    ensures { result ≡ least_of (scored_at solved.now score.now) b }
+pub fn least(scores: &[Option<f64>]) -> f64
+    ensures { result ≡ least_of (scored_at scores.now) (length scores.now) }
 {
-    let mut a = f64::from_bits(0x7FF0_0000_0000_0000);
-    for d in 0..b {
-        a = yielded(solved[d], score[d], a);
+    let mut a = f64::INFINITY;
+    for score in scores {
+        a = yielded(*score, a);
     }
     a
 }
 
 // The lowest solved degree with a score at most 2 above the least.
-pub fn lowest(solved: &[bool; TERMS], score: &[f64; TERMS], b: usize) -> Option<Degree>
-    requires { b ≤ max_terms }
-    ensures { result ≡ chosen_of (scored_at solved.now score.now) b }
+pub fn lowest(scores: &[Option<f64>]) -> Option<Degree>
+    ensures { result ≡ chosen_of (scored_at scores.now) (length scores.now) }
 {
-    let a = least(solved, score, b);
-    for d in 0..b {
-        if is_near(solved[d], score[d], a) {
-            return Some(Degree(d));
-        }
-    }
-    None
+    let a = least(scores);
+    scores
+        .iter()
+        .position(|&score| is_near(score, a))
+        .map(Degree)
 }
 
 // The score of the chosen degree, +0 where none is chosen.
-pub fn score_of(score: &[f64; TERMS], chosen: Option<Degree>) -> f64
-    requires { Below 16 chosen }
-    ensures { result ≡ chosen_score (λ d. get_or score.now d nan) chosen }
+pub fn score_of(scores: &[Option<f64>], chosen: Option<Degree>) -> f64
+    ensures { result ≡ chosen_score (scored_at scores.now) chosen }
 {
     let Some(degree) = chosen else {
         return 0.0;
     };
     let d = degree.0;
-    score[d]
+    scores.get(d).copied().flatten().unwrap_or(0.0)
 }
 
 // How many degrees are solved.
-pub fn solved_of(solved: &[bool; TERMS], b: usize) -> usize
-    requires { b ≤ max_terms }
-    ensures { result ≡ flag_count solved.now b }
+pub fn solved_of(scores: &[Option<f64>]) -> usize
+    ensures { result ≡ solved_count (scored_at scores.now) (length scores.now) }
 {
-    let mut m = 0;
-    for d in 0..b {
-        if solved[d] {
-            m += 1;
-        }
-    }
-    m
+    scores.iter().flatten().count()
 }

@@ -9,15 +9,17 @@ ghost use Rattle.loops.specs.Places.{each, table};
 ghost use Rattle.value.specs.Absolute.{abs_f};
 ghost use Rattle.statistics.specs.Variances.{stddev_and_mean};
 ghost use Rattle.monomial.specs.Terms.{terms_at};
-ghost use Rattle.monomial.specs.Rows.{fitted, rows_at};
+ghost use Rattle.monomial.specs.Rows.{fitted};
+ghost use Rattle.monomial.specs.Reading.{rows_read};
 ghost use Rattle.covariance.specs.Covariance.{covariance_of, errors_of, column_of, prediction_variance};
-ghost use Rattle.covariance.specs.Marks.{mark as mark_f, ones};
+ghost use Rattle.covariance.specs.Marks.{ones};
 ghost use Rattle.covariance.specs.BandsFrom.{band_from, outlier_from};
 ghost use Rattle.covariance.specs.Bands.{widened, width_of, band_of, band_at, outlies as outlies_f, lowers_of, uppers_of, outliers_of};
 ghost use Rattle.covariance.specs.Spread.{DoesFor};
 ghost use Rattle.covariance.specs.Pruning.{tested as tested_f, prunes as prunes_f, pruned_bytes};
 
 use basis::{Basis, CoefficientCount, MATRIX, TERMS};
+use monomial::Rows;
 use statistics::Tolerance;
 
 // 2 to the power −52.
@@ -28,13 +30,15 @@ pub fn covariance(inverse: &[f64; MATRIX], variance: f64) -> [f64; MATRIX]
     ensures { result ≡ covariance_of inverse.now variance }
 {
     let mut v = [0.0; MATRIX];
+    // by index: of what the closure of a `map` holds, here the variance, a proof knows nothing at a later place
     for t in 0..MATRIX {
         v[t] = inverse[t] * variance;
     }
     v
 }
 
-// The roots of the first k diagonal places, then +0.
+// The roots of the first k diagonal places, then +0. The loops here and below count: a place of the matrix is worked out from two indices, and several memories
+// are read or written at one place.
 pub fn errors(k: CoefficientCount, covariance: &[f64; MATRIX]) -> [f64; TERMS]
     requires { k.0 ≤ max_terms }
     ensures { result ≡ errors_of k.0 covariance.now }
@@ -85,6 +89,14 @@ pub struct Band {
     pub upper: f64,
 }
 
+// What widens a band: the tolerance, the z score, and the standard deviation of the y's, which tolerance variance reads.
+#[derive(Clone, Copy)]
+pub struct Spread {
+    pub tolerance: Tolerance,
+    pub z: f64,
+    pub sd: f64,
+}
+
 // What a tolerance allows: what stands under the root, and the width.
 #[derive(Clone, Copy)]
 struct Allowance(f64, f64);
@@ -114,12 +126,12 @@ pub fn deviation_read(tolerance: Tolerance, ys: &[f64]) -> f64
     }
 }
 
-// The band about a value with its prediction variance, z the z score.
-pub fn confidence_band(tolerance: Tolerance, z: f64, sd: f64, value: f64, variance: f64) -> Band
-    ensures { result ≡ band_of tolerance z sd value variance }
+// The band about a value with its prediction variance.
+pub fn confidence_band(spread: Spread, value: f64, variance: f64) -> Band
+    ensures { result ≡ band_of spread.tolerance spread.z spread.sd value variance }
 {
-    let a = allowed(tolerance, sd, value, variance);
-    let e = z * value::sqrt(a.0);
+    let a = allowed(spread.tolerance, spread.sd, value, variance);
+    let e = spread.z * value::sqrt(a.0);
     let w = a.1;
     Band {
         value,
@@ -128,25 +140,23 @@ pub fn confidence_band(tolerance: Tolerance, z: f64, sd: f64, value: f64, varian
     }
 }
 
-// The band at x and z, `score` the z score.
+// The band at x and z.
 pub fn band_at(
     basis: Basis,
     k: CoefficientCount,
     c: &[f64; TERMS],
     covariance: &[f64; MATRIX],
-    tolerance: Tolerance,
-    score: f64,
-    sd: f64,
+    spread: Spread,
     x: f64,
     z: f64,
 ) -> Band
     requires { k.0 ≤ max_terms }
-    ensures { result ≡ band_at k.0 c.now covariance.now tolerance score sd (terms_at basis x z) }
+    ensures { result ≡ band_at k.0 c.now covariance.now spread.tolerance spread.z spread.sd (terms_at basis x z) }
 {
     let terms = monomial::terms_at(basis, x, z);
     let value = monomial::fitted(k, c, &terms);
     let variance = prediction_variance(k, &terms, covariance);
-    confidence_band(tolerance, score, sd, value, variance)
+    confidence_band(spread, value, variance)
 }
 
 // Whether y is below the band or above it.
@@ -182,114 +192,93 @@ pub fn prunes(rule: PruningRule, t: f64, c: f64, error: f64) -> bool
     (tested(rule, c, size) > EPSILON) & (size / error < t)
 }
 
-// 1 where a test passes, else 0.
-fn mark(b: bool) -> u8
-    ensures { (result ≡ mark_f b) × (result ≤ 1) }
-{
-    if b { 1 } else { 0 }
-}
-
-// The first m places become the pruning bytes of k coefficients. Answers how many are pruned.
+// The pruning bytes of k coefficients. Answers how many are pruned.
 pub fn put_pruned(
     rule: PruningRule,
     k: CoefficientCount,
     c: &[f64; TERMS],
     errors: &[f64; TERMS],
     t: f64,
-    m: usize,
     out: &mut [u8],
 ) -> usize
-    requires { (m ≤ max_terms) × (m ≤ length out.old) }
-    ensures counted { result ≡ ones (pruned_bytes m rule k.0 c.now errors.now t) }
-    ensures written { out.new ≡ pruned_bytes m rule k.0 c.now errors.now t ++ drop m out.old }
+    requires { length out.old ≤ max_terms }
+    ensures counted { result ≡ ones (pruned_bytes (length out.old) rule k.0 c.now errors.now t) }
+    ensures written { out.new ≡ pruned_bytes (length out.old) rule k.0 c.now errors.now t }
 {
     let n = k.0;
     let mut count: usize = 0;
-    for i in 0..m {
-        let b = mark((i < n) & prunes(rule, t, c[i], errors[i]));
-        out[i] = b;
-        count = count + b as usize;
+    for i in 0..out.len() {
+        let pruned = (i < n) & prunes(rule, t, c[i], errors[i]);
+        out[i] = u8::from(pruned);
+        count += usize::from(pruned);
     }
     count
 }
 
-// The first n places become value and prediction variance at each x and z.
+// Value and prediction variance of each row.
 fn put_values(
-    basis: Basis,
+    rows: Rows<'_>,
     k: CoefficientCount,
     c: &[f64; TERMS],
     covariance: &[f64; MATRIX],
-    xs: &[f64],
-    zs: &[f64],
-    n: usize,
     values: &mut [f64],
     variances: &mut [f64],
 )
-    requires { (k.0 ≤ max_terms) × (n ≤ length xs.now) × (n ≤ length zs.now) × (n ≤ length values.old) × (n ≤ length variances.old) }
-    ensures values_after { values.new ≡ each (λ i _. fitted k.0 c.now (terms_at basis (get_or xs.now i nan) (get_or zs.now i nan))) n values.old }
-    ensures variances_after { variances.new ≡ each (λ i _. prediction_variance k.0 (terms_at basis (get_or xs.now i nan) (get_or zs.now i nan)) covariance.now) n variances.old }
+    requires { (k.0 ≤ max_terms) × (length rows.ys.now ≤ length values.old) × (length rows.ys.now ≤ length variances.old) }
+    ensures values_after { values.new ≡ each (λ i _. fitted k.0 c.now (terms_at rows.entry.basis (get_or rows.entry.xs.now i nan) (get_or rows.entry.zs.now i nan))) (length rows.entry.ys.now) values.old }
+    ensures variances_after { variances.new ≡ each (λ i _. prediction_variance k.0 (terms_at rows.entry.basis (get_or rows.entry.xs.now i nan) (get_or rows.entry.zs.now i nan)) covariance.now) (length rows.entry.ys.now) variances.old }
 {
-    for i in 0..n {
-        let terms = monomial::terms_at(basis, xs[i], zs[i]);
+    for i in 0..rows.len() {
+        let terms = rows.terms(i);
         values[i] = monomial::fitted(k, c, &terms);
         variances[i] = prediction_variance(k, &terms, covariance);
     }
 }
 
-// The band at each of the first n places, from the value and the prediction variance that stand there: they become lower and upper. Answers how many y's are
-// outliers, and marks them.
+// The band of each y, from the value and the prediction variance that stand there: they become lower and upper. Answers how many y's are outliers, and
+// marks them.
 fn put_edges(
-    tolerance: Tolerance,
-    z: f64,
-    sd: f64,
+    spread: Spread,
     ys: &[f64],
-    n: usize,
     lower: &mut [f64],
     upper: &mut [f64],
     outlier: &mut [u8],
 ) -> usize
-    requires { (n ≤ length ys.now) × (n ≤ length lower.old) × (n ≤ length upper.old) × (n ≤ length outlier.old) }
-    ensures value { result ≡ ones (table (outlier_from tolerance z sd lower.old upper.old ys.now) n) }
-    ensures lower_after { lower.new ≡ each (λ i _. (band_from tolerance z sd lower.old upper.old i).lower) n lower.old }
-    ensures upper_after { upper.new ≡ each (λ i _. (band_from tolerance z sd lower.old upper.old i).upper) n upper.old }
-    ensures outlier_after { outlier.new ≡ each (λ i _. outlier_from tolerance z sd lower.old upper.old ys.now i) n outlier.old }
+    requires { (length ys.now ≤ length lower.old) × (length ys.now ≤ length upper.old) × (length ys.now ≤ length outlier.old) }
+    ensures value { result ≡ ones (table (outlier_from spread.tolerance spread.z spread.sd lower.old upper.old ys.now) (length ys.now)) }
+    ensures lower_after { lower.new ≡ each (λ i _. (band_from spread.tolerance spread.z spread.sd lower.old upper.old i).lower) (length ys.now) lower.old }
+    ensures upper_after { upper.new ≡ each (λ i _. (band_from spread.tolerance spread.z spread.sd lower.old upper.old i).upper) (length ys.now) upper.old }
+    ensures outlier_after { outlier.new ≡ each (λ i _. outlier_from spread.tolerance spread.z spread.sd lower.old upper.old ys.now i) (length ys.now) outlier.old }
 {
     let mut count: usize = 0;
-    for i in 0..n {
-        let band = confidence_band(tolerance, z, sd, lower[i], upper[i]);
-        let b = mark(outlies(band, ys[i]));
+    for i in 0..ys.len() {
+        let band = confidence_band(spread, lower[i], upper[i]);
+        let is_outlier = outlies(band, ys[i]);
         lower[i] = band.lower;
         upper[i] = band.upper;
-        outlier[i] = b;
-        count = count + b as usize;
+        outlier[i] = u8::from(is_outlier);
+        count += usize::from(is_outlier);
     }
     count
 }
 
-// The first n places become lower, upper and the outlier byte of each sample. Answers how many are outliers. All values come before all roots:
-// apart, the two loops are quicker.
+// Lower, upper and the outlier byte of each row. Answers how many are outliers. All values come before all roots: apart, the two loops are quicker.
 pub fn put_bands(
-    basis: Basis,
+    rows: Rows<'_>,
     k: CoefficientCount,
     c: &[f64; TERMS],
     covariance: &[f64; MATRIX],
-    tolerance: Tolerance,
-    z: f64,
-    sd: f64,
-    xs: &[f64],
-    zs: &[f64],
-    ys: &[f64],
-    n: usize,
+    spread: Spread,
     lower: &mut [f64],
     upper: &mut [f64],
     outlier: &mut [u8],
 ) -> usize
-    requires { (k.0 ≤ max_terms) × (n ≤ length xs.now) × (n ≤ length zs.now) × (n ≤ length ys.now) × (n ≤ length lower.old) × (n ≤ length upper.old) × (n ≤ length outlier.old) }
-    ensures counted { result ≡ ones (outliers_of k.0 c.now covariance.now tolerance z sd (rows_at basis n xs.now zs.now ys.now)) }
-    ensures lowers { lower.new ≡ lowers_of k.0 c.now covariance.now tolerance z sd (rows_at basis n xs.now zs.now ys.now) ++ drop n lower.old }
-    ensures uppers { upper.new ≡ uppers_of k.0 c.now covariance.now tolerance z sd (rows_at basis n xs.now zs.now ys.now) ++ drop n upper.old }
-    ensures bytes { outlier.new ≡ outliers_of k.0 c.now covariance.now tolerance z sd (rows_at basis n xs.now zs.now ys.now) ++ drop n outlier.old }
+    requires { (k.0 ≤ max_terms) × (length rows.ys.now ≤ length lower.old) × (length rows.ys.now ≤ length upper.old) × (length rows.ys.now ≤ length outlier.old) }
+    ensures counted { result ≡ ones (outliers_of k.0 c.now covariance.now spread.tolerance spread.z spread.sd (rows_read rows.entry)) }
+    ensures lowers { lower.new ≡ lowers_of k.0 c.now covariance.now spread.tolerance spread.z spread.sd (rows_read rows.entry) ++ drop (length rows.entry.ys.now) lower.old }
+    ensures uppers { upper.new ≡ uppers_of k.0 c.now covariance.now spread.tolerance spread.z spread.sd (rows_read rows.entry) ++ drop (length rows.entry.ys.now) upper.old }
+    ensures bytes { outlier.new ≡ outliers_of k.0 c.now covariance.now spread.tolerance spread.z spread.sd (rows_read rows.entry) ++ drop (length rows.entry.ys.now) outlier.old }
 {
-    put_values(basis, k, c, covariance, xs, zs, n, &mut *lower, &mut *upper);
-    put_edges(tolerance, z, sd, ys, n, lower, upper, outlier)
+    put_values(rows, k, c, covariance, &mut *lower, &mut *upper);
+    put_edges(spread, rows.ys, lower, upper, outlier)
 }

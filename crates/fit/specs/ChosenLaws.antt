@@ -1,24 +1,20 @@
 -- Laws of Chosen.antt.
-use Rattle.std.specs.Prelude.{◌≡◌, Bool, false, List, ℕ, ◌≤◌, ◌<◌, replicate, Float}
-use Rattle.std.proofs.Common.{ap, arith}
-use Rattle.std.specs.Float.{nan}
+use Rattle.std.specs.Prelude.{◌≡◌, List, ℕ, ◌≤◌, ◌<◌, length, take, replicate, Float, Option, None}
+use Rattle.std.proofs.Common.{ap, ◌∙◌, arith, length-take-le}
+use Rattle.std.proofs.lemmas.List.{get_or-take}
 use Rattle.loops.specs.Places.{each}
-use Rattle.loops.specs.PlaceLaws.{each_at, each_same}
-use Rattle.value.specs.Numbers.{zero_f}
+use Rattle.loops.specs.PlaceLaws.{each_at, each_same, length_each}
 use Rattle.choice.specs.Choice.{scored_at}
-use Rattle.choice.specs.declared.Scored.{Scored}
-use Rattle.fit.specs.Chosen.{flags_of, scores_of}
+use Rattle.fit.specs.Chosen.{scores_of}
 
--- two arrays that hold what is known of the degrees below b
-pub scores_at : (S : ℕ → Scored) (b : ℕ) (u : List Bool) (v : List Float) → b ≤ 16 → u ≡ each (λ e _. (S e).solved) b (replicate 16 false)
-    → v ≡ each (λ e _. (S e).score) b (replicate 16 zero_f) → (d : ℕ) → d < b → scored_at u v d ≡ S d
-scores_at S b u v l p q d h =
-    rw (p, q, each_at (λ e _. (S e).solved) b (replicate 16 false) d false h (omega arith), each_at (λ e _. (S e).score) b (replicate 16 zero_f) d nan h (omega arith))
+-- what a list holds of the degrees below b, where it holds their scores
+module _ (S : ℕ → Option Float) (b : ℕ) (u : List (Option Float)) (l : b ≤ 16) (e : u ≡ each (λ d _. S d) b (replicate 16 None)) where
+  pub length_scores : length (take b u) ≡ b
+  length_scores = length-take-le b u (omega (arith, ap length e ∙ length_each (λ d _. S d) b (replicate 16 None)))
+
+  pub scores_at : (d : ℕ) → d < b → scored_at (take b u) d ≡ S d
+  scores_at d h = get_or-take b u d None h ∙ ap (λ v. scored_at v d) e ∙ each_at (λ d _. S d) b (replicate 16 None) d None h (omega arith)
 
 -- what is known of the degrees below b decides what is carried of them
-module _ (S R : ℕ → Scored) (b : ℕ) (same : (d : ℕ) → d < b → S d ≡ R d) where
-  pub flags_same : flags_of S b ≡ flags_of R b
-  flags_same = each_same _ _ b _ (λ d v h. ap (λ (s : Scored). s.solved) (same d h))
-
-  pub scores_same : scores_of S b ≡ scores_of R b
-  scores_same = each_same _ _ b _ (λ d v h. ap (λ (s : Scored). s.score) (same d h))
+pub scores_same : (S R : ℕ → Option Float) (b : ℕ) → ((d : ℕ) → d < b → S d ≡ R d) → scores_of S b ≡ scores_of R b
+scores_same S R b same = each_same _ _ b _ (λ d v h. same d h)

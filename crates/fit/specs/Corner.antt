@@ -18,7 +18,7 @@ use Rattle.choice.specs.ChoiceLaws.{least_same, chosen_same, count_same}
 use Rattle.choice.specs.Laws.{chosen_score_same}
 use Rattle.fit.specs.Solved.{is_solved, score_on, scored_by, pivot_tests}
 use Rattle.fit.specs.Chosen.{counts_of, tried, tests_of, choice_of}
-use Rattle.fit.specs.ChosenLaws.{flags_same, scores_same}
+use Rattle.fit.specs.ChosenLaws.{scores_same}
 
 -- two lists of sums that agree in the corner of m rows and columns
 module _ (m : ℕ) (fits : m ≤ 16) (s t : List Float) (hs : 256 ≤ length s) (ht : 256 ≤ length t) (same : SameCorner m s t) where
@@ -51,7 +51,7 @@ module _ (m : ℕ) (fits : m ≤ 16) (s t : List Float) (hs : 256 ≤ length s) 
     choice_corner =
         let S = tried criterion s rows counts in
         let R = tried criterion t rows counts in
-        rw (chosen_score_same S R (length counts) same_tried (chosen_of S (length counts)) refl, chosen_same S R (length counts) same_tried, least_same S R (length counts) same_tried, count_same S R (length counts) same_tried, same_tests counts all, flags_same S R (length counts) same_tried, scores_same S R (length counts) same_tried)
+        rw (chosen_score_same S R (length counts) same_tried (chosen_of S (length counts)) refl, chosen_same S R (length counts) same_tried, least_same S R (length counts) same_tried, count_same S R (length counts) same_tried, same_tests counts all, scores_same S R (length counts) same_tried)
 
 -- the counts up to a degree's are at most its own
 pub counts_within : (basis : Basis) (last : ℕ) → All (λ k. k ≤ count_of basis last) (counts_of basis last)

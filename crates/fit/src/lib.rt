@@ -1,7 +1,7 @@
 // Residuals, the attempt at a degree, and the choice of one.
 #![tactic(auto)]
 
-ghost use Rattle.std.specs.Prelude.{◌≡◌, ◌++◌, map, ◌+◌, ◌≤◌, length, drop};
+ghost use Rattle.std.specs.Prelude.{◌≡◌, ◌++◌, map, ◌+◌, ◌≤◌, ◌<◌, length, drop};
 ghost use Rattle.basis.specs.Sizes.{highest_degree, max_terms, sum_places};
 ghost use Rattle.loops.specs.Fold.{all_of};
 ghost use Rattle.loops.specs.Within.{Within};
@@ -10,8 +10,8 @@ ghost use Rattle.value.specs.Finite.{finite};
 ghost use Rattle.value.specs.Total.{total_f};
 ghost use Rattle.statistics.specs.Losses.{losses};
 ghost use Rattle.basis.specs.Counts.{count_of};
-ghost use Rattle.monomial.specs.Terms.{terms_at};
-ghost use Rattle.monomial.specs.Rows.{rows_at};
+ghost use Rattle.monomial.specs.Rows.{row_at};
+ghost use Rattle.monomial.specs.Reading.{rows_read};
 ghost use Rattle.solve.specs.Solve.{solve};
 ghost use Rattle.score.specs.Score.{score_of};
 ghost use Rattle.fit.specs.Residuals.{residual as residual_f, residuals};
@@ -19,98 +19,74 @@ ghost use Rattle.fit.specs.Solved.{scored_by, pivot_tests};
 ghost use Rattle.fit.specs.Chosen.{counts_of, choice_of};
 ghost use Rattle.fit.specs.Promises.{Attempted};
 
-use basis::{Basis, CoefficientCount, Degree, TERMS};
+use basis::{CoefficientCount, Degree, TERMS};
+use monomial::Rows;
 use score::Criterion;
+use solve::Solved;
 
-// y less the fitted value at x and z.
-fn residual(basis: Basis, k: CoefficientCount, c: &[f64; TERMS], x: f64, z: f64, y: f64) -> f64
-    requires { k.0 ≤ max_terms }
-    ensures { result ≡ residual_f k.0 c.now (record { terms = terms_at basis x z; y = y }) }
+// y less the fitted value, of sample i.
+fn residual(rows: Rows<'_>, k: CoefficientCount, c: &[f64; TERMS], i: usize) -> f64
+    requires { (k.0 ≤ max_terms) × (i < length rows.ys.now) }
+    ensures { result ≡ residual_f k.0 c.now (row_at rows.entry.basis rows.entry.xs.now rows.entry.zs.now rows.entry.ys.now i) }
 {
-    y - monomial::fitted_at(basis, k, c, x, z)
+    rows.ys[i] - monomial::fitted_at(rows.basis, k, c, rows.xs[i], rows.zs[i])
 }
 
-// The first n places of scratch become the sizes of the residuals. Answers whether every residual is finite.
-pub fn sizes(
-    basis: Basis,
-    xs: &[f64],
-    zs: &[f64],
-    ys: &[f64],
-    n: usize,
-    k: CoefficientCount,
-    c: &[f64; TERMS],
-    scratch: &mut [f64],
-) -> bool
-    requires { (n ≤ length xs.now) × (n ≤ length zs.now) × (n ≤ length ys.now) × (n ≤ length scratch.old) × (k.0 ≤ max_terms) }
-    ensures is { result ≡ all_of finite (residuals k.0 c.now (rows_at basis n xs.now zs.now ys.now)) }
-    ensures written { scratch.new ≡ map abs_f (residuals k.0 c.now (rows_at basis n xs.now zs.now ys.now)) ++ drop n scratch.old }
+// The first places of scratch become the sizes of the residuals. Answers whether every residual is finite.
+pub fn sizes(rows: Rows<'_>, k: CoefficientCount, c: &[f64; TERMS], scratch: &mut [f64]) -> bool
+    requires { (length rows.ys.now ≤ length scratch.old) × (k.0 ≤ max_terms) }
+    ensures is { result ≡ all_of finite (residuals k.0 c.now (rows_read rows.entry)) }
+    ensures written { scratch.new ≡ map abs_f (residuals k.0 c.now (rows_read rows.entry)) ++ drop (length rows.entry.ys.now) scratch.old }
 {
     let mut all = true;
-    for i in 0..n {
-        let r = residual(basis, k, c, xs[i], zs[i], ys[i]);
+    // by index: a row is read off several columns, and of an `iter_mut` behind a `zip` a proof knows no element
+    for i in 0..rows.len() {
+        let r = residual(rows, k, c, i);
         all = all & value::is_finite(r);
         scratch[i] = value::abs(r);
     }
     all
 }
 
-// A solution from the sums: whether it is solved, the pivots tested, and its coefficients.
+// A solution from the sums: the pivots tested, and its coefficients if it is solved.
 #[derive(Clone, Copy)]
 pub struct Solution {
-    pub solved: bool,
     pub tests: usize,
-    pub c: [f64; TERMS],
+    pub c: Option<[f64; TERMS]>,
 }
 
-// Of the k coefficients that were solved from the sums: whether their residuals are finite. Where they are solved, the first n places of scratch hold the
-// sizes of the residuals.
+// The k coefficients that were solved from the sums, if their residuals are finite. Then the first places of scratch hold the sizes of the residuals.
 fn judged(
-    basis: Basis,
-    xs: &[f64],
-    zs: &[f64],
-    ys: &[f64],
-    n: usize,
+    rows: Rows<'_>,
     sums: &[f64],
     k: CoefficientCount,
-    held: usize,
-    c: [f64; TERMS],
+    solved: Solved,
     scratch: &mut [f64],
 ) -> Solution
-    requires { (n ≤ length xs.now) × (n ≤ length zs.now) × (n ≤ length ys.now) × (n ≤ length scratch.old) × (k.0 ≤ max_terms) × (record { held = held; c = c } ≡ solve sums.now k.0) }
-    ensures { Attempted sums.now (rows_at basis n xs.now zs.now ys.now) k.0 n scratch.old scratch.new result }
+    requires { (length rows.ys.now ≤ length scratch.old) × (k.0 ≤ max_terms) × (solved ≡ solve sums.now k.0) }
+    ensures { Attempted sums.now (rows_read rows.entry) k.0 (length rows.entry.ys.now) scratch.old scratch.new result }
 {
-    if held < k.0 {
+    if solved.held < k.0 {
         return Solution {
-            solved: false,
-            tests: held + 1,
-            c,
+            tests: solved.held + 1,
+            c: None,
         };
     }
-    let all = sizes(basis, xs, zs, ys, n, k, &c, &mut *scratch);
+    let c = solved.c;
+    let all = sizes(rows, k, &c, &mut *scratch);
     Solution {
-        solved: all,
         tests: k.0,
-        c,
+        c: all.then_some(c),
     }
 }
 
-// Solves k coefficients from the sums. Where it is solved, the first n places of scratch hold the sizes of the residuals.
-pub fn attempt(
-    basis: Basis,
-    xs: &[f64],
-    zs: &[f64],
-    ys: &[f64],
-    n: usize,
-    sums: &[f64],
-    k: CoefficientCount,
-    scratch: &mut [f64],
-) -> Solution
-    requires { (n ≤ length xs.now) × (n ≤ length zs.now) × (n ≤ length ys.now) × (n ≤ length scratch.old) × (sum_places ≤ length sums.now) × (k.0 ≤ max_terms) }
-    ensures { Attempted sums.now (rows_at basis n xs.now zs.now ys.now) k.0 n scratch.old scratch.new result }
+// Solves k coefficients from the sums. Where it is solved, the first places of scratch hold the sizes of the residuals.
+pub fn attempt(rows: Rows<'_>, sums: &[f64], k: CoefficientCount, scratch: &mut [f64]) -> Solution
+    requires { (length rows.ys.now ≤ length scratch.old) × (sum_places ≤ length sums.now) × (k.0 ≤ max_terms) }
+    ensures { Attempted sums.now (rows_read rows.entry) k.0 (length rows.entry.ys.now) scratch.old scratch.new result }
 {
-    let s = solve::solve(sums, k);
-    let c = s.c;
-    judged(basis, xs, zs, ys, n, sums, k, s.held, c, scratch)
+    let solved = solve::solve(sums, k);
+    judged(rows, sums, k, solved, scratch)
 }
 
 // The score of k coefficients by their residuals or the sizes of these.
@@ -120,51 +96,38 @@ pub fn score_on(criterion: Criterion, a: &[f64], k: CoefficientCount) -> f64
     score::score(criterion, a.len(), k, statistics::total_loss(a))
 }
 
-// What is known of a coefficient count, and the pivots tested.
+// The score of a coefficient count if it is solved, and the pivots tested.
 #[derive(Clone, Copy)]
 pub struct Tried {
-    pub solved: bool,
-    pub score: f64,
+    pub score: Option<f64>,
     pub tests: usize,
 }
 
-// Scores the k coefficients that were solved from the sums on the same n samples.
+// Scores the k coefficients that were solved from the sums on the same samples.
 fn trial(
-    basis: Basis,
-    xs: &[f64],
-    zs: &[f64],
-    ys: &[f64],
-    n: usize,
+    rows: Rows<'_>,
     sums: &[f64],
     k: CoefficientCount,
-    held: usize,
-    c: [f64; TERMS],
+    solved: Solved,
     criterion: Criterion,
     scratch: &mut [f64],
 ) -> Tried
-    requires { (n ≤ length xs.now) × (n ≤ length zs.now) × (n ≤ length ys.now) × (n ≤ length scratch.old) × (k.0 ≤ max_terms) × (record { held = held; c = c } ≡ solve sums.now k.0) }
-    ensures scored { record { solved = result.solved; score = result.score } ≡ scored_by criterion sums.now (rows_at basis n xs.now zs.now ys.now) (rows_at basis n xs.now zs.now ys.now) k.0 }
+    requires { (length rows.ys.now ≤ length scratch.old) × (k.0 ≤ max_terms) × (solved ≡ solve sums.now k.0) }
+    ensures scored { result.score ≡ scored_by criterion sums.now (rows_read rows.entry) (rows_read rows.entry) k.0 }
     ensures tests { result.tests ≡ pivot_tests sums.now k.0 }
-    ensures within { Within n scratch.old scratch.new }
+    ensures within { Within (length rows.entry.ys.now) scratch.old scratch.new }
 {
-    let a = judged(basis, xs, zs, ys, n, sums, k, held, c, &mut *scratch);
-    if !a.solved {
-        return Tried {
-            solved: false,
-            score: 0.0,
-            tests: a.tests,
-        };
-    }
-    let score = score_on(criterion, &scratch[..n], k);
-    Tried {
-        solved: true,
-        score,
-        tests: a.tests,
-    }
+    let a = judged(rows, sums, k, solved, &mut *scratch);
+    let tests = a.tests;
+    let Some(_) = a.c else {
+        return Tried { score: None, tests };
+    };
+    let score = Some(score_on(criterion, &scratch[..rows.ys.len()], k));
+    Tried { score, tests }
 }
 
-// The chosen degree or none, its score (+0 where none is chosen), the least score, the number of solved degrees, and the number of pivot tests; and of
-// each degree whether it is solved, and its score.
+// The chosen degree or none, its score (+0 where none is chosen), the least score, the number of solved degrees, and the number of pivot tests; and the
+// score of each solved degree up to the bound.
 #[derive(Clone, Copy)]
 pub struct Choice {
     pub chosen: Option<Degree>,
@@ -172,63 +135,45 @@ pub struct Choice {
     pub least: f64,
     pub solved: usize,
     pub tests: usize,
-    pub flags: [bool; TERMS],
-    pub scores: [f64; TERMS],
+    pub scores: [Option<f64>; TERMS],
 }
 
 // The choice among the degrees 0 to the bound, all from one elimination. Only scores are kept; `attempt` solves the chosen degree again.
 pub fn choose(
-    basis: Basis,
-    xs: &[f64],
-    zs: &[f64],
-    ys: &[f64],
-    n: usize,
+    rows: Rows<'_>,
     sums: &[f64],
     bound: Degree,
     criterion: Criterion,
     scratch: &mut [f64],
 ) -> Choice
-    requires { (n ≤ length xs.now) × (n ≤ length zs.now) × (n ≤ length ys.now) × (n ≤ length scratch.old) × (sum_places ≤ length sums.now) × (bound.0 ≤ highest_degree) × (count_of basis bound.0 ≤ max_terms) }
-    ensures is { result ≡ choice_of criterion sums.now (rows_at basis n xs.now zs.now ys.now) (counts_of basis bound.0) }
-    ensures within { Within n scratch.old scratch.new }
+    requires { (length rows.ys.now ≤ length scratch.old) × (sum_places ≤ length sums.now) × (bound.0 ≤ highest_degree) × (count_of rows.basis bound.0 ≤ max_terms) }
+    ensures is { result ≡ choice_of criterion sums.now (rows_read rows.entry) (counts_of rows.entry.basis bound.0) }
+    ensures within { Within (length rows.entry.ys.now) scratch.old scratch.new }
 {
     let b = bound.0 + 1;
-    let most = bound.k(basis);
+    let most = bound.k(rows.basis);
     let e = solve::eliminated(sums, most);
-    let mut solved = [false; TERMS];
-    let mut score = [0.0; TERMS];
+    let mut scores = [None; TERMS];
     let mut tests = 0;
+    // by index: the degree is the place
     for d in 0..b {
-        let k = Degree(d).k(basis);
+        let k = Degree(d).k(rows.basis);
         let s = e.solution(k);
-        let c = s.c;
-        let t = trial(
-            basis,
-            xs,
-            zs,
-            ys,
-            n,
-            sums,
-            k,
-            s.held,
-            c,
-            criterion,
-            &mut *scratch,
-        );
-        solved[d] = t.solved;
-        score[d] = t.score;
+        let t = trial(rows, sums, k, s, criterion, &mut *scratch);
+        scores[d] = t.score;
         tests = tests + t.tests;
     }
-    let chosen = choice::lowest(&solved, &score, b);
-    let least = choice::least(&solved, &score, b);
-    let number = choice::solved_of(&solved, b);
+    let tried = &scores[..b];
+    let chosen = choice::lowest(tried);
+    let score = choice::score_of(tried, chosen);
+    let least = choice::least(tried);
+    let solved = choice::solved_of(tried);
     Choice {
         chosen,
-        score: choice::score_of(&score, chosen),
+        score,
         least,
-        solved: number,
+        solved,
         tests,
-        flags: solved,
-        scores: score,
+        scores,
     }
 }

@@ -1,5 +1,6 @@
 -- A fold's own part of the sizes in scratch, and its score.
 use Rattle.std.proofs.Common.{◌≡◌, ℕ, ◌-◌, ◌≤◌, List, map, length, take, drop, sym, ap, ◌∙◌, arith, length-drop, length-take}
+use Rattle.std.specs.Prelude.{Option}
 use lib.Ieee.{Float}
 use Rattle.loops.specs.PlaceLaws.{part_take, map_part}
 use Rattle.value.specs.Absolute.{abs_f}
@@ -8,7 +9,6 @@ use Rattle.monomial.specs.Sums.{sums_of}
 use Rattle.monomial.specs.SumLaws.{length_sums}
 use Rattle.monomial.specs.Corner.{SameCorner}
 use Rattle.score.specs.declared.Criterion.{Criterion}
-use Rattle.choice.specs.declared.Scored.{Scored}
 use Rattle.fit.specs.Residuals.{residual, residuals}
 use Rattle.fit.specs.Solved.{scored_by}
 use Rattle.fit.specs.Corner.{scored_corner}
@@ -29,7 +29,7 @@ module _ (start end n : ℕ) (s : List Float) (h : start ≤ end) (g : end ≤ n
       ∙ sym (ap (map abs_f) (map_part (residual k c) start (end - start) rows) ∙ map_part abs_f start (end - start) (map (residual k c) rows))
 
 -- what a fold says of k coefficients, from sums that are those over the others in the corner of m rows and columns
-pub fold_scored_lem : (criterion : Criterion) (rows : List WeightedRow) (plain : List Row) (n folds k m f start end : ℕ) (sums : List Float) (r : Scored) → length rows ≡ n → rows_in rows ≡ plain
+pub fold_scored_lem : (criterion : Criterion) (rows : List WeightedRow) (plain : List Row) (n folds k m f start end : ℕ) (sums : List Float) (r : Option Float) → length rows ≡ n → rows_in rows ≡ plain
     → start ≡ start_of n folds f → end ≡ end_of n folds f → m ≤ 16 → k ≤ m → 256 ≤ length sums → SameCorner m sums (sums_of (others_of start end rows))
     → r ≡ scored_by criterion sums plain (own_of start end plain) k → r ≡ fold_scored criterion rows folds k f
 unfolding fold_scored

@@ -1,3 +1,4 @@
 -- Laws that the proofs of the functions cite, here and in the crates above.
 pub mod Fitting
 pub mod Banding
+pub mod Options

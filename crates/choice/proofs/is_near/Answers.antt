@@ -2,10 +2,10 @@
 use Rattle.choice.specs.Choice.{near}
 use Rattle.choice.proofs.is_near.Goals as goal
 
-pub returns-then-not-solved : goal.returns-then-not-solved
+pub returns-in_default : goal.returns-in_default
 unfolding near
-returns-then-not-solved c = rw c.if-not-solved.true
+returns-in_default c = rw c.in_default.is
 
 pub returns : goal.returns
 unfolding near
-returns c = rw c.if-not-solved.false
+returns c = rw c.in-Some.is

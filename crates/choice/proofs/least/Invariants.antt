@@ -1,12 +1,8 @@
 -- `choice::least` meets its contract.
-use mathlib.Core.Path.{◌≡◌}
-use Prim.Native.Nat.{◌-◌}
+use Rattle.std.proofs.Common.{◌≡◌, length}
 use Rattle.choice.specs.Choice.{yields, scored_at}
 use Rattle.loops.specs.Loop.{from}
 use Rattle.choice.proofs.least.Given as goal
 
-abbrev pub invariant-loop-d : goal.invariant-loop-d
-invariant-loop-d l = from (λ j v. yields (scored_at l.solved l.score j) v) l.d l.b l.a ≡ from (λ j v. yields (scored_at l.solved l.score j) v) l.initial.d l.b l.initial.a
-
-abbrev pub decreases-loop-d : goal.decreases-loop-d
-decreases-loop-d l = l.b - l.d
+abbrev pub invariant-loop-score : goal.invariant-loop-score
+invariant-loop-score l = from (λ j v. yields (scored_at l.scores j) v) l.score-index (length l.scores) l.a ≡ from (λ j v. yields (scored_at l.scores j) v) 0 (length l.scores) l.initial.a

@@ -5,12 +5,12 @@ use Prim.Native.Nat.{◌+◌}
 use native.Mathlib.Omega.{arith}
 use borrow.Author.Rules.{rules}
 use lib.Ieee.{nan}
-use lib.ListN.{length-set}
+use lib.ListN.{length, length-set}
 use Rattle.loops.specs.Fold.{fold}
 use Rattle.loops.specs.Places.{each, table}
 use Rattle.covariance.specs.declared.Band.{Band}
 use Rattle.covariance.specs.Marks.{ones}
-use Rattle.covariance.specs.MarkLaws.{ones_again}
+use Rattle.covariance.specs.MarkLaws.{mark_byte, mark_at_most, ones_again}
 use Rattle.covariance.specs.Bands.{band_of}
 use Rattle.covariance.specs.BandsFrom.{band_from, outlier_from}
 use Rattle.covariance.proofs.Rows.{written, written_again, written_past}
@@ -20,31 +20,30 @@ pub loop-i-init : goal.loop-i-init
 unfolding written each ones fold table
 loop-i-init c = (search rules, search rules, refl, refl, refl, refl, refl, refl, refl)
 
-pub overflow_cast-count : goal.overflow_cast-count
-overflow_cast-count c = omega (arith, c.mark-b.ensures.1)
-
 pub overflow_add-count : goal.overflow_add-count
-overflow_add-count c = omega (arith, c.mark-b.ensures.1, c.loop-i.invariant.1)
+overflow_add-count c = omega (arith, c.from-count.ensures, mark_at_most c.outlies-is_outlier.result, c.loop-i.invariant.1)
 
 pub loop-i-preserved : goal.loop-i-preserved
 unfolding band_from outlier_from
 loop-i-preserved c =
     let l = c.loop-i-test.true in
     let i = c.loop-i.i in
-    let band : c.confidence_band-band.result ≡ band_from c.args.tolerance c.args.z c.args.sd c.args.lower.now c.args.upper.now i = c.confidence_band-band.ensures ∙ ap₂ (band_of c.args.tolerance c.args.z c.args.sd) (written_past _ i _ _ nan c.loop-i.invariant.4) (written_past _ i _ _ nan c.loop-i.invariant.6) in
-    let o : c.mark-b.result ≡ outlier_from c.args.tolerance c.args.z c.args.sd c.args.lower.now c.args.upper.now c.args.ys.now i = c.mark-b.ensures.0 ∙ rw (c.outlies.ensures, band) in (
+    let band : c.confidence_band-band.result ≡ band_from c.args.spread.tolerance c.args.spread.z c.args.spread.sd c.args.lower.now c.args.upper.now i = c.confidence_band-band.ensures ∙ ap₂ (band_of c.args.spread.tolerance c.args.spread.z c.args.spread.sd) (written_past _ i _ _ nan c.loop-i.invariant.4) (written_past _ i _ _ nan c.loop-i.invariant.6) in
+    let at = outlier_from c.args.spread.tolerance c.args.spread.z c.args.spread.sd c.args.lower.now c.args.upper.now c.args.ys.now in
+    let o : c.from.result ≡ at i = c.from.ensures ∙ mark_byte _ ∙ rw (c.outlies-is_outlier.ensures, band) in
+    let m : c.from-count.result ≡ at i = c.from-count.ensures ∙ mark_byte _ ∙ rw (c.outlies-is_outlier.ensures, band) in (
       search rules,
-      omega (arith, c.mark-b.ensures.1, c.loop-i.invariant.1),
-      ap₂ ◌+◌ c.loop-i.invariant.2 o ∙ sym (ones_again _ i),
+      omega (arith, c.from-count.ensures, mark_at_most c.outlies-is_outlier.result, c.loop-i.invariant.1),
+      ap₂ ◌+◌ c.loop-i.invariant.2 m ∙ sym (ones_again _ i),
       simp length-set c.loop-i.invariant.3,
-      written_again _ i _ _ _ c.loop-i.invariant.4 (ap (λ (b : Band). b.lower) band) (omega (arith, l, c.requires.1)),
+      written_again _ i _ _ _ c.loop-i.invariant.4 (ap (λ (b : Band). b.lower) band) (omega (arith, l, c.requires.0)),
       simp length-set c.loop-i.invariant.5,
-      written_again _ i _ _ _ c.loop-i.invariant.6 (ap (λ (b : Band). b.upper) band) (omega (arith, l, c.requires.2)),
+      written_again _ i _ _ _ c.loop-i.invariant.6 (ap (λ (b : Band). b.upper) band) (omega (arith, l, c.requires.1)),
       simp length-set c.loop-i.invariant.7,
-      written_again _ i _ _ _ c.loop-i.invariant.8 o (omega (arith, l, c.requires.3)),
+      written_again _ i _ _ _ c.loop-i.invariant.8 o (omega (arith, l, c.requires.2)),
     )
 
 pub returns : goal.returns
 unfolding written
 returns c =
-    let z : c.loop-i.i ≡ c.args.n = omega arith in record { value = rw z at c.loop-i.invariant.2; lower_after = rw z at c.loop-i.invariant.4; upper_after = rw z at c.loop-i.invariant.6; outlier_after = rw z at c.loop-i.invariant.8 }
+    let z : c.loop-i.i ≡ length c.args.ys.now = omega arith in record { value = rw z at c.loop-i.invariant.2; lower_after = rw z at c.loop-i.invariant.4; upper_after = rw z at c.loop-i.invariant.6; outlier_after = rw z at c.loop-i.invariant.8 }

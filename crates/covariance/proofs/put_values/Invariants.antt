@@ -10,9 +10,9 @@ use Rattle.covariance.proofs.Rows.{written}
 use Rattle.covariance.proofs.put_values.Given as goal
 
 abbrev pub invariant-loop-i : goal.invariant-loop-i
-invariant-loop-i l = (l.i ≤ l.n)
-    × (length l.values ≡ length l.initial.values) × (l.values ≡ written (λ j. fitted l.k.0 l.c (terms_at l.basis (get_or l.xs j nan) (get_or l.zs j nan))) l.i l.initial.values)
-    × (length l.variances ≡ length l.initial.variances) × (l.variances ≡ written (λ j. prediction_variance l.k.0 (terms_at l.basis (get_or l.xs j nan) (get_or l.zs j nan)) l.covariance) l.i l.initial.variances)
+invariant-loop-i l = (l.i ≤ length l.rows.ys.now)
+    × (length l.values ≡ length l.initial.values) × (l.values ≡ written (λ j. fitted l.k.0 l.c (terms_at l.rows.basis (get_or l.rows.xs.now j nan) (get_or l.rows.zs.now j nan))) l.i l.initial.values)
+    × (length l.variances ≡ length l.initial.variances) × (l.variances ≡ written (λ j. prediction_variance l.k.0 (terms_at l.rows.basis (get_or l.rows.xs.now j nan) (get_or l.rows.zs.now j nan)) l.covariance) l.i l.initial.variances)
 
 abbrev pub decreases-loop-i : goal.decreases-loop-i
-decreases-loop-i l = l.n - l.i
+decreases-loop-i l = length l.rows.ys.now - l.i

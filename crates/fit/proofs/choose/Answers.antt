@@ -1,10 +1,8 @@
 -- `fit::choose` meets its contract.
 use mathlib.Core.Path.{◌≡◌, refl, sym, ap, ◌∙◌}
-use mathlib.Core.Bool.{false}
 use Prim.Native.Nat.{◌+◌, ◌<◌}
 use native.Mathlib.Omega.{arith}
 use borrow.Author.Rules.{rules}
-use lib.Ieee.{nan}
 use Rattle.loops.specs.Fold.{fold}
 use Rattle.loops.specs.FoldLaws.{fold_table}
 use Rattle.loops.specs.Places.{each, table}
@@ -12,54 +10,50 @@ use Rattle.loops.specs.PlaceLaws.{each_again}
 use Rattle.loops.specs.WithinLaws.{within_itself, within_then}
 use Rattle.basis.specs.Counts.{count_of}
 use Rattle.basis.specs.CountLaws.{count_mono}
-use Rattle.monomial.specs.Rows.{rows_at}
 use Rattle.solve.specs.Nested.{solution_of}
 use Rattle.solve.specs.NestedLaws.{solve_nested}
-use Rattle.choice.specs.Laws.{chosen_below}
-use Rattle.choice.specs.declared.Scored.{Scored}
+use Rattle.monomial.specs.Reading.{rows_read}
 use Rattle.fit.specs.Solved.{scored_by, pivot_tests}
 use Rattle.fit.proofs.Choosing.{tests_at_most, choice_is}
+use Rattle.std.specs.Prelude.{None}
 use Rattle.fit.proofs.choose.Goals as goal
 
 pub loop-d-init : goal.loop-d-init
 unfolding each fold table
-loop-d-init c = (search rules, search rules, within_itself _ _, refl, refl, refl)
+loop-d-init c = (search rules, search rules, within_itself _ _, refl, refl)
 
 pub k-most-requires : goal.k-most-requires
-k-most-requires c = c.requires.5
+k-most-requires c = c.requires.2
 
 pub eliminated-e-requires : goal.eliminated-e-requires
-eliminated-e-requires c = (c.requires.4, omega (arith, c.k-most.ensures, c.requires.6))
+eliminated-e-requires c = (c.requires.1, omega (arith, c.k-most.ensures, c.requires.3))
 
 pub solution-s-requires : goal.solution-s-requires
-solution-s-requires c = omega (arith, c.k-k.ensures, count_mono c.args.basis c.loop-d.d c.args.bound.0 (omega (arith, c.loop-d-test.true)), c.requires.6)
+solution-s-requires c = omega (arith, c.k-k.ensures, count_mono c.args.rows.basis c.loop-d.d c.args.bound.0 (omega (arith, c.loop-d-test.true)), c.requires.3)
 
 pub trial-t-requires : goal.trial-t-requires
 trial-t-requires c =
-    let m = count_mono c.args.basis c.loop-d.d c.args.bound.0 (omega (arith, c.loop-d-test.true)) in
-    let within = solve_nested c.args.sums.now c.k-k.result.0 c.k-most.result.0 (omega (arith, c.k-most.ensures, c.k-k.ensures, m)) (omega (arith, c.k-most.ensures, c.requires.6)) (omega (arith, c.requires.4)) in
-    (search rules, search rules, search rules, search rules, omega (arith, c.k-k.ensures, m, c.requires.6), c.solution-s.ensures ∙ ap (solution_of c.k-k.result.0) c.eliminated-e.ensures ∙ sym within)
+    let m = count_mono c.args.rows.basis c.loop-d.d c.args.bound.0 (omega (arith, c.loop-d-test.true)) in
+    let within = solve_nested c.args.sums.now c.k-k.result.0 c.k-most.result.0 (omega (arith, c.k-most.ensures, c.k-k.ensures, m)) (omega (arith, c.k-most.ensures, c.requires.3)) (omega (arith, c.requires.1)) in
+    (search rules, omega (arith, c.k-k.ensures, m, c.requires.3), c.solution-s.ensures ∙ ap (solution_of c.k-k.result.0) c.eliminated-e.ensures ∙ sym within)
 
-pub bounds-solved-d : goal.bounds-solved-d
-bounds-solved-d c = omega (arith, c.loop-d-test.true, c.requires.5)
+pub bounds-scores-d : goal.bounds-scores-d
+bounds-scores-d c = omega (arith, c.loop-d-test.true, c.requires.2)
 
-pub offset_bounds-score-d : goal.offset_bounds-score-d
-offset_bounds-score-d c =
-    let small : c.loop-d.d < 16 = omega (arith, c.loop-d-test.true, c.requires.5) in
+pub offset_bounds-scores-d : goal.offset_bounds-scores-d
+offset_bounds-scores-d c =
+    let small : c.loop-d.d < 16 = omega (arith, c.loop-d-test.true, c.requires.2) in
     search (rules, small)
-
-pub bounds-score-d : goal.bounds-score-d
-bounds-score-d c = omega (arith, c.loop-d-test.true, c.requires.5)
 
 pub overflow_add-tests : goal.overflow_add-tests
 overflow_add-tests c =
-    let m = count_mono c.args.basis c.loop-d.d c.args.bound.0 (omega (arith, c.loop-d-test.true)) in
+    let m = count_mono c.args.rows.basis c.loop-d.d c.args.bound.0 (omega (arith, c.loop-d-test.true)) in
     let t = c.trial-t.ensures.tests ∙ ap (pivot_tests c.args.sums.now) c.k-k.ensures in
-    omega (arith, c.loop-d.invariant.1, c.requires.6, m, t, tests_at_most c.args.sums.now (count_of c.args.basis c.loop-d.d))
+    omega (arith, c.loop-d.invariant.1, c.requires.3, m, t, tests_at_most c.args.sums.now (count_of c.args.rows.basis c.loop-d.d))
 
 pub overflow_step-d : goal.overflow_step-d
 overflow_step-d c =
-    let small : c.loop-d.d < 16 = omega (arith, c.loop-d-test.true, c.requires.5) in
+    let small : c.loop-d.d < 16 = omega (arith, c.loop-d-test.true, c.requires.2) in
     search (rules, small)
 
 pub loop-d-smaller : goal.loop-d-smaller
@@ -67,21 +61,22 @@ loop-d-smaller c = omega (arith, c.loop-d-test.true)
 
 pub loop-d-preserved : goal.loop-d-preserved
 loop-d-preserved c =
-    let rows = rows_at c.args.basis c.args.n c.args.xs.now c.args.zs.now c.args.ys.now in
-    let m = count_mono c.args.basis c.loop-d.d c.args.bound.0 (omega (arith, c.loop-d-test.true)) in
+    let rows = rows_read c.args.rows in
+    let m = count_mono c.args.rows.basis c.loop-d.d c.args.bound.0 (omega (arith, c.loop-d-test.true)) in
     let e = c.trial-t.ensures.scored ∙ ap (scored_by c.args.criterion c.args.sums.now rows rows) c.k-k.ensures in
     let t = c.trial-t.ensures.tests ∙ ap (pivot_tests c.args.sums.now) c.k-k.ensures in (
       search rules,
-      omega (arith, c.loop-d.invariant.1, c.requires.6, m, t, tests_at_most c.args.sums.now (count_of c.args.basis c.loop-d.d)),
+      omega (arith, c.loop-d.invariant.1, c.requires.3, m, t, tests_at_most c.args.sums.now (count_of c.args.rows.basis c.loop-d.d)),
       within_then c.loop-d.invariant.2 c.trial-t.ensures.within,
-      rw (c.loop-d.invariant.3, ap (λ (s : Scored). s.solved) e) (each_again _ _ _ false (search rules)),
-      rw (c.loop-d.invariant.4, ap (λ (s : Scored). s.score) e) (each_again _ _ _ nan (search rules)),
-      rw (c.loop-d.invariant.5, t) (sym (fold_table ◌+◌ 0 (λ j. pivot_tests c.args.sums.now (count_of c.args.basis j)) c.loop-d.d)),
+      rw (c.loop-d.invariant.3, e) (each_again _ _ _ None (search rules)),
+      rw (c.loop-d.invariant.4, t) (sym (fold_table ◌+◌ 0 (λ j. pivot_tests c.args.sums.now (count_of c.args.rows.basis j)) c.loop-d.d)),
     )
-
-pub score_of-requires : goal.score_of-requires
-score_of-requires c = chosen_below _ _ 16 _ (search rules) c.lowest-chosen.ensures
 
 pub returns : goal.returns
 returns c =
-    let z : c.loop-d.d ≡ c.args.bound.0 + 1 = omega arith in record { is = choice_is c.args.basis c.args.criterion c.args.sums.now (rows_at c.args.basis c.args.n c.args.xs.now c.args.zs.now c.args.ys.now) c.args.bound.0 c.loop-d.solved c.loop-d.score (omega (arith, c.requires.5)) (rw z at c.loop-d.invariant.3) (rw z at c.loop-d.invariant.4) _ _ _ _ _ c.lowest-chosen.ensures c.score_of.ensures c.least-least.ensures c.solved_of-number.ensures (rw z at c.loop-d.invariant.5); within = c.loop-d.invariant.2 }
+    let z : c.loop-d.d ≡ c.args.bound.0 + 1 = omega arith in
+    record {
+      is = choice_is c.args.rows.basis c.args.criterion c.args.sums.now (rows_read c.args.rows) c.args.bound.0 c.loop-d.scores (omega (arith, c.requires.2)) (rw z at c.loop-d.invariant.3)
+          _ _ _ _ _ c.lowest-chosen.ensures c.score_of-score.ensures c.least-least.ensures c.solved_of-solved.ensures (rw z at c.loop-d.invariant.4);
+      within = c.loop-d.invariant.2;
+    }

@@ -1,11 +1,12 @@
 -- `fit::judged` meets its contract.
 use borrow.Author.Rules.{rules}
+use lib.ListN.{length}
 use Rattle.monomial.specs.RowLaws.{length_rows_at}
 use Rattle.fit.proofs.Trials.{pivot_fails, pivots_hold}
 use Rattle.fit.proofs.judged.Goals as goal
 
-pub returns-then-held-k : goal.returns-then-held-k
-returns-then-held-k c = pivot_fails c.args.sums.now _ c.args.k.0 c.args.n c.args.scratch.now (record { held = c.args.held; c = c.args.c }) c.requires.5 c.if-held-k.true
+pub returns-then-solved-k : goal.returns-then-solved-k
+returns-then-solved-k c = pivot_fails c.args.sums.now _ c.args.k.0 (length c.args.rows.ys.now) c.args.scratch.now c.args.solved c.requires.2 c.if-solved-k.true
 
 pub returns : goal.returns
-returns c = pivots_hold c.args.sums.now _ c.args.k.0 c.args.n c.args.scratch.now (record { held = c.args.held; c = c.args.c }) c.requires.5 c.if-held-k.false _ _ c.sizes-all.ensures.is c.sizes-all.ensures.written (length_rows_at c.args.basis c.args.xs.now c.args.zs.now c.args.ys.now c.args.n) (search rules)
+returns c = rw c.then_some.ensures (pivots_hold c.args.sums.now _ c.args.k.0 (length c.args.rows.ys.now) c.args.scratch.now c.args.solved c.requires.2 c.if-solved-k.false _ _ c.sizes-all.ensures.is c.sizes-all.ensures.written (length_rows_at c.args.rows.basis c.args.rows.xs.now c.args.rows.zs.now c.args.rows.ys.now (length c.args.rows.ys.now)) (search rules))

@@ -11,8 +11,8 @@ use Rattle.fit.specs.Residuals.{residual}
 use Rattle.fit.proofs.sizes.Given as goal
 
 abbrev pub invariant-loop-i : goal.invariant-loop-i
-invariant-loop-i l = (l.i ≤ l.n) × (length l.scratch ≡ length l.initial.scratch) × (l.scratch ≡ each (λ t _. abs_f (residual l.k.0 l.c (row_at l.basis l.xs l.zs l.ys t))) l.i l.initial.scratch)
-    × (l.all ≡ all_of (λ (r : Row). finite (residual l.k.0 l.c r)) (rows_at l.basis l.i l.xs l.zs l.ys))
+invariant-loop-i l = (l.i ≤ (length l.rows.ys.now)) × (length l.scratch ≡ length l.initial.scratch) × (l.scratch ≡ each (λ t _. abs_f (residual l.k.0 l.c (row_at l.rows.basis l.rows.xs.now l.rows.zs.now l.rows.ys.now t))) l.i l.initial.scratch)
+    × (l.all ≡ all_of (λ (r : Row). finite (residual l.k.0 l.c r)) (rows_at l.rows.basis l.i l.rows.xs.now l.rows.zs.now l.rows.ys.now))
 
 abbrev pub decreases-loop-i : goal.decreases-loop-i
-decreases-loop-i l = l.n - l.i
+decreases-loop-i l = (length l.rows.ys.now) - l.i
