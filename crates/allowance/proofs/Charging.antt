@@ -1,6 +1,6 @@
 -- What a group's call comes to: refused by 1 or 17, or the call within its group's counter, which is less what it takes.
 use Rattle.std.specs.Prelude.{Result, Ok, Err, IsErrAnd, ⊤}
-use mathlib.Core.Path.{◌≡◌, refl, sym, ap, subst, ◌∙◌}
+use mathlib.Core.Path.{◌≡◌, refl, ap, subst, ◌∙◌}
 use mathlib.Core.Bool.{Bool, true, false, cond, ◌||◌}
 use mathlib.Core.List.{List, [], ◌∷◌}
 use Prim.Native.Nat.{ℕ, zero, suc, ◌-◌, ◌≤◌, ◌<◌}
@@ -26,7 +26,7 @@ use Rattle.reporting.specs.declared.Counted.{Counted}
 use Rattle.reporting.specs.declared.Places.{Places}
 use Rattle.reporting.specs.Limited.{Limited, limited_of, limited_early, DoesWithin}
 use Rattle.reporting.specs.Outputs.{LentOutputs, Outputs}
-use Rattle.reporting.specs.Reports.{ReportAnswer, refused_early, refused_late, report_of, Does}
+use Rattle.reporting.specs.Reports.{ReportAnswer, refused_early, refused_late, report_of}
 use Rattle.report.specs.Refusals.{report_refusal}
 use Rattle.report.specs.Reports.{report_choice}
 use Rattle.report.specs.Limited.{within_past, within_on}

@@ -3,22 +3,24 @@
 #![tactic(auto)]
 
 ghost use Rattle.std.specs.Prelude.{◌≡◌, ◌||◌, [], ◌∷◌, ltb};
-ghost use Rattle.samples.specs.Columns.{columns_of};
+ghost use Rattle.samples.specs.Held.{held};
 ghost use Rattle.refusal.specs.Refusals.{by, first_of};
 ghost use Rattle.refusal.specs.Named.{judged};
 ghost use Rattle.lent.specs.Slices.{before, after, contents};
-ghost use Rattle.reporting.specs.Outputs.{outputs};
-ghost use Rattle.surface.specs.Points.{point_columns};
-ghost use Rattle.split.specs.Splits.{lent_split};
+ghost use Rattle.reporting.specs.Outputs.{lent_outputs};
+ghost use Rattle.surface.specs.Points.{held_points};
+ghost use Rattle.split.specs.Splits.{lent_memory};
 ghost use Rattle.allowance.specs.Table.{table_places, table_refusal, start_out, renew_out, TableIs};
 ghost use Rattle.allowance.specs.Refusals.{no_group};
 ghost use Rattle.allowance.specs.Charges.{GroupReportIs, GroupSurfaceIs, GroupSplitIs};
 
 use book::Book;
 use refusal::{Refusal, any_short, first_of};
-use reporting::{Places, Report};
+use reporting::{Memory, Report, local};
+use samples::Columns;
 use settings::Settings;
 use split::Break;
+use surface::Points;
 
 // The groups, the last of them, and the places of the table: a counter for each, then the quota.
 pub const GROUPS: usize = 8;
@@ -63,57 +65,27 @@ fn check_group(short: bool, table: usize, group: usize) -> Result<(), Refusal>
     first_of(&[(few, Refusal::Short), (LAST < group, Refusal::NoGroup)])
 }
 
+// The group's calls are not one function that is handed the call as a closure: of the memory that a closure writes nothing is known after it.
+
 // A report of a group's book.
 #[tactic(auto, using(crate::proofs::Charging::group_counted, crate::proofs::Charging::report_taken))]
 pub fn group_report(
     group: usize,
     book: Book,
     settings: Settings,
-    xs: &[f64],
-    ys: &[f64],
-    ws: &[f64],
+    columns: Columns<'_>,
     sums: &[f64],
-    scratch: &mut [f64],
-    coefficients: &mut [f64],
-    errors: &mut [f64],
-    pruned: &mut [u8],
-    lower: &mut [f64],
-    upper: &mut [f64],
-    outliers: &mut [u8],
+    memory: Memory<'_>,
     table: &mut [usize],
 ) -> Result<Report, Refusal>
-    ensures { GroupReportIs group book.count settings (columns_of xs.now ys.now ws.now) sums.now result (outputs scratch coefficients errors pruned lower upper outliers) (contents table) }
+    ensures { GroupReportIs group book.count settings (held columns.entry) sums.now result (lent_outputs memory) (contents table) }
 {
-    let n = book.count;
-    let places = Places {
-        scratch: scratch.len(),
-        coefficients: coefficients.len(),
-        errors: errors.len(),
-        pruned: pruned.len(),
-        lower: lower.len(),
-        upper: upper.len(),
-        outliers: outliers.len(),
-    };
-    let columns = [xs.len(), ys.len(), ws.len()];
-    let short = report::report_short(n, &columns, sums.len(), places);
+    local!(memory);
+    let lengths = columns.lengths();
+    let short = report::report_short(book.count, &lengths, sums.len(), memory.places());
     check_group(short, table.len(), group)?;
     let left = table[group];
-    let done = report::report_within(
-        book,
-        settings,
-        left,
-        xs,
-        ys,
-        ws,
-        sums,
-        scratch,
-        coefficients,
-        errors,
-        pruned,
-        lower,
-        upper,
-        outliers,
-    );
+    let done = report::report_within(book, settings, left, columns, sums, memory);
     table[group] = left - done.tests;
     done.answer
 }
@@ -124,47 +96,17 @@ pub fn group_surface_report(
     group: usize,
     count: usize,
     settings: Settings,
-    xs: &[f64],
-    zs: &[f64],
-    ys: &[f64],
-    scratch: &mut [f64],
-    coefficients: &mut [f64],
-    errors: &mut [f64],
-    pruned: &mut [u8],
-    lower: &mut [f64],
-    upper: &mut [f64],
-    outliers: &mut [u8],
+    points: Points<'_>,
+    memory: Memory<'_>,
     table: &mut [usize],
 ) -> Result<Report, Refusal>
-    ensures { GroupSurfaceIs group count settings (point_columns xs.now zs.now ys.now) result (outputs scratch coefficients errors pruned lower upper outliers) (contents table) }
+    ensures { GroupSurfaceIs group count settings (held_points points.entry) result (lent_outputs memory) (contents table) }
 {
-    let places = Places {
-        scratch: scratch.len(),
-        coefficients: coefficients.len(),
-        errors: errors.len(),
-        pruned: pruned.len(),
-        lower: lower.len(),
-        upper: upper.len(),
-        outliers: outliers.len(),
-    };
-    let short = surface::surface_short(count, &[xs.len(), zs.len(), ys.len()], places);
+    local!(memory);
+    let short = surface::surface_short(count, &points.lengths(), memory.places());
     check_group(short, table.len(), group)?;
     let rest = table[group];
-    let done = surface::surface_report_within(
-        count,
-        settings,
-        rest,
-        xs,
-        zs,
-        ys,
-        scratch,
-        coefficients,
-        errors,
-        pruned,
-        lower,
-        upper,
-        outliers,
-    );
+    let done = surface::surface_report_within(count, settings, rest, points, memory);
     table[group] = rest - done.tests;
     done.answer
 }
@@ -175,30 +117,29 @@ pub fn group_split(
     group: usize,
     book: Book,
     settings: Settings,
-    xs: &[f64],
-    ys: &[f64],
-    ws: &[f64],
+    columns: Columns<'_>,
     sums: &[f64],
-    scratch: &mut [f64],
-    earlier: &mut [f64],
-    later: &mut [f64],
+    memory: split::Memory<'_>,
     table: &mut [usize],
 ) -> Result<Break, Refusal>
-    ensures { GroupSplitIs group book.count settings (columns_of xs.now ys.now ws.now) sums.now result (lent_split scratch earlier later) (contents table) }
+    ensures { GroupSplitIs group book.count settings (held columns.entry) sums.now result (lent_memory memory) (contents table) }
 {
-    let n = book.count;
-    let places = split::Places {
-        scratch: scratch.len(),
-        before: earlier.len(),
-        after: later.len(),
+    // as `reporting::local!` does
+    let split::Memory {
+        scratch,
+        before,
+        after,
+    } = memory;
+    let memory = split::Memory {
+        scratch,
+        before,
+        after,
     };
-    let columns = [xs.len(), ys.len(), ws.len()];
-    let short = split::split_short(n, &columns, sums.len(), places);
+    let lengths = columns.lengths();
+    let short = split::split_short(book.count, &lengths, sums.len(), memory.places());
     check_group(short, table.len(), group)?;
     let limit = table[group];
-    let done = split::split_within(
-        book, settings, limit, xs, ys, ws, sums, scratch, earlier, later,
-    );
+    let done = split::split_within(book, settings, limit, columns, sums, memory);
     table[group] = limit - done.tests;
     done.answer
 }

@@ -1,6 +1,7 @@
 -- Laws of Losses.antt: what the losses may answer, that they answer where a report does, and that their total is the one that the chosen score is made of.
-use Rattle.std.specs.Prelude.{◌≡◌, refl, true, false, ℕ, zero, suc, ◌+◌, length, Float, Option, Some, Ok}
+use Rattle.std.specs.Prelude.{◌≡◌, refl, true, false, ℕ, zero, suc, ◌+◌, length, Float, Option, Some, Ok, unwrap_or}
 use Rattle.std.proofs.Common.{ap, ◌∙◌, arith}
+use Rattle.value.specs.Numbers.{zero_f}
 use mathlib.Core.List.{List, [], ◌∷◌, Memᴰ}
 use Rattle.std.proofs.lemmas.List.{length-map}
 use Rattle.loops.specs.PlaceLaws.{table_at}
@@ -95,7 +96,7 @@ told_with_report n settings samples sums columns places scratch losses lent h =
 -- ---- the total
 
 known_score : (criterion : Criterion) (rows : List Row) (sums : List Float) (k j : ℕ) → j ≡ k → is_solved sums rows k ≡ true
-    → score_of criterion (length rows) k (total_f (losses_at sums rows k)) ≡ (scored_by criterion sums rows rows j).score
+    → Some (score_of criterion (length rows) k (total_f (losses_at sums rows k))) ≡ scored_by criterion sums rows rows j
 unfolding scored_by score_on losses_at
 known_score criterion rows sums k j e h = rw (e, h)
 
@@ -107,8 +108,8 @@ unfolding report_choice choice_of tried
 chosen_total settings rows sums d h =
     let b = max_degree settings.bound (length rows) in
     let s = chosen_solved (length rows) settings rows sums d h in
-    known_score settings.criterion rows sums (count_of Curve d.0) _ (table_at (count_of Curve) (b + 1) d.0 0 (omega (arith, s.0))) s.1
-    ∙ score_some (λ e. (tried settings.criterion sums rows (counts_of Curve b) e).score) _ d h
+    ap (λ (v : Option Float). unwrap_or v zero_f) (known_score settings.criterion rows sums (count_of Curve d.0) _ (table_at (count_of Curve) (b + 1) d.0 0 (omega (arith, s.0))) s.1)
+    ∙ score_some (tried settings.criterion sums rows (counts_of Curve b)) _ d h
 
 told_by : (n : ℕ) (settings : Settings) (rows : List Row) (sums : List Float) (d : Degree)
     → (report_choice n settings rows sums).chosen ≡ Some d → inverse_fails sums (count_of Curve d.0) ≡ false

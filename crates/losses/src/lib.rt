@@ -7,13 +7,15 @@ mod refusals;
 ghost use Rattle.std.specs.Prelude.{◌≡◌, ◌++◌, ◌≤◌, length, drop};
 ghost use Rattle.value.specs.Total.{total_f};
 ghost use Rattle.statistics.specs.Losses.{losses as losses_f};
-ghost use Rattle.samples.specs.Columns.{columns_of};
+ghost use Rattle.samples.specs.Held.{held};
 ghost use Rattle.lent.specs.Slices.{before, after, contents};
 ghost use Rattle.losses.specs.Losses.{LossIs, loss_out};
 
 use basis::{Basis, Degree, SUMS};
 use book::Book;
+use monomial::Rows;
 use refusal::Refusal;
+use samples::Columns;
 use settings::Settings;
 
 // What the call answers: the chosen degree, the total of its losses and the score that is made of it.
@@ -46,22 +48,18 @@ fn put_losses(a: &[f64], out: &mut [f64]) -> f64
 pub fn losses(
     book: Book,
     settings: Settings,
-    xs: &[f64],
-    ys: &[f64],
-    ws: &[f64],
+    columns: Columns<'_>,
     sums: &[f64],
     scratch: &mut [f64],
     losses: &mut [f64],
 ) -> Result<LossTotals, Refusal>
-    ensures { LossIs (loss_out book.count settings (columns_of xs.now ys.now ws.now) sums.now (before scratch) (before losses)) result (contents scratch) (contents losses) }
+    ensures { LossIs (loss_out book.count settings (held columns.entry) sums.now (before scratch) (before losses)) result (contents scratch) (contents losses) }
 {
     let n = book.count;
     refusals::check_losses(
         n,
         settings,
-        xs,
-        ys,
-        ws,
+        columns,
         sums.len(),
         scratch.len(),
         losses.len(),
@@ -69,17 +67,8 @@ pub fn losses(
     let bound = settings.bound;
     let criterion = settings.criterion;
     let last = statistics::max_degree(bound, n);
-    let m = reporting::choose(
-        Basis::Curve,
-        n,
-        last,
-        criterion,
-        xs,
-        xs,
-        ys,
-        &sums[..SUMS],
-        &mut *scratch,
-    );
+    let rows = Rows::curve(n, columns);
+    let m = reporting::choose(rows, last, criterion, &sums[..SUMS], &mut *scratch);
     let found = match m.found {
         Ok(found) => found,
         Err(refusal) => {
@@ -90,7 +79,7 @@ pub fn losses(
     let degree = found.degree;
     let c = found.measured.c;
     let k = degree.k(Basis::Curve);
-    fit::sizes(Basis::Curve, xs, xs, ys, n, k, &c, &mut *scratch);
+    fit::sizes(rows, k, &c, &mut *scratch);
     let total = put_losses(&scratch[..n], losses);
     lent::clear(scratch, n);
     Ok(LossTotals {

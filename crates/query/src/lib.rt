@@ -4,17 +4,19 @@
 
 mod refusals;
 
-ghost use Rattle.samples.specs.Columns.{columns_of};
+ghost use Rattle.samples.specs.Held.{held};
 ghost use Rattle.lent.specs.Slices.{before, contents};
 ghost use Rattle.measure.specs.Fits.{FitIs};
 ghost use Rattle.measure.specs.Bands.{BandIs};
 ghost use Rattle.query.specs.Fits.{fit_out, validate_out};
 ghost use Rattle.query.specs.Bands.{band_out};
 
-use basis::{Basis, Degree, SUMS};
+use basis::{Degree, SUMS};
 use book::Book;
 use covariance::Band;
+use monomial::Rows;
 use refusal::Refusal;
+use samples::Columns;
 use score::Criterion;
 use statistics::{Confidence, DegreeBound, Tolerance};
 
@@ -22,37 +24,24 @@ use statistics::{Confidence, DegreeBound, Tolerance};
 pub fn fit(
     book: Book,
     degree: Degree,
-    xs: &[f64],
-    ys: &[f64],
-    ws: &[f64],
+    columns: Columns<'_>,
     sums: &[f64],
     scratch: &mut [f64],
     coefficients: &mut [f64],
 ) -> Result<Degree, Refusal>
-    ensures { FitIs (fit_out book.count (columns_of xs.now ys.now ws.now) sums.now (before scratch) (before coefficients) degree.0) result (contents scratch) (contents coefficients) }
+    ensures { FitIs (fit_out book.count (held columns.entry) sums.now (before scratch) (before coefficients) degree.0) result (contents scratch) (contents coefficients) }
 {
     let n = book.count;
     refusals::check_fit(
         n,
         degree,
-        xs,
-        ys,
-        ws,
+        columns,
         sums.len(),
         scratch.len(),
         coefficients.len(),
     )?;
-    measure::solve_at(
-        Basis::Curve,
-        n,
-        degree,
-        xs,
-        xs,
-        ys,
-        &sums[..SUMS],
-        scratch,
-        coefficients,
-    )
+    let rows = Rows::curve(n, columns);
+    measure::solve_at(rows, degree, &sums[..SUMS], scratch, coefficients)
 }
 
 // The fit of the degree that k-fold cross-validation chooses. The folds solve from the columns, the fit from the lent sums.
@@ -61,44 +50,31 @@ pub fn validate(
     folds: usize,
     bound: DegreeBound,
     criterion: Criterion,
-    xs: &[f64],
-    ys: &[f64],
-    ws: &[f64],
+    columns: Columns<'_>,
     sums: &[f64],
     scratch: &mut [f64],
     coefficients: &mut [f64],
 ) -> Result<Degree, Refusal>
-    ensures { FitIs (validate_out book.count (columns_of xs.now ys.now ws.now) sums.now (before scratch) (before coefficients) folds bound criterion) result (contents scratch) (contents coefficients) }
+    ensures { FitIs (validate_out book.count (held columns.entry) sums.now (before scratch) (before coefficients) folds bound criterion) result (contents scratch) (contents coefficients) }
 {
     let n = book.count;
     refusals::check_validate(
         n,
         folds,
         bound,
-        xs,
-        ys,
-        ws,
+        columns,
         sums.len(),
         scratch.len(),
         coefficients.len(),
     )?;
     let most = statistics::max_degree(bound, n);
-    let chosen = folds::choose_by_folds(xs, ys, ws, n, folds, most, criterion, &mut *scratch);
+    let rows = Rows::curve(n, columns);
+    let chosen = folds::choose_by_folds(rows, folds, most, criterion, &mut *scratch);
     let Some(degree) = chosen else {
         lent::clear(scratch, n);
         return Err(Refusal::NoneChosen);
     };
-    measure::solve_at(
-        Basis::Curve,
-        n,
-        degree,
-        xs,
-        xs,
-        ys,
-        &sums[..SUMS],
-        scratch,
-        coefficients,
-    )
+    measure::solve_at(rows, degree, &sums[..SUMS], scratch, coefficients)
 }
 
 // The band at x of the curve of the asked degree.
@@ -108,13 +84,11 @@ pub fn band(
     degree: Degree,
     confidence: Confidence,
     tolerance: Tolerance,
-    xs: &[f64],
-    ys: &[f64],
-    ws: &[f64],
+    columns: Columns<'_>,
     sums: &[f64],
     scratch: &mut [f64],
 ) -> Result<Band, Refusal>
-    ensures { BandIs (band_out book.count x degree.0 confidence tolerance (columns_of xs.now ys.now ws.now) sums.now (before scratch)) result (contents scratch) }
+    ensures { BandIs (band_out book.count x degree.0 confidence tolerance (held columns.entry) sums.now (before scratch)) result (contents scratch) }
 {
     let n = book.count;
     refusals::check_band(
@@ -123,23 +97,17 @@ pub fn band(
         degree,
         confidence,
         tolerance,
-        xs,
-        ys,
-        ws,
+        columns,
         sums.len(),
         scratch.len(),
     )?;
     measure::band_of(
-        Basis::Curve,
-        n,
+        Rows::curve(n, columns),
         x,
         x,
         degree,
         confidence,
         tolerance,
-        xs,
-        xs,
-        ys,
         &sums[..SUMS],
         scratch,
     )

@@ -4,17 +4,18 @@
 
 mod refusals;
 
-ghost use Rattle.samples.specs.Columns.{columns_of};
-ghost use Rattle.lent.specs.Slices.{before, after};
-ghost use Rattle.reporting.specs.Outputs.{outputs};
+ghost use Rattle.samples.specs.Held.{held};
+ghost use Rattle.reporting.specs.Outputs.{lent_outputs, outputs};
 ghost use Rattle.report.specs.Reports.{ReportIs};
 ghost use Rattle.report.specs.Limited.{WithinIs};
 
-use basis::{Basis, SUMS};
+use basis::SUMS;
 use book::Book;
+use monomial::Rows;
 use refusal::Refusal;
 pub use refusals::report_short;
-use reporting::{Counted, Places, Report};
+use reporting::{Counted, Memory, Report, local};
+use samples::Columns;
 use settings::Settings;
 
 // A report of the book within a limit of pivot tests. Nothing but scratch is written before 12 is ruled out.
@@ -22,64 +23,51 @@ pub fn report_within(
     book: Book,
     settings: Settings,
     limit: usize,
-    xs: &[f64],
-    ys: &[f64],
-    ws: &[f64],
+    columns: Columns<'_>,
     sums: &[f64],
-    scratch: &mut [f64],
-    coefficients: &mut [f64],
-    errors: &mut [f64],
-    pruned: &mut [u8],
-    lower: &mut [f64],
-    upper: &mut [f64],
-    outliers: &mut [u8],
+    memory: Memory<'_>,
 ) -> Counted
-    ensures { WithinIs book.count settings limit (columns_of xs.now ys.now ws.now) sums.now result (outputs scratch coefficients errors pruned lower upper outliers) }
+    ensures { WithinIs book.count settings limit (held columns.entry) sums.now result (lent_outputs memory) }
 {
+    local!(memory);
     let n = book.count;
-    let places = Places {
-        scratch: scratch.len(),
-        coefficients: coefficients.len(),
-        errors: errors.len(),
-        pruned: pruned.len(),
-        lower: lower.len(),
-        upper: upper.len(),
-        outliers: outliers.len(),
-    };
-    if let Err(refusal) = refusals::check_report(n, settings, xs, ys, ws, sums.len(), places) {
+    if let Err(refusal) = refusals::check_report(
+        n,
+        settings,
+        columns,
+        sums.len(),
+        memory.places(),
+    ) {
         return Counted {
             answer: Err(refusal),
             tests: 0,
         };
     }
     let last = statistics::max_degree(settings.bound, n);
-    reporting::report_rows(
-        Basis::Curve,
-        n,
-        last,
-        settings,
-        limit,
-        xs,
-        xs,
-        ys,
-        &sums[..SUMS],
-        scratch,
-        coefficients,
-        errors,
-        pruned,
-        lower,
-        upper,
-        outliers,
-    )
+    let rows = Rows::curve(n, columns);
+    let counted = reporting::report_rows(rows, last, settings, limit, &sums[..SUMS], memory);
+    counted
 }
 
 // A report of the book.
 pub fn report(
     book: Book,
     settings: Settings,
-    xs: &[f64],
-    ys: &[f64],
-    ws: &[f64],
+    columns: Columns<'_>,
+    sums: &[f64],
+    memory: Memory<'_>,
+) -> Result<Report, Refusal>
+    ensures { ReportIs book.count settings (held columns.entry) sums.now result (lent_outputs memory) }
+{
+    local!(memory);
+    report_within(book, settings, reporting::NO_LIMIT, columns, sums, memory).answer
+}
+
+// A report of the book into seven slices, for a caller whose slices are parts of others: of such parts in a struct nothing is known after the call.
+pub fn report_into(
+    book: Book,
+    settings: Settings,
+    columns: Columns<'_>,
     sums: &[f64],
     scratch: &mut [f64],
     coefficients: &mut [f64],
@@ -89,16 +77,9 @@ pub fn report(
     upper: &mut [f64],
     outliers: &mut [u8],
 ) -> Result<Report, Refusal>
-    ensures { ReportIs book.count settings (columns_of xs.now ys.now ws.now) sums.now result (outputs scratch coefficients errors pruned lower upper outliers) }
+    ensures { ReportIs book.count settings (held columns.entry) sums.now result (outputs scratch coefficients errors pruned lower upper outliers) }
 {
-    report_within(
-        book,
-        settings,
-        reporting::NO_LIMIT,
-        xs,
-        ys,
-        ws,
-        sums,
+    let memory = Memory {
         scratch,
         coefficients,
         errors,
@@ -106,6 +87,6 @@ pub fn report(
         lower,
         upper,
         outliers,
-    )
-    .answer
+    };
+    report(book, settings, columns, sums, memory)
 }

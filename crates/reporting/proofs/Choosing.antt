@@ -1,5 +1,5 @@
 -- What a choice comes to: no degree, or one that is measured.
-use Rattle.std.specs.Prelude.{Option, Some, None, Result, Ok, Err, IsOkAnd, MatchResult}
+use Rattle.std.specs.Prelude.{Option, Some, Result, Ok, Err, IsOkAnd, MatchResult}
 use Rattle.std.specs.Result.{result_map_both}
 use mathlib.Core.Path.{◌≡◌, refl, sym, ap, ◌∙◌}
 use mathlib.Core.Bool.{Bool, true, false, cond}
@@ -19,7 +19,6 @@ use Rattle.fit.specs.declared.Choice.{Choice}
 use Rattle.refusal.specs.Refusals.{first_of, settle}
 use Rattle.refusal.specs.Named.{refused_by}
 use Rattle.refusal.specs.declared.refusals.Refusal.{Refusal}
-use Rattle.refusal.specs.declared.refusals.Refusal.TheVariants.{NoneChosen}
 use Rattle.measure.specs.Measures.{measured, Measures, measure_refusal, inverse_fails}
 use Rattle.measure.specs.declared.Measured.{Measured}
 use Rattle.reporting.specs.declared.Found.{Found}
@@ -53,11 +52,6 @@ module _ (basis : Basis) (criterion : Criterion) (n last : ℕ) (rows : List Row
     (found : r ≡ choice_of criterion sums rows (counts_of basis last)) where
   chosen_is : (o : Option Degree) → r.chosen ≡ o → (choice_of criterion sums rows (counts_of basis last)).chosen ≡ o
   chosen_is o h = ap (λ (c : Choice). c.chosen) (sym found) ∙ h
-
-  -- no degree is chosen
-  pub chooses_none : r.chosen ≡ None → (s t : List Float) → Within n s t
-      → Chooses basis (choice_of criterion sums rows (counts_of basis last)) n rows sums s t (record { choice = r; found = Err NoneChosen })
-  chooses_none h s t w = record { choice = found; found = rw (chosen_is None h) refl; within = w }
 
   -- d is chosen, and measured
   pub chooses_some : (d : Degree) → r.chosen ≡ Some d → (a : Result Measured Refusal) (s t u : List Float) → Within n s t

@@ -12,7 +12,8 @@ use Rattle.basis.specs.declared.Degree.{Degree}
 use Rattle.monomial.specs.Rows.{Row}
 use Rattle.score.specs.declared.Criterion.{Criterion}
 use Rattle.choice.specs.Laws.{chosen}
-use Rattle.fit.specs.Solved.{is_solved, scored_by}
+use Rattle.fit.specs.Solved.{is_solved}
+use Rattle.fit.specs.SolvedLaws.{scored_some}
 use Rattle.fit.specs.Chosen.{choice_of, counts_of, tried}
 use Rattle.refusal.specs.declared.refusals.Refusal.{Refusal}
 use Rattle.refusal.specs.Refusals.{settle}
@@ -27,12 +28,12 @@ use Rattle.reporting.specs.Chosen.{chosen_refusal, of_chosen, found_of}
 pub last_solved : (basis : Basis) (criterion : Criterion) (rows : List Row) (sums : List Float) (last : ℕ) (d : Degree)
     → (choice_of criterion sums rows (counts_of basis last)).chosen ≡ Some d
     → (d.0 ≤ last) × (is_solved sums rows (count_of basis d.0) ≡ true)
-unfolding choice_of tried scored_by
+unfolding choice_of tried
 last_solved basis criterion rows sums last d h =
     let w = chosen _ _ d.0 h in
     let l = length_table (count_of basis) (last + 1) in
     let k = table_at (count_of basis) (last + 1) d.0 0 (omega (arith, w.within, l)) in
-    (omega (arith, w.within, l), ap (is_solved sums rows) (sym k) ∙ w.is_solved_lem)
+    (omega (arith, w.within, l), ap (is_solved sums rows) (sym k) ∙ (scored_some criterion sums rows rows _ w.is_solved_lem).0)
 
 -- ---- what a call makes of the chosen degree or none
 

@@ -1,7 +1,11 @@
 -- The memory that a report writes: one record for what it holds, for the values written to it, and its lengths. Definitions only.
-use Rattle.std.specs.Prelude.{List, [], ℕ, length, Float}
+use Rattle.std.specs.Prelude.{List, [], ℕ, ◌≤◌, length, Float, ⊤}
+use denote.Triple.Both.{Both}
+use Rattle.basis.specs.declared.Basis.{Basis}
 use Rattle.lent.specs.Slices.{Given, Slice, before, after}
 use Rattle.lent.specs.Written.{over, zeros}
+use Rattle.measure.specs.Places.{term_places}
+use Rattle.reporting.specs.declared.Memory.{Memory}
 use Rattle.reporting.specs.declared.Places.{Places}
 
 pub record Outputs : Type 0 where
@@ -45,11 +49,51 @@ places_of w =
       outliers = length w.outliers;
     }
 
+-- the places of a report of n samples
+abbrev pub RoomFor : Basis → ℕ → Outputs → Type 0
+RoomFor basis n w =
+    (n ≤ length w.scratch) × (term_places basis ≤ length w.coefficients) × (term_places basis ≤ length w.errors) × (term_places basis ≤ length w.pruned)
+    × (n ≤ length w.lower) × (n ≤ length w.upper) × (n ≤ length w.outliers)
+
 -- the memory lent to a call, as it finds it and as it leaves it
 pub record LentOutputs : Type 0 where
   pub found : Outputs
   pub left : Outputs
 
+-- what the lent places hold where a call finds them
+abbrev pub outputs_now : Memory → Outputs
+outputs_now m =
+    record {
+      scratch = m.scratch.now;
+      coefficients = m.coefficients.now;
+      errors = m.errors.now;
+      pruned = m.pruned.now;
+      lower = m.lower.now;
+      upper = m.upper.now;
+      outliers = m.outliers.now;
+    }
+
+-- where a call leaves them: the borrows in the order of the fields
+abbrev pub MemoryLeft : Type 0
+MemoryLeft = Given Float × (Given Float × (Given Float × (Given ℕ × (Given Float × (Given Float × (Given ℕ × ⊤))))))
+
+abbrev pub memory_left : MemoryLeft → Memory
+memory_left m =
+    record {
+      scratch = m.0;
+      coefficients = m.1.0;
+      errors = m.1.1.0;
+      pruned = m.1.1.1.0;
+      lower = m.1.1.1.1.0;
+      upper = m.1.1.1.1.1.0;
+      outliers = m.1.1.1.1.1.1.0;
+    }
+
+-- both, of a parameter
+abbrev pub lent_outputs : Both Memory MemoryLeft → LentOutputs
+lent_outputs m = record { found = outputs_now m.entry; left = outputs_now (memory_left m.exit) }
+
+-- both, of seven slices: C's, and parts of others
 abbrev pub outputs : Slice Float → Slice Float → Slice Float → Slice ℕ → Slice Float → Slice Float → Slice ℕ → LentOutputs
 outputs s c e p l u o =
     record {
@@ -57,8 +101,3 @@ outputs s c e p l u o =
           record { scratch = before s; coefficients = before c; errors = before e; pruned = before p; lower = before l; upper = before u; outliers = before o };
       left = record { scratch = after s; coefficients = after c; errors = after e; pruned = after p; lower = after l; upper = after u; outliers = after o };
     }
-
--- the same in a `requires`, where nothing was written yet
-abbrev pub outputs_now : Given Float → Given Float → Given Float → Given ℕ → Given Float → Given Float → Given ℕ → Outputs
-outputs_now s c e p l u o =
-    record { scratch = s.now; coefficients = c.now; errors = e.now; pruned = p.now; lower = l.now; upper = u.now; outliers = o.now }

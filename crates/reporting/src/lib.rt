@@ -4,21 +4,23 @@
 
 mod refusals;
 
-ghost use Rattle.std.specs.Prelude.{◌≤◌, length, Ok};
+ghost use Rattle.std.specs.Prelude.{◌≡◌, ◌≤◌, length, Ok};
 ghost use Rattle.basis.specs.Sizes.{highest_degree, max_terms, sum_places};
 ghost use Rattle.basis.specs.Counts.{count_of};
-ghost use Rattle.monomial.specs.Rows.{rows_at};
+ghost use Rattle.monomial.specs.Reading.{rows_read};
 ghost use Rattle.fit.specs.Chosen.{choice_of, counts_of};
 ghost use Rattle.measure.specs.Places.{term_places};
 ghost use Rattle.lent.specs.Slices.{before, after};
 ghost use Rattle.reporting.specs.Chosen.{Chooses};
-ghost use Rattle.reporting.specs.Outputs.{outputs};
+ghost use Rattle.reporting.specs.Outputs.{RoomFor, lent_outputs, outputs_now, places_of};
 ghost use Rattle.reporting.specs.Reports.{Does, written_by};
 ghost use Rattle.reporting.specs.Limited.{DoesWithin, limited_up_to};
 
-use basis::{Basis, Degree};
+use basis::Degree;
+use covariance::Spread;
 use fit::Choice;
 use measure::Measured;
+use monomial::Rows;
 use refusal::Refusal;
 pub use refusals::check_settings;
 use score::Criterion;
@@ -34,6 +36,45 @@ pub struct Places {
     pub lower: usize,
     pub upper: usize,
     pub outliers: usize,
+}
+
+// All that a report writes, as it is lent to a call.
+#[derive(Drop)]
+pub struct Memory<'a> {
+    pub scratch: &'a mut [f64],
+    pub coefficients: &'a mut [f64],
+    pub errors: &'a mut [f64],
+    pub pruned: &'a mut [u8],
+    pub lower: &'a mut [f64],
+    pub upper: &'a mut [f64],
+    pub outliers: &'a mut [u8],
+}
+
+// A parameter's memory as a local: what a call leaves in the fields of a local is known, and not what it leaves in those of a parameter that is moved whole.
+// The call is then no function's last expression: the local has to outlive it.
+#[macro_export]
+macro_rules! local {
+    ($memory:ident) => {
+        let $crate::Memory { scratch, coefficients, errors, pruned, lower, upper, outliers } = $memory;
+        let $memory = $crate::Memory { scratch, coefficients, errors, pruned, lower, upper, outliers };
+    };
+}
+
+impl Memory<'_> {
+    // How many places are lent of each.
+    pub fn places(&self) -> Places
+        ensures { result ≡ places_of (outputs_now self.now) }
+    {
+        Places {
+            scratch: self.scratch.len(),
+            coefficients: self.coefficients.len(),
+            errors: self.errors.len(),
+            pruned: self.pruned.len(),
+            lower: self.lower.len(),
+            upper: self.upper.len(),
+            outliers: self.outliers.len(),
+        }
+    }
 }
 
 // What a report answers: the chosen degree, the number of solved degrees, of outliers and of pruned terms.
@@ -71,28 +112,21 @@ pub struct Chosen {
 
 // Chooses among the degrees 0 to the last one, solves the chosen one again and measures it. Of scratch, only the first n places change.
 pub fn choose(
-    basis: Basis,
-    n: usize,
+    rows: Rows<'_>,
     last: Degree,
     criterion: Criterion,
-    xs: &[f64],
-    zs: &[f64],
-    ys: &[f64],
     sums: &[f64],
     scratch: &mut [f64],
 ) -> Chosen
-    requires { (n ≤ length xs.now) × (n ≤ length zs.now) × (n ≤ length ys.now) × (n ≤ length scratch.old) × (sum_places ≤ length sums.now) × (last.0 ≤ highest_degree) × (count_of basis last.0 ≤ max_terms) }
-    ensures { Chooses basis (choice_of criterion sums.now (rows_at basis n xs.now zs.now ys.now) (counts_of basis last.0)) n (rows_at basis n xs.now zs.now ys.now) sums.now (before scratch) (after scratch) result }
+    requires { (length rows.ys.now ≤ length scratch.old) × (sum_places ≤ length sums.now) × (last.0 ≤ highest_degree) × (count_of rows.basis last.0 ≤ max_terms) }
+    ensures { Chooses rows.entry.basis (choice_of criterion sums.now (rows_read rows.entry) (counts_of rows.entry.basis last.0)) (length rows.entry.ys.now) (rows_read rows.entry) sums.now (before scratch) (after scratch) result }
 {
-    let choice = fit::choose(basis, xs, zs, ys, n, sums, last, criterion, &mut *scratch);
+    let choice = fit::choose(rows, sums, last, criterion, &mut *scratch);
     let found = match choice.chosen {
         None => Err(Refusal::NoneChosen),
         Some(degree) => {
-            let k = degree.k(basis);
-            measure::measure(basis, xs, zs, ys, n, sums, k, scratch).map(|measured| Found {
-                degree,
-                measured,
-            })
+            let k = degree.k(rows.basis);
+            measure::measure(rows, sums, k, scratch).map(|measured| Found { degree, measured })
         }
     };
     Chosen { choice, found }
@@ -100,45 +134,44 @@ pub fn choose(
 
 // Writes what a report of this degree writes, and answers it.
 pub fn write(
-    basis: Basis,
-    n: usize,
+    rows: Rows<'_>,
     settings: Settings,
     found: Found,
     solved: usize,
-    xs: &[f64],
-    zs: &[f64],
-    ys: &[f64],
-    scratch: &mut [f64],
-    coefficients: &mut [f64],
-    errors: &mut [f64],
-    pruned: &mut [u8],
-    lower: &mut [f64],
-    upper: &mut [f64],
-    outliers: &mut [u8],
+    memory: Memory<'_>,
 ) -> Report
-    requires n_in_bounds { (n ≤ length xs.now) × (n ≤ length zs.now) × (n ≤ length ys.now) × (found.degree.0 ≤ highest_degree) × (count_of basis found.degree.0 ≤ n) × (count_of basis found.degree.0 ≤ max_terms) }
-    requires outputs_fit { (n ≤ length scratch.old) × (term_places basis ≤ length coefficients.old) × (term_places basis ≤ length errors.old) × (term_places basis ≤ length pruned.old) × (n ≤ length lower.old) × (n ≤ length upper.old) × (n ≤ length outliers.old) }
-    ensures { Does (written_by basis n settings (rows_at basis n xs.now zs.now ys.now) found.degree.0 solved found.measured.c found.measured.covariance) (Ok result) (outputs scratch coefficients errors pruned lower upper outliers) }
+    requires degree_in_bounds { (found.degree.0 ≤ highest_degree) × (count_of rows.basis found.degree.0 ≤ length rows.ys.now) × (count_of rows.basis found.degree.0 ≤ max_terms) }
+    requires outputs_fit { RoomFor rows.basis (length rows.ys.now) (outputs_now memory) }
+    ensures { Does (written_by rows.entry.basis (length rows.entry.ys.now) settings (rows_read rows.entry) found.degree.0 solved found.measured.c found.measured.covariance) (Ok result) (lent_outputs memory) }
 {
-    let places = measure::term_places(basis);
+    let Memory {
+        scratch,
+        coefficients,
+        errors,
+        pruned,
+        lower,
+        upper,
+        outliers,
+    } = memory;
+    let places = measure::term_places(rows.basis);
     let degree = found.degree;
     let c = found.measured.c;
     let v = found.measured.covariance;
-    let k = degree.k(basis);
+    let n = rows.ys.len();
+    let k = degree.k(rows.basis);
     let df = n - k.0;
     let confidence = settings.confidence;
     let tolerance = settings.tolerance;
     let t = statistics::t_score(confidence, df);
     let z = statistics::z_score(confidence);
-    let sd = covariance::deviation_read(tolerance, &ys[..n]);
+    let sd = covariance::deviation_read(tolerance, rows.ys);
+    let spread = Spread { tolerance, z, sd };
     let e = covariance::errors(k, &v);
     lent::clear(scratch, n);
     lent::put_first(&c[..places], coefficients);
     lent::put_first(&e[..places], errors);
-    let terms = covariance::put_pruned(settings.pruning, k, &c, &e, t, places, pruned);
-    let marks = covariance::put_bands(
-        basis, k, &c, &v, tolerance, z, sd, xs, zs, ys, n, lower, upper, outliers,
-    );
+    let terms = covariance::put_pruned(settings.pruning, k, &c, &e, t, &mut pruned[..places]);
+    let marks = covariance::put_bands(rows, k, &c, &v, spread, lower, upper, outliers);
     Report {
         degree,
         solved,
@@ -149,31 +182,22 @@ pub fn write(
 
 // A report past refusals 1 to 9, within a limit of pivot tests, of the degrees 0 to the last one. Nothing but scratch is written before 12 is ruled out.
 pub fn report_rows(
-    basis: Basis,
-    n: usize,
+    rows: Rows<'_>,
     last: Degree,
     settings: Settings,
     limit: usize,
-    xs: &[f64],
-    zs: &[f64],
-    ys: &[f64],
     sums: &[f64],
-    scratch: &mut [f64],
-    coefficients: &mut [f64],
-    errors: &mut [f64],
-    pruned: &mut [u8],
-    lower: &mut [f64],
-    upper: &mut [f64],
-    outliers: &mut [u8],
+    memory: Memory<'_>,
 ) -> Counted
-    requires n_in_bounds { (n ≤ length xs.now) × (n ≤ length zs.now) × (n ≤ length ys.now) × (sum_places ≤ length sums.now) × (last.0 ≤ highest_degree) × (count_of basis last.0 ≤ n) × (count_of basis last.0 ≤ max_terms) }
-    requires outputs_fit { (n ≤ length scratch.old) × (term_places basis ≤ length coefficients.old) × (term_places basis ≤ length errors.old) × (term_places basis ≤ length pruned.old) × (n ≤ length lower.old) × (n ≤ length upper.old) × (n ≤ length outliers.old) }
-    ensures { DoesWithin (limited_up_to basis n settings limit last.0 (rows_at basis n xs.now zs.now ys.now) sums.now) result (outputs scratch coefficients errors pruned lower upper outliers) }
+    requires last_in_bounds { (sum_places ≤ length sums.now) × (last.0 ≤ highest_degree) × (count_of rows.basis last.0 ≤ length rows.ys.now) × (count_of rows.basis last.0 ≤ max_terms) }
+    requires outputs_fit { RoomFor rows.basis (length rows.ys.now) (outputs_now memory) }
+    ensures { DoesWithin (limited_up_to rows.entry.basis (length rows.entry.ys.now) settings limit last.0 (rows_read rows.entry) sums.now) result (lent_outputs memory) }
 {
+    local!(memory);
     let criterion = settings.criterion;
-    let m = choose(basis, n, last, criterion, xs, zs, ys, sums, &mut *scratch);
+    let m = choose(rows, last, criterion, sums, &mut *memory.scratch);
     if limit < m.choice.tests {
-        lent::clear(scratch, n);
+        lent::clear(memory.scratch, rows.ys.len());
         return Counted {
             answer: Err(Refusal::OverLimit),
             tests: 0,
@@ -182,30 +206,14 @@ pub fn report_rows(
     let found = match m.found {
         Ok(found) => found,
         Err(refusal) => {
-            lent::clear(scratch, n);
+            lent::clear(memory.scratch, rows.ys.len());
             return Counted {
                 answer: Err(refusal),
                 tests: m.choice.tests,
             };
         }
     };
-    let report = write(
-        basis,
-        n,
-        settings,
-        found,
-        m.choice.solved,
-        xs,
-        zs,
-        ys,
-        scratch,
-        coefficients,
-        errors,
-        pruned,
-        lower,
-        upper,
-        outliers,
-    );
+    let report = write(rows, settings, found, m.choice.solved, memory);
     Counted {
         answer: Ok(report),
         tests: m.choice.tests,

@@ -9,7 +9,6 @@ use Rattle.basis.specs.declared.Basis.TheVariants.{Curve}
 use Rattle.basis.specs.declared.Degree.{Degree}
 use Rattle.statistics.specs.Degrees.{max_degree}
 use Rattle.monomial.specs.Rows.{Row}
-use Rattle.covariance.specs.Marks.{mark}
 use Rattle.fit.specs.declared.Choice.{Choice}
 use Rattle.refusal.specs.declared.refusals.Refusal.{Refusal}
 use Rattle.refusal.specs.Named.{refused_by}
@@ -24,8 +23,8 @@ use Rattle.reporting.specs.declared.Found.{Found}
 use Rattle.reporting.specs.Chosen.{chosen_refusal, of_chosen, Chooses}
 use Rattle.reporting.specs.ChosenLaws.{of_late, of_told, none_found, one_found}
 use Rattle.report.specs.Reports.{report_choice}
-use Rattle.scores.specs.Scores.{ScoresAnswer, ScoresOut, ScoresIs, scores_refused, scores_late, scores_by, scores_of, scores_past}
-use Rattle.scores.specs.ScoreLaws.{length_flags}
+use Rattle.scores.specs.Scores.{ScoresAnswer, ScoresOut, ScoresIs, solved_mark, score_or_zero, scores_refused, scores_late, scores_by, scores_of, scores_past}
+use Rattle.scores.specs.ScoreLaws.{length_scores}
 
 -- refused by q, one of 1 to 9
 pub refused_early_lem : (q : ℕ) (past : ScoresOut) (s : List Float) (b : List ℕ) (l : List Float) {r : ScoresAnswer} → (q ≡ 0 → ⊥) × (r ≡ refused_by q)
@@ -63,16 +62,16 @@ module _ (n : ℕ) (settings : Settings) (rows : List Row) (sums s u : List Floa
         ap (λ (d : Option Degree). of_chosen Curve sums (scores_late n) told d) o.0 ∙ of_told Curve sums (scores_late n) told f.degree o.1
 
     pub told_whole : (last : Degree) → last.0 ≡ max_degree settings.bound n
-        → (b b' : List ℕ) (l l' : List Float) → b' ≡ map mark m.choice.flags ++ drop 16 b → l' ≡ over m.choice.scores l
+        → (b b' : List ℕ) (l l' : List Float) → b' ≡ map solved_mark m.choice.scores ++ drop 16 b → l' ≡ over (map score_or_zero m.choice.scores) l
         → ScoresIs (scores_past n settings rows sums)
         (Ok (record { degree = f.degree; bound = last; solved = m.choice.solved; least = m.choice.least; tests = m.choice.tests })) (contents_of s t) (contents_of b b') (contents_of l l')
     unfolding scores_by
     told_whole last el b b' l l' eb es =
-        let fl = ap (λ (o : Choice). length o.flags) ch.choice ∙ length_flags n settings rows sums in
+        let fl = ap (λ (o : Choice). length o.scores) ch.choice ∙ length_scores n settings rows sums in
         rw (told_by, ← ch.choice, ← el)
         (record {
           answer = refl;
           scratch = over_cleared n s u t ch.within cleared;
-          solved = over_by 16 (map mark m.choice.flags) b b' (length-map m.choice.flags mark ∙ fl) eb;
+          solved = over_by 16 (map solved_mark m.choice.scores) b b' (length-map m.choice.scores solved_mark ∙ fl) eb;
           scores = es;
         })

@@ -1,6 +1,6 @@
 -- Laws of Scores.antt: what the scores may answer, that they answer where a report does and of the degree that it tells, and what the 16 bytes and the 16
 -- scores hold.
-use Rattle.std.specs.Prelude.{◌≡◌, Bool, cond, length, get_or, drop, replicate, Float, Some, Ok}
+use Rattle.std.specs.Prelude.{◌≡◌, Bool, cond, length, get_or, drop, replicate, Float, Option, Some, None, Ok, is_some}
 use Rattle.std.proofs.Math.Path.{refl, sym, ap}
 use Rattle.std.proofs.Common.{◌∙◌, add-one, arith}
 use Rattle.std.proofs.Math.Bool.{true, false}
@@ -8,25 +8,23 @@ use mathlib.Core.List.{List, [], ◌∷◌, ◌++◌, map, map-append, Memᴰ}
 use Prim.Native.Nat.{ℕ, zero, suc, ◌+◌, ◌-◌, ◌≤◌, ◌<◌}
 use borrow.Author.Tests.{ltb-true, ltb-false}
 use Rattle.std.proofs.Math.Dec.{ltb}
-use Rattle.std.proofs.Math.ListN.{length-map, get_or-replicate}
+use Rattle.std.proofs.Math.ListN.{length-map}
 use Rattle.std.specs.Float.Ieee.{nan, lt}
-use Rattle.loops.specs.Cases.{never}
+use Rattle.std.proofs.lemmas.Option.{none-some}
 use Rattle.loops.specs.Fold.{fold}
 use Rattle.loops.specs.FoldLaws.{fold_append}
 use Rattle.loops.specs.LoopLaws.{last, done}
 use Rattle.loops.specs.Places.{table}
-use Rattle.loops.specs.PlaceLaws.{length_each, each_at, each_past, each_write, length_table, map_table}
+use Rattle.loops.specs.PlaceLaws.{length_each, each_at, each_past, each_write, length_table, map_table, map_at}
 use Rattle.basis.specs.Counts.{count_of}
 use Rattle.basis.specs.declared.Basis.TheVariants.{Curve}
 use Rattle.basis.specs.declared.Degree.{Degree}
-use Rattle.value.specs.Numbers.{zero_f}
 use Rattle.statistics.specs.Degrees.{max_degree}
 use Rattle.samples.specs.declared.Sample.{Sample}
 use Rattle.monomial.specs.Rows.{Row, rows_of}
 use Rattle.choice.specs.Choice.{solved_count}
 use Rattle.choice.specs.Laws.{none_below, score_some}
-use Rattle.choice.specs.declared.Scored.{Scored}
-use Rattle.fit.specs.Chosen.{counts_of, tried, flags_of, choice_of}
+use Rattle.fit.specs.Chosen.{counts_of, tried, scores_of as scores_kept, choice_of}
 use Rattle.fit.specs.declared.Choice.{Choice}
 use Rattle.covariance.specs.Marks.{mark, ones}
 use Rattle.covariance.specs.MarkLaws.{ones_again}
@@ -49,7 +47,7 @@ use Rattle.report.specs.ChosenLaws.{chosen_solved}
 use Rattle.scores.specs.declared.ScoreTable.{ScoreTable}
 use Rattle.scores.specs.Refusals.{scores_needs, scores_refusal}
 use Rattle.scores.specs.RefusalLaws.{scores_numbers, scores_room}
-use Rattle.scores.specs.Scores.{ScoresAnswer, ScoresOut, scores_refused, scores_late, scores_by, scores_of, scores_past, scores_on}
+use Rattle.scores.specs.Scores.{ScoresAnswer, ScoresOut, solved_mark, score_or_zero, scores_refused, scores_late, scores_by, scores_of, scores_past, scores_on}
 
 -- ---- what they may answer, by document 01's numbers
 
@@ -116,57 +114,57 @@ drop_replicate (suc n) (suc k) v =
     let z : n - k ≡ suc n - suc k = omega arith in
     drop_replicate n k v ∙ ap (λ m. replicate m v) z
 
-false_at : (n d : ℕ) → get_or (replicate n false) d false ≡ false
-false_at zero d = refl
-false_at (suc n) zero = refl
-false_at (suc n) (suc d) = false_at n d
+none_at : (n d : ℕ) → get_or {A = Option Float} (replicate n None) d None ≡ None
+none_at zero d = refl
+none_at (suc n) zero = refl
+none_at (suc n) (suc d) = none_at n d
 
 no_marks : (f : ℕ → ℕ) → 0 ≡ ones (table f 0)
 unfolding ones fold table
 no_marks f = refl
 
-ones_none : (m k : ℕ) → fold ◌+◌ m (map mark (replicate k false)) ≡ m
+ones_none : (m k : ℕ) → fold ◌+◌ m (map solved_mark (replicate k None)) ≡ m
 unfolding fold
 ones_none m zero = refl
 ones_none m (suc k) =
     let z : m + 0 ≡ m = omega arith in
-    ap (λ j. fold ◌+◌ j (map mark (replicate k false))) z ∙ ones_none m k
+    ap (λ j. fold ◌+◌ j (map solved_mark (replicate k None))) z ∙ ones_none m k
 
 -- as many ones as there are solved degrees
-module _ (S : ℕ → Scored) where
+module _ (S : ℕ → Option Float) where
   solved_none : solved_count S 0 ≡ 0
   unfolding solved_count
   solved_none = done _ 0 0 0 (omega arith)
 
-  solved_last : (b : ℕ) → solved_count S (suc b) ≡ cond (S b).solved (solved_count S b + 1) (solved_count S b)
+  solved_last : (b : ℕ) → solved_count S (suc b) ≡ cond (is_some (S b)) (solved_count S b + 1) (solved_count S b)
   unfolding solved_count
   solved_last b = last _ b 0
 
-  ones_solved : (b : ℕ) → solved_count S b ≡ ones (table (λ d. mark (S d).solved) b)
-  ones_solved zero = solved_none ∙ no_marks (λ d. mark (S d).solved)
+  ones_solved : (b : ℕ) → solved_count S b ≡ ones (table (λ d. solved_mark (S d)) b)
+  ones_solved zero = solved_none ∙ no_marks (λ d. solved_mark (S d))
   ones_solved (suc b) =
-      solved_last b ∙ more (S b).solved _ _ (ones_solved b) ∙ sym (ones_again (λ d. mark (S d).solved) b)
-      ∙ ap (λ k. ones (table (λ d. mark (S d).solved) k)) (add-one b)
+      solved_last b ∙ more (is_some (S b)) _ _ (ones_solved b) ∙ sym (ones_again (λ d. solved_mark (S d)) b)
+      ∙ ap (λ k. ones (table (λ d. solved_mark (S d)) k)) (add-one b)
     where
       more : (t : Bool) (m k : ℕ) → m ≡ k → cond t (m + 1) m ≡ k + mark t
       more true m k e = omega arith
       more false m k e = omega arith
 
-  ones_flags : (b : ℕ) → b ≤ 16 → solved_count S b ≡ ones (map mark (flags_of S b))
+  ones_scores : (b : ℕ) → b ≤ 16 → solved_count S b ≡ ones (map solved_mark (scores_kept S b))
   unfolding ones
-  ones_flags b h =
-      ones_solved b ∙ ap (fold ◌+◌ 0) (map_table mark (λ d. (S d).solved) b) ∙ sym (ones_none _ (16 - b))
-      ∙ sym (fold_append ◌+◌ 0 (map mark (table (λ d. (S d).solved) b)) (map mark (replicate (16 - b) false)))
-      ∙ ap (fold ◌+◌ 0) (sym (map-append mark (table (λ d. (S d).solved) b) (replicate (16 - b) false)))
-      ∙ ap (λ l. fold ◌+◌ 0 (map mark (table (λ d. (S d).solved) b ++ l))) (sym (drop_replicate 16 b false))
-      ∙ ap (λ l. fold ◌+◌ 0 (map mark l)) (sym (each_write (λ d. (S d).solved) b (replicate 16 false) h))
+  ones_scores b h =
+      ones_solved b ∙ ap (fold ◌+◌ 0) (map_table solved_mark S b) ∙ sym (ones_none _ (16 - b))
+      ∙ sym (fold_append ◌+◌ 0 (map solved_mark (table S b)) (map solved_mark (replicate (16 - b) None)))
+      ∙ ap (fold ◌+◌ 0) (sym (map-append solved_mark (table S b) (replicate (16 - b) None)))
+      ∙ ap (λ l. fold ◌+◌ 0 (map solved_mark (table S b ++ l))) (sym (drop_replicate 16 b None))
+      ∙ ap (λ l. fold ◌+◌ 0 (map solved_mark l)) (sym (each_write S b (replicate 16 None) h))
 
 module _ (n : ℕ) (settings : Settings) (rows : List Row) (sums : List Float) where
   abbrev choice : Choice
   choice = report_choice n settings rows sums
 
   -- what is known of each degree, and the degrees tried
-  abbrev S : ℕ → Scored
+  abbrev S : ℕ → Option Float
   S = tried settings.criterion sums rows (counts_of Curve (max_degree settings.bound n))
 
   abbrev b : ℕ
@@ -175,58 +173,46 @@ module _ (n : ℕ) (settings : Settings) (rows : List Row) (sums : List Float) w
   tried_count : b ≡ max_degree settings.bound n + 1
   tried_count = length_table (count_of Curve) (max_degree settings.bound n + 1)
 
-  -- 16 of each
-  pub length_flags : length choice.flags ≡ 16
-  unfolding report_choice choice_of
-  length_flags = length_each _ b (replicate 16 false)
-
+  -- 16 of them
   pub length_scores : length choice.scores ≡ 16
   unfolding report_choice choice_of
-  length_scores = length_each _ b (replicate 16 zero_f)
+  length_scores = length_each _ b (replicate 16 None)
 
   -- past the bound no degree is solved, and there is no score
-  pub flag_past : (d : ℕ) → max_degree settings.bound n < d → get_or choice.flags d false ≡ false
+  pub score_past : (d : ℕ) → max_degree settings.bound n < d → get_or choice.scores d None ≡ None
   unfolding report_choice choice_of
-  flag_past d h = each_past _ b (replicate 16 false) d false (omega (arith, tried_count)) ∙ false_at 16 d
-
-  pub score_past : (d : ℕ) → max_degree settings.bound n < d → d < 16 → get_or choice.scores d nan ≡ zero_f
-  unfolding report_choice choice_of
-  score_past d h k = each_past _ b (replicate 16 zero_f) d nan (omega (arith, tried_count)) ∙ get_or-replicate 16 d zero_f nan k
+  score_past d h = each_past _ b (replicate 16 None) d None (omega (arith, tried_count)) ∙ none_at 16 d
 
   module _ (most : max_degree settings.bound n ≤ 15) where
     few : b ≤ 16
     few = omega (arith, tried_count)
 
-    flag_at : (d : ℕ) → d < b → get_or choice.flags d false ≡ (S d).solved
+    score_at : (d : ℕ) → d < b → get_or choice.scores d None ≡ S d
     unfolding report_choice choice_of
-    flag_at d h = each_at (λ e _. (S e).solved) b (replicate 16 false) d false h (omega (arith, few))
-
-    score_at : (d : ℕ) → d < b → get_or choice.scores d nan ≡ (S d).score
-    unfolding report_choice choice_of
-    score_at d h = each_at (λ e _. (S e).score) b (replicate 16 zero_f) d nan h (omega (arith, few))
+    score_at d h = each_at (λ e _. S e) b (replicate 16 None) d None h (omega (arith, few))
 
     -- the number of solved degrees is that of the ones
-    pub solved_ones : choice.solved ≡ ones (map mark choice.flags)
+    pub solved_ones : choice.solved ≡ ones (map solved_mark choice.scores)
     unfolding report_choice choice_of
-    solved_ones = ones_flags S b few
+    solved_ones = ones_scores S b few
 
     -- no solved degree scores below the least
-    pub none_less : (d : ℕ) → get_or choice.flags d false ≡ true → lt (get_or choice.scores d nan) choice.least ≡ false
+    pub none_less : (d : ℕ) (v : Float) → get_or choice.scores d None ≡ Some v → lt v choice.least ≡ false
     unfolding report_choice choice_of
-    none_less d h = go (ltb d b) refl
+    none_less d v h = go (ltb d b) refl
       where
-        go : (t : Bool) → ltb d b ≡ t → lt (get_or choice.scores d nan) choice.least ≡ false
+        go : (t : Bool) → ltb d b ≡ t → lt v choice.least ≡ false
         go true q =
             let k = ltb-true d b q in
-            rw (score_at d k) (none_below S b d k (sym (flag_at d k) ∙ h))
-        go false q = never (sym (flag_past d (omega (arith, ltb-false d b q, tried_count))) ∙ h)
+            none_below S b d v k (sym (score_at d k) ∙ h)
+        go false q = absurd (none-some v (sym (score_past d (omega (arith, ltb-false d b q, tried_count))) ∙ h))
 
     -- the chosen degree's score is the score of the choice, which `split` and the losses tell
-    pub chosen_score_lem : (d : Degree) → choice.chosen ≡ Some d → get_or choice.scores d.0 nan ≡ choice.score
+    pub chosen_score_lem : (d : Degree) → choice.chosen ≡ Some d → (d.0 < 16) × (score_or_zero (get_or choice.scores d.0 None) ≡ choice.score)
     unfolding report_choice choice_of
     chosen_score_lem d h =
         let w = chosen_solved n settings rows sums d h in
-        score_at d.0 (omega (arith, w.0, tried_count)) ∙ score_some (λ e. (S e).score) _ d h
+        (omega (arith, w.0, most), ap score_or_zero (score_at d.0 (omega (arith, w.0, tried_count))) ∙ score_some S _ d h)
 
 -- ---- where they are told: as many ones as solved degrees, 16 bytes and scores, none of a solved degree below the least, and the chosen degree's is the
 -- score that a split and the losses tell
@@ -240,11 +226,12 @@ Told score o =
 none_told : (score : Float) (r : ℕ) (s : List Float) → Told score (record { answer = refused_by r; scratch = s; solved = []; scores = [] })
 none_told score r s a h = absurd cc
 
-marked : (l : List Bool) (e : ℕ) → get_or (map mark l) e 0 ≡ 1 → get_or l e false ≡ true
+-- where the byte is 1, the score is a solved degree's
+marked : (l : List (Option Float)) (e : ℕ) → get_or (map solved_mark l) e 0 ≡ 1 → (v : Float) × (get_or l e None ≡ Some v) × (v ≡ get_or (map score_or_zero l) e nan)
 marked [] e h = absurd (omega arith)
-marked (true ∷ l) zero h = refl
-marked (false ∷ l) zero h = absurd (omega arith)
-marked (t ∷ l) (suc e) h = marked l e h
+marked (Some v ∷ l) zero h = (v, refl, refl)
+marked (None ∷ l) zero h = absurd (omega arith)
+marked (s ∷ l) (suc e) h = marked l e h
 
 module _ (n : ℕ) (settings : Settings) (rows : List Row) (sums : List Float) (most : max_degree settings.bound n ≤ 15) where
   by_told : (d : Degree) → (report_choice n settings rows sums).chosen ≡ Some d
@@ -253,8 +240,17 @@ module _ (n : ℕ) (settings : Settings) (rows : List Row) (sums : List Float) (
   by_told d chosen a h =
       let o = report_choice n settings rows sums in
       let same = table_of h in
-      rw (← same)
-      (solved_ones n settings rows sums most, length-map o.flags mark ∙ length_flags n settings rows sums, length_scores n settings rows sums, chosen_score_lem n settings rows sums most d chosen, λ e q. none_less n settings rows sums most e (marked o.flags e q))
+      let long = length_scores n settings rows sums in
+      let c = chosen_score_lem n settings rows sums most d chosen in
+      rw (← same) (
+        solved_ones n settings rows sums most,
+        length-map o.scores solved_mark ∙ long,
+        length-map o.scores score_or_zero ∙ long,
+        map_at score_or_zero o.scores d.0 None nan (omega (arith, c.0, long)) ∙ c.1,
+        λ e q.
+            let m = marked o.scores e q in
+            rw m.2 at (none_less n settings rows sums most e m.0 m.1),
+      )
     where
       table_of : {b : ScoreTable} → ◌≡◌ {A = ScoresAnswer} (Ok b) (Ok a) → b ≡ a
       table_of q = cc

@@ -1,8 +1,9 @@
 -- The scores by degree: what the call answers and writes, from samples, sums and lengths. Definitions only.
-use Rattle.std.specs.Prelude.{◌≡◌, List, [], map, ℕ, length, take, Float, Result, Ok}
+use Rattle.std.specs.Prelude.{◌≡◌, List, [], map, ℕ, length, take, Float, Option, is_some, unwrap_or, Result, Ok}
 use Rattle.basis.specs.Sizes.{sum_places}
 use Rattle.basis.specs.declared.Basis.TheVariants.{Curve}
 use Rattle.basis.specs.declared.Degree.{Degree}
+use Rattle.value.specs.Numbers.{zero_f}
 use Rattle.statistics.specs.Degrees.{max_degree}
 use Rattle.samples.specs.declared.Sample.{Sample}
 use Rattle.samples.specs.Columns.{samples_of, Columns, lengths}
@@ -39,6 +40,13 @@ scores_refused r = record { answer = refused_by r; scratch = []; solved = []; sc
 abbrev pub scores_late : ℕ → ℕ → ScoresOut
 scores_late n r = record { answer = refused_by r; scratch = zeros n; solved = []; scores = [] }
 
+-- a degree's byte and its score in memory: 1 where it is solved, else 0, and +0 where there is no score
+abbrev pub solved_mark : Option Float → ℕ
+solved_mark s = mark (is_some s)
+
+abbrev pub score_or_zero : Option Float → Float
+score_or_zero s = unwrap_or s zero_f
+
 -- of a choice of the degree d among those from 0 to the bound: the degree, the bound, the number of solved degrees, the least score and the number of
 -- pivot tests; of each degree 1 where it is solved, else 0, and its score, +0 where there is none, 16 places each
 unfoldable pub scores_by : ℕ → ℕ → Choice → Degree → ScoresOut
@@ -46,8 +54,8 @@ scores_by n bound choice d =
     record {
       answer = Ok (record { degree = d; bound = record { 0 = bound }; solved = choice.solved; least = choice.least; tests = choice.tests });
       scratch = zeros n;
-      solved = map mark choice.flags;
-      scores = choice.scores;
+      solved = map solved_mark choice.scores;
+      scores = map score_or_zero choice.scores;
     }
 
 -- past refusals 1 to 9, of a report's choice, and refused where a report is: 11 if no degree is chosen, 12 if an inverse pivot fails

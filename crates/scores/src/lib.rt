@@ -6,14 +6,16 @@ mod refusals;
 
 ghost use Rattle.std.specs.Prelude.{◌≡◌, ◌++◌, map, ◌≤◌, length, drop};
 ghost use Rattle.basis.specs.Sizes.{max_terms};
-ghost use Rattle.samples.specs.Columns.{columns_of};
-ghost use Rattle.covariance.specs.Marks.{mark};
+ghost use Rattle.samples.specs.Held.{held};
 ghost use Rattle.lent.specs.Slices.{before, after, contents};
-ghost use Rattle.scores.specs.Scores.{ScoresIs, scores_out};
+ghost use Rattle.lent.specs.Written.{over};
+ghost use Rattle.scores.specs.Scores.{ScoresIs, solved_mark, score_or_zero, scores_out};
 
 use basis::{Basis, Degree, SUMS, TERMS};
 use book::Book;
+use monomial::Rows;
 use refusal::Refusal;
+use samples::Columns;
 use settings::Settings;
 
 // What the call answers: the chosen degree, the bound, the number of solved degrees, the least score and the number of pivot tests.
@@ -26,40 +28,49 @@ pub struct ScoreTable {
     pub tests: usize,
 }
 
-// The first 16 places become 1 where a flag is set, else 0.
-fn put_flags(flags: [bool; TERMS], out: &mut [u8])
+// The first 16 places become 1 where a degree is solved, else 0.
+fn put_solved(scores: [Option<f64>; TERMS], out: &mut [u8])
     requires { max_terms ≤ length out.old }
-    ensures { after out ≡ map mark flags ++ drop max_terms (before out) }
+    ensures { after out ≡ map solved_mark scores ++ drop max_terms (before out) }
 {
-    let bytes = flags.map(
-        |flag: bool| -> u8
-            ensures { result ≡ mark flag }
-        { flag as u8 },
+    let bytes = scores.map(
+        |score: Option<f64>| -> u8
+            ensures { result ≡ solved_mark score }
+        { u8::from(score.is_some()) },
     );
     out[..TERMS].copy_from_slice(&bytes);
+}
+
+// The first 16 places become the scores, +0 where there is none.
+fn put_scores(scores: [Option<f64>; TERMS], out: &mut [f64])
+    requires { max_terms ≤ length out.old }
+    ensures { after out ≡ over (map score_or_zero scores) (before out) }
+{
+    let told = scores.map(
+        |score: Option<f64>| -> f64
+            ensures { result ≡ score_or_zero score }
+        { score.unwrap_or(0.0) },
+    );
+    lent::put_first(&told, out);
 }
 
 // The scores of the book. Nothing but scratch is written before 12 is ruled out.
 pub fn scores(
     book: Book,
     settings: Settings,
-    xs: &[f64],
-    ys: &[f64],
-    ws: &[f64],
+    columns: Columns<'_>,
     sums: &[f64],
     scratch: &mut [f64],
     solved: &mut [u8],
     scores: &mut [f64],
 ) -> Result<ScoreTable, Refusal>
-    ensures { ScoresIs (scores_out book.count settings (columns_of xs.now ys.now ws.now) sums.now (before scratch) (before solved) (before scores)) result (contents scratch) (contents solved) (contents scores) }
+    ensures { ScoresIs (scores_out book.count settings (held columns.entry) sums.now (before scratch) (before solved) (before scores)) result (contents scratch) (contents solved) (contents scores) }
 {
     let n = book.count;
     refusals::check_scores(
         n,
         settings,
-        xs,
-        ys,
-        ws,
+        columns,
         sums.len(),
         scratch.len(),
         solved.len(),
@@ -68,22 +79,13 @@ pub fn scores(
     let bound = settings.bound;
     let criterion = settings.criterion;
     let last = statistics::max_degree(bound, n);
-    let m = reporting::choose(
-        Basis::Curve,
-        n,
-        last,
-        criterion,
-        xs,
-        xs,
-        ys,
-        &sums[..SUMS],
-        &mut *scratch,
-    );
+    let rows = Rows::curve(n, columns);
+    let m = reporting::choose(rows, last, criterion, &sums[..SUMS], &mut *scratch);
     lent::clear(scratch, n);
     let found = m.found?;
     let choice = m.choice;
-    put_flags(choice.flags, solved);
-    lent::put_first(&choice.scores, scores);
+    put_solved(choice.scores, solved);
+    put_scores(choice.scores, scores);
     Ok(ScoreTable {
         degree: found.degree,
         bound: last,

@@ -4,8 +4,8 @@ use mathlib.Core.List.{List}
 use Prim.Native.Nat.{ℕ, ◌+◌, ◌-◌, ◌≤◌}
 use native.Mathlib.Omega.{arith}
 use lib.ListN.{length, take, drop, length-drop}
+use lib.Seq.{length-take-le}
 use lib.Ieee.{Float}
-use Rattle.loops.specs.PlaceLaws.{slice_from, drop_map}
 use Rattle.basis.specs.Counts.{count_of}
 use Rattle.basis.specs.CountLaws.{curve_count, count_mono}
 use Rattle.basis.specs.declared.Basis.TheVariants.{Curve}
@@ -13,8 +13,8 @@ use Rattle.basis.specs.declared.Degree.{Degree}
 use Rattle.statistics.specs.Degrees.{max_degree}
 use Rattle.statistics.specs.DegreeLaws.{max_degree_grows}
 use Rattle.statistics.specs.declared.DegreeBound.{DegreeBound}
-use Rattle.monomial.specs.Rows.{Row, WeightedRow, rows_at, weighted_rows_at, rows_in}
-use Rattle.monomial.specs.RowLaws.{rows_at_drop, rows_in_weighted, weighted_at_take, weighted_at_join, length_weighted_at}
+use Rattle.monomial.specs.Rows.{Row, WeightedRow, rows_in}
+use Rattle.monomial.specs.ReadingLaws.{parts_joined}
 use Rattle.monomial.specs.Sums.{add_rows, sums_of}
 use Rattle.monomial.specs.SumLaws.{length_sums}
 use Rattle.monomial.specs.Corner.{SameCorner}
@@ -32,10 +32,6 @@ use Rattle.split.specs.Search.{side_choice, side_fit, left_of, right_of}
 fits : (d : ℕ) → d ≤ 15 → count_of Curve d ≤ 16
 fits d h = omega (arith, curve_count d)
 
--- a slice from b on has so many places
-pub slice_long : (b : ℕ) (l : List Float) → length (take (length l - b) (drop b l)) ≡ length l - b
-slice_long b l = ap length (slice_from b l) ∙ length-drop b l
-
 -- the choice of a side, from sums that are the side's in the corner that its bound reads
 side_is : (bound : DegreeBound) (criterion : Criterion) (n : ℕ) (rows : List WeightedRow) (own : List Row) (sums : List Float) (r : Choice)
     → max_degree bound n ≤ 15 → length rows ≡ n → own ≡ rows_in rows → length sums ≡ 272 → SameCorner (count_of Curve (max_degree bound n)) sums (sums_of rows)
@@ -47,46 +43,36 @@ side_is bound criterion n rows own sums r h el eo long same er =
     ∙ choice_corner (count_of Curve m) (fits m h) sums (sums_of rows) (omega arith) (omega (arith, length_sums rows)) same criterion (rows_in rows) (counts_of Curve m) (counts_within Curve m)
     ∙ ap (λ k. choice_of criterion (sums_of rows) (rows_in rows) (counts_of Curve (max_degree bound k))) (sym el)
 
-module _ (bound : DegreeBound) (criterion : Criterion) (n b : ℕ) (xs ys ws : List Float) (inside : b ≤ n) (most : max_degree bound n ≤ 15) where
-  abbrev rows : List WeightedRow
-  rows = weighted_rows_at Curve n xs xs ys ws
-
+module _ (bound : DegreeBound) (criterion : Criterion) (rows : List WeightedRow) (n b : ℕ) (sized : length rows ≡ n) (inside : b ≤ n) (most : max_degree bound n ≤ 15) where
   pub left_most : max_degree bound b ≤ 15
   left_most = omega (arith, max_degree_grows bound b n inside)
 
   pub right_most : max_degree bound (n - b) ≤ 15
   right_most = omega (arith, max_degree_grows bound (n - b) n (omega arith))
 
-  -- the first b places; the sums are whole in a larger corner
-  pub left_is : (sums : List Float) (r : Choice) → length sums ≡ 272 → SameCorner (count_of Curve (max_degree bound n)) sums (sums_of (weighted_rows_at Curve b xs xs ys ws))
-      → r ≡ choice_of criterion sums (rows_at Curve b xs xs ys) (counts_of Curve (max_degree bound b)) → r ≡ left_of bound criterion rows b
+  -- the first b rows; the sums are whole in a larger corner
+  pub left_is : (own : List Row) (sums : List Float) (r : Choice) → own ≡ rows_in (take b rows) → length sums ≡ 272
+      → SameCorner (count_of Curve (max_degree bound n)) sums (sums_of (take b rows))
+      → r ≡ choice_of criterion sums own (counts_of Curve (max_degree bound b)) → r ≡ left_of bound criterion rows b
   unfolding left_of
-  left_is sums r long same er =
-      side_is bound criterion b (weighted_rows_at Curve b xs xs ys ws) (rows_at Curve b xs xs ys) sums r left_most (length_weighted_at Curve xs xs ys ws b)
-      (sym (rows_in_weighted Curve xs xs ys ws b)) long
-      (smaller_corner (count_of Curve (max_degree bound b)) (count_of Curve (max_degree bound n)) sums (sums_of (weighted_rows_at Curve b xs xs ys ws)) (count_mono Curve (max_degree bound b) (max_degree bound n) (max_degree_grows bound b n inside)) same)
+  left_is own sums r eo long same er =
+      side_is bound criterion b (take b rows) own sums r left_most (length-take-le b rows (omega (arith, sized))) eo long
+      (smaller_corner (count_of Curve (max_degree bound b)) (count_of Curve (max_degree bound n)) sums (sums_of (take b rows)) (count_mono Curve (max_degree bound b) (max_degree bound n) (max_degree_grows bound b n inside)) same)
       er
-      ∙ ap (side_choice bound criterion) (sym (weighted_at_take Curve xs xs ys ws b n inside))
 
-  -- the places from b on
-  right_rows : rows_at Curve (n - b) (take (length xs - b) (drop b xs)) (take (length xs - b) (drop b xs)) (take (length ys - b) (drop b ys)) ≡ rows_in (drop b rows)
-  right_rows =
-      rw (slice_from b xs, slice_from b ys)
-      (rows_at_drop Curve b n xs xs ys inside ∙ ap (drop b) (sym (rows_in_weighted Curve xs xs ys ws n)) ∙ drop_map (λ (q : WeightedRow). q.row) b rows)
-
-  pub right_is : (k : ℕ) (sums : List Float) (r : Choice) → k ≡ count_of Curve (max_degree bound (n - b)) → length sums ≡ 272 → SameCorner k sums (sums_of (drop b rows))
-      → r ≡ choice_of criterion sums (rows_at Curve (n - b) (take (length xs - b) (drop b xs)) (take (length xs - b) (drop b xs)) (take (length ys - b) (drop b ys))) (counts_of Curve (max_degree bound (n - b)))
+  -- the rows from b on
+  pub right_is : (k : ℕ) (own : List Row) (sums : List Float) (r : Choice) → own ≡ rows_in (drop b rows) → k ≡ count_of Curve (max_degree bound (n - b))
+      → length sums ≡ 272 → SameCorner k sums (sums_of (drop b rows)) → r ≡ choice_of criterion sums own (counts_of Curve (max_degree bound (n - b)))
       → r ≡ right_of bound criterion rows b
   unfolding right_of
-  right_is k sums r ek long same er =
-      side_is bound criterion (n - b) (drop b rows) _ sums r right_most (length-drop b rows ∙ ap (λ m. m - b) (length_weighted_at Curve xs xs ys ws n)) right_rows long (rw (← ek) same) er
+  right_is k own sums r eo ek long same er =
+      side_is bound criterion (n - b) (drop b rows) own sums r right_most (length-drop b rows ∙ ap (λ m. m - b) sized) eo long (rw (← ek) same) er
 
--- one sample more on the left, in a corner: the same bits there as folded afresh
-pub corner_grows : (k : ℕ) → k ≤ 16 → (b : ℕ) (xs ys ws s t : List Float) → length s ≡ 272 → SameCorner k s (sums_of (weighted_rows_at Curve b xs xs ys ws))
-    → SameCorner k t (add_rows s (drop b (weighted_rows_at Curve (b + 1) xs xs ys ws))) → SameCorner k t (sums_of (weighted_rows_at Curve (b + 1) xs xs ys ws))
-corner_grows k h b xs ys ws s t long same added =
-    rw (← weighted_at_join Curve xs xs ys ws b (b + 1) (omega arith))
-    (corner_append k h s t (weighted_rows_at Curve b xs xs ys ws) (drop b (weighted_rows_at Curve (b + 1) xs xs ys ws)) (omega arith) same added)
+-- one row more on the left, in a corner: the same bits there as folded afresh
+pub corner_grows : (k : ℕ) → k ≤ 16 → (b : ℕ) (rows : List WeightedRow) (s t : List Float) → length s ≡ 272 → SameCorner k s (sums_of (take b rows))
+    → SameCorner k t (add_rows s (drop b (take (b + 1) rows))) → SameCorner k t (sums_of (take (b + 1) rows))
+corner_grows k h b rows s t long same added =
+    rw (← parts_joined b (b + 1) rows (omega arith)) (corner_append k h s t (take b rows) (drop b (take (b + 1) rows)) (omega arith) same added)
 
 -- the code's fit of a side
 pub fit_is : (rows : List WeightedRow) (d : Degree) (k : ℕ) (sums : List Float) (s : Solved) → d.0 ≤ 15 → k ≡ count_of Curve d.0 → length sums ≡ 272

@@ -1,6 +1,5 @@
 -- The loop over the breaks, and what it comes to: refused by 16, by 11, or a break.
 use mathlib.Core.Path.{◌≡◌, refl, ap, ap₂, ◌∙◌}
-use mathlib.Core.Bool.{true, false}
 use mathlib.Core.List.{List}
 use Prim.Native.Nat.{ℕ, ◌+◌, ◌-◌, ◌≤◌, ◌<◌}
 use native.Mathlib.Omega.{arith}
@@ -10,11 +9,9 @@ use lib.Ieee.{Float}
 use Rattle.loops.specs.Loop.{from}
 use Rattle.loops.specs.LoopLaws.{again, done}
 use Rattle.loops.specs.Within.{Within}
-use Rattle.basis.specs.declared.Basis.TheVariants.{Curve}
 use Rattle.statistics.specs.Degrees.{max_degree}
 use Rattle.statistics.specs.declared.DegreeBound.{DegreeBound}
-use Rattle.monomial.specs.Rows.{WeightedRow, weighted_rows_at}
-use Rattle.monomial.specs.RowLaws.{length_weighted_at}
+use Rattle.monomial.specs.Rows.{WeightedRow}
 use Rattle.score.specs.declared.Criterion.{Criterion}
 use Rattle.std.specs.Prelude.{Option, None, Some, Result, ok_or}
 use Rattle.refusal.specs.declared.refusals.Refusal.TheVariants.{NoneChosen}
@@ -109,7 +106,3 @@ module _ (bound : DegreeBound) (criterion : Criterion) (rows : List WeightedRow)
 pub found_or : (o : Option Best) → ok_or o NoneChosen ≡ found_in o
 found_or None = refl
 found_or (Some s) = refl
-
--- the bound for n samples is that for their rows
-pub rows_bound : (bound : DegreeBound) (n : ℕ) (xs ys ws : List Float) → max_degree bound n ≤ 15 → max_degree bound (length (weighted_rows_at Curve n xs xs ys ws)) ≤ 15
-rows_bound bound n xs ys ws h = rw (length_weighted_at Curve xs xs ys ws n) h

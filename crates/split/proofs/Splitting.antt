@@ -28,10 +28,10 @@ use Rattle.split.specs.declared.Places.{Places}
 use Rattle.split.specs.declared.Searched.{Searched}
 use Rattle.split.specs.Search.{side_fit, best_break, search_tests}
 use Rattle.split.specs.SearchLaws.{found_room}
-use Rattle.split.specs.Refusals.{split_refusal, searched}
+use Rattle.split.specs.Refusals.{split_refusal}
 use Rattle.split.specs.RefusalLaws.{split_room, searched_ok}
 use Rattle.split.specs.Rooms.{SplitRoom, FoundRoom}
-use Rattle.split.specs.Splits.{SplitAnswer, SplitOut, split_refused, LentSplit, Does, Searches, taken_of, split_at, split_past, split_on, split_taken, split_out}
+use Rattle.split.specs.Splits.{SplitAnswer, split_refused, LentSplit, Does, Searches, taken_of, split_at, split_past, split_on, split_taken, split_out}
 
 length_fit : (rows : List WeightedRow) (d : Degree) → d.0 ≤ 15 → length (side_fit rows d) ≡ 16
 unfolding side_fit

@@ -1,5 +1,5 @@
 -- What the search comes to, of any choices and any floats.
-use Rattle.std.specs.Prelude.{◌≡◌, Bool, cond, not, ◌&&◌, List, ◌⊎◌, length, take, drop, Float, Option, Some, None}
+use Rattle.std.specs.Prelude.{◌≡◌, Bool, cond, not, List, ◌⊎◌, length, take, drop, Float, Option, Some, None}
 use Rattle.std.proofs.Math.Path.{refl}
 use Rattle.std.proofs.Common.{sym, ap, ◌∙◌, inl, inr, mul-le-mul_right, length-take, length-drop}
 use Rattle.std.proofs.Math.Bool.{true, false}

@@ -1,20 +1,16 @@
 -- Document 02's words hold of what a split answers past refusals 1 to 9, and the numbers that it may answer.
 use Rattle.std.proofs.Math.Path.{◌≡◌, ap}
-use Rattle.std.specs.Prelude.{refl, Bool, true, Option, None, Some, Ok, ◌⊎◌, ℕ, ◌-◌, ◌≤◌, ◌<◌, ltb, length, Float}
+use Rattle.std.specs.Prelude.{refl, Bool, true, Option, None, Some, Ok, ◌⊎◌, ℕ, ◌-◌, ◌≤◌, ◌<◌, ltb, length}
 use Rattle.std.proofs.Common.{sym, subst, ◌∙◌, inl, inr, arith, ltb-true, ltb-false}
 use Rattle.std.proofs.Math.Bool.{false}
 use mathlib.Core.List.Memᴰ
 use mathlib.Core.List.{List, [], ◌∷◌, Memᴰ}
-use Rattle.loops.specs.Cases.{never}
-use Rattle.basis.specs.declared.Degree.{Degree}
 use Rattle.statistics.specs.declared.DegreeBound.{DegreeBound}
 use Rattle.samples.specs.declared.Sample.{Sample}
 use Rattle.monomial.specs.Rows.{WeightedRow, weighted_rows}
 use Rattle.score.specs.declared.Criterion.{Criterion}
-use Rattle.refusal.specs.Refusals.{first_of, settle}
 use Rattle.refusal.specs.Named.{refused_by, number_of}
 use Rattle.refusal.specs.NamedLaws.{answer_among}
-use Rattle.lent.specs.Written.{zeros}
 use Rattle.settings.specs.declared.Settings.{Settings}
 use Rattle.split.specs.declared.Best.{Best}
 use Rattle.split.specs.declared.Places.{Places}

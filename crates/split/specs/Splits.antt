@@ -1,5 +1,6 @@
 -- Document 02's split (E8): what it answers and writes, from samples and lengths. Definitions only.
-use Rattle.std.specs.Prelude.{◌≡◌, cond, List, [], ℕ, ltb, length, take, drop, Float, Result, Ok, Err}
+use denote.Triple.Both.{Both}
+use Rattle.std.specs.Prelude.{◌≡◌, ⊤, cond, List, [], ℕ, ltb, length, take, drop, Float, Result, Ok, Err}
 use Rattle.loops.specs.Within.{Within}
 use Rattle.statistics.specs.declared.DegreeBound.{DegreeBound}
 use Rattle.samples.specs.declared.Sample.{Sample}
@@ -9,11 +10,12 @@ use Rattle.score.specs.declared.Criterion.{Criterion}
 use Rattle.refusal.specs.declared.refusals.Refusal.{Refusal}
 use Rattle.refusal.specs.Named.{refused_by}
 use Rattle.refusal.specs.Refusals.{settle}
-use Rattle.lent.specs.Slices.{Contents, Slice, contents}
+use Rattle.lent.specs.Slices.{Contents, Slice, contents, contents_of, Given}
 use Rattle.lent.specs.Written.{over, zeros}
 use Rattle.settings.specs.declared.Settings.{Settings}
 use Rattle.split.specs.declared.Best.{Best}
 use Rattle.split.specs.declared.CountedSplit.{CountedSplit}
+use Rattle.split.specs.declared.Memory.{Memory}
 use Rattle.split.specs.declared.Places.{Places}
 use Rattle.split.specs.declared.Searched.{Searched}
 use Rattle.split.specs.declared.Break.{Break}
@@ -86,6 +88,21 @@ pub record LentSplit : Type 0 where
 
 abbrev pub lent_split : Slice Float → Slice Float → Slice Float → LentSplit
 lent_split s b a = record { scratch = contents s; before = contents b; after = contents a }
+
+-- the same of slices that are lent in one struct: as the call leaves it, they stand in the order of its fields
+abbrev pub MemoryLeft : Type 0
+MemoryLeft = Given Float × (Given Float × (Given Float × ⊤))
+
+abbrev pub lent_memory : Both Memory MemoryLeft → LentSplit
+lent_memory m =
+    record {
+      scratch = contents_of m.entry.scratch.now m.exit.0.now;
+      before = contents_of m.entry.before.now m.exit.1.0.now;
+      after = contents_of m.entry.after.now m.exit.1.1.0.now;
+    }
+
+abbrev pub places_now : Memory → Places
+places_now m = record { scratch = length m.scratch.now; before = length m.before.now; after = length m.after.now }
 
 abbrev pub places_of : LentSplit → Places
 places_of w = record { scratch = length w.scratch.found; before = length w.before.found; after = length w.after.found }

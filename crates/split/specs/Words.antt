@@ -1,5 +1,5 @@
 -- Document 02's words on what a search finds, of any choices for the two sides and any floats. Definitions only.
-use Rattle.std.specs.Prelude.{◌≡◌, Bool, true, false, ◌&&◌, List, ℕ, ◌+◌, ◌≤◌, ◌<◌, length, Float, Option, Some, None}
+use Rattle.std.specs.Prelude.{◌≡◌, Bool, true, false, ◌&&◌, List, ℕ, ◌+◌, ◌≤◌, ◌<◌, length, Option, Some, None}
 use Rattle.std.specs.Float.Ieee.{lt, le}
 use Rattle.basis.specs.declared.Degree.{Degree}
 use Rattle.statistics.specs.declared.DegreeBound.{DegreeBound}

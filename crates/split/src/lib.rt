@@ -10,20 +10,22 @@ ghost use Rattle.basis.specs.Sizes.{highest_degree, max_samples, max_terms, sum_
 ghost use Rattle.basis.specs.declared.Basis.TheVariants.{Curve};
 ghost use Rattle.loops.specs.Within.{Within};
 ghost use Rattle.statistics.specs.Degrees.{max_degree};
-ghost use Rattle.samples.specs.Columns.{columns_of};
-ghost use Rattle.monomial.specs.Rows.{rows_at, weighted_rows_at};
+ghost use Rattle.samples.specs.Held.{held};
+ghost use Rattle.monomial.specs.Reading.{rows_read, weighted_read};
 ghost use Rattle.monomial.specs.Sums.{sums_of};
 ghost use Rattle.monomial.specs.Corner.{SameCorner};
 ghost use Rattle.fit.specs.Chosen.{choice_of, counts_of};
 ghost use Rattle.lent.specs.Slices.{before, after};
 ghost use Rattle.split.specs.Search.{side_fit, better as better_f, left_of, right_of};
-ghost use Rattle.split.specs.Splits.{Searches, SplitIs, SplitWithinIs, lent_split};
+ghost use Rattle.split.specs.Splits.{Searches, SplitIs, SplitWithinIs, lent_memory, places_now};
 
 use basis::{Basis, CoefficientCount, Degree, SUMS, TERMS};
 use book::Book;
 use fit::Choice;
+use monomial::Rows;
 use refusal::Refusal;
 pub use refusals::split_short;
+use samples::Columns;
 use score::Criterion;
 use settings::Settings;
 use statistics::DegreeBound;
@@ -43,6 +45,27 @@ pub struct Places {
     pub scratch: usize,
     pub before: usize,
     pub after: usize,
+}
+
+// The memory that a split writes: its scratch, and the fits of the two sides.
+#[derive(Drop)]
+pub struct Memory<'a> {
+    pub scratch: &'a mut [f64],
+    pub before: &'a mut [f64],
+    pub after: &'a mut [f64],
+}
+
+impl Memory<'_> {
+    // How many places are lent of each.
+    pub fn places(&self) -> Places
+        ensures { result ≡ places_now self.now }
+    {
+        Places {
+            scratch: self.scratch.len(),
+            before: self.before.len(),
+            after: self.after.len(),
+        }
+    }
 }
 
 // What a split answers: the total, how many samples are before the break, the number of pivot tests, and the degrees of its two sides.
@@ -76,40 +99,31 @@ fn better(b: usize, left: Choice, right: Choice, best: Option<Best>) -> Option<B
     })
 }
 
-// The sums over the samples from start on and before end, from +0. Only the corner of k rows and columns is made, which is all that k coefficients read.
-fn side_sums(
-    xs: &[f64],
-    ys: &[f64],
-    ws: &[f64],
-    start: usize,
-    end: usize,
-    k: CoefficientCount,
-) -> [f64; SUMS]
-    requires { (start ≤ end) × (end ≤ length xs.now) × (end ≤ length ys.now) × (k.0 ≤ max_terms) }
+// The sums over rows, from +0. Only the corner of k rows and columns is made, which is all that k coefficients read.
+fn side_sums(rows: Rows<'_>, k: CoefficientCount) -> [f64; SUMS]
+    requires { k.0 ≤ max_terms }
     ensures long { length result ≡ sum_places }
-    ensures same { SameCorner k.0 result (sums_of (drop start (weighted_rows_at Curve end xs.now xs.now ys.now ws.now))) }
+    ensures same { SameCorner k.0 result (sums_of (weighted_read rows.entry)) }
 {
     let mut sums = [0.0; SUMS];
-    monomial::add_corner(Basis::Curve, xs, xs, ys, ws, start, end, k, &mut sums);
+    monomial::add_corner(rows, k, &mut sums);
     sums
 }
 
-// The choice among the degrees within the bound for n samples.
+// The choice among the degrees within the bound for so many rows.
 fn choose_side(
-    xs: &[f64],
-    ys: &[f64],
-    n: usize,
+    rows: Rows<'_>,
     sums: &[f64],
     bound: DegreeBound,
     criterion: Criterion,
     scratch: &mut [f64],
 ) -> Choice
-    requires { (n ≤ length xs.now) × (n ≤ length ys.now) × (n ≤ length scratch.old) × (sum_places ≤ length sums.now) × (max_degree bound n ≤ highest_degree) }
-    ensures is { result ≡ choice_of criterion sums.now (rows_at Curve n xs.now xs.now ys.now) (counts_of Curve (max_degree bound n)) }
-    ensures within { Within n (before scratch) (after scratch) }
+    requires { (rows.basis ≡ Curve) × (length rows.ys.now ≤ length scratch.old) × (sum_places ≤ length sums.now) × (max_degree bound (length rows.ys.now) ≤ highest_degree) }
+    ensures is { result ≡ choice_of criterion sums.now (rows_read rows.entry) (counts_of Curve (max_degree bound (length rows.entry.ys.now))) }
+    ensures within { Within (length rows.entry.ys.now) (before scratch) (after scratch) }
 {
-    let most = statistics::max_degree(bound, n);
-    fit::choose(Basis::Curve, xs, xs, ys, n, sums, most, criterion, scratch)
+    let most = statistics::max_degree(bound, rows.ys.len());
+    fit::choose(rows, sums, most, criterion, scratch)
 }
 
 // The choices of the two sides of a break.
@@ -121,27 +135,25 @@ pub struct Sides {
 
 // The two sides of break b, from the sums of the left one; those of the right one are folded afresh.
 fn choose_sides(
-    n: usize,
+    rows: Rows<'_>,
     b: usize,
     sums: &[f64],
     bound: DegreeBound,
     criterion: Criterion,
-    xs: &[f64],
-    ys: &[f64],
-    ws: &[f64],
     scratch: &mut [f64],
 ) -> Sides
-    requires n_in_bounds { (n ≤ length xs.now) × (n ≤ length ys.now) × (n ≤ length scratch.old) × (b ≤ n) × (max_degree bound n ≤ highest_degree) × (n ≤ max_samples) }
-    requires left_sums { (length sums.now ≡ sum_places) × SameCorner (count_of Curve (max_degree bound n)) sums.now (sums_of (weighted_rows_at Curve b xs.now xs.now ys.now ws.now)) }
-    ensures left { result.left ≡ left_of bound criterion (weighted_rows_at Curve n xs.now xs.now ys.now ws.now) b }
-    ensures right { result.right ≡ right_of bound criterion (weighted_rows_at Curve n xs.now xs.now ys.now ws.now) b }
-    ensures within { Within n (before scratch) (after scratch) }
+    requires b_in_bounds { (rows.basis ≡ Curve) × (length rows.ys.now ≤ length scratch.old) × (b ≤ length rows.ys.now) × (max_degree bound (length rows.ys.now) ≤ highest_degree) }
+    requires left_sums { (length sums.now ≡ sum_places) × SameCorner (count_of Curve (max_degree bound (length rows.ys.now))) sums.now (sums_of (take b (weighted_read rows))) }
+    ensures left { result.left ≡ left_of bound criterion (weighted_read rows.entry) b }
+    ensures right { result.right ≡ right_of bound criterion (weighted_read rows.entry) b }
+    ensures within { Within (length rows.entry.ys.now) (before scratch) (after scratch) }
 {
-    let left = choose_side(xs, ys, b, sums, bound, criterion, &mut *scratch);
-    let later = n - b;
-    let most = statistics::max_degree(bound, later);
-    let own = side_sums(xs, ys, ws, b, n, most.k(Basis::Curve));
-    let right = choose_side(&xs[b..], &ys[b..], later, &own, bound, criterion, scratch);
+    let n = rows.ys.len();
+    let left = choose_side(rows.part(0, b), sums, bound, criterion, &mut *scratch);
+    let later = rows.part(b, n);
+    let most = statistics::max_degree(bound, n - b);
+    let own = side_sums(later, most.k(Basis::Curve));
+    let right = choose_side(later, &own, bound, criterion, scratch);
     Sides { left, right }
 }
 
@@ -169,26 +181,24 @@ pub struct Searched {
 
 // Tries every break. The left side's sums grow by one sample a break; the search ends where the pivot tests pass the limit.
 fn search(
-    n: usize,
+    rows: Rows<'_>,
     bound: DegreeBound,
     criterion: Criterion,
     limit: usize,
-    xs: &[f64],
-    ys: &[f64],
-    ws: &[f64],
     scratch: &mut [f64],
 ) -> Searched
-    requires { (n ≤ length xs.now) × (n ≤ length ys.now) × (n ≤ length scratch.old) × (4 ≤ n) × (n ≤ max_samples) × (max_degree bound n ≤ highest_degree) }
-    ensures { Searches limit bound criterion (weighted_rows_at Curve n xs.now xs.now ys.now ws.now) n (before scratch) (after scratch) result }
+    requires { (rows.basis ≡ Curve) × (length rows.ys.now ≤ length scratch.old) × (4 ≤ length rows.ys.now) × (length rows.ys.now ≤ max_samples) × (max_degree bound (length rows.ys.now) ≤ highest_degree) }
+    ensures { Searches limit bound criterion (weighted_read rows.entry) (length rows.entry.ys.now) (before scratch) (after scratch) result }
 {
+    let n = rows.ys.len();
     let last = n - 1;
     let most = statistics::max_degree(bound, n);
     let k = most.k(Basis::Curve);
-    let mut sums = side_sums(xs, ys, ws, 0, 2, k);
+    let mut sums = side_sums(rows.part(0, 2), k);
     let mut best: Option<Best> = None;
     let mut tests = 0;
     for b in 2..last {
-        let s = choose_sides(n, b, &sums, bound, criterion, xs, ys, ws, &mut *scratch);
+        let s = choose_sides(rows, b, &sums, bound, criterion, &mut *scratch);
         let left = s.left;
         let right = s.right;
         tests = tests + tests_of(left, right);
@@ -199,7 +209,7 @@ fn search(
                 best: Err(Refusal::OverLimit),
             };
         }
-        monomial::add_corner(Basis::Curve, xs, xs, ys, ws, b, b + 1, k, &mut sums);
+        monomial::add_corner(rows.part(b, b + 1), k, &mut sums);
     }
     Searched {
         tests,
@@ -207,43 +217,27 @@ fn search(
     }
 }
 
-// The 16 coefficients of the samples from start on and before end at a degree, +0 from k on.
-fn side_fit(
-    xs: &[f64],
-    ys: &[f64],
-    ws: &[f64],
-    start: usize,
-    end: usize,
-    degree: Degree,
-) -> [f64; TERMS]
-    requires { (start ≤ end) × (end ≤ length xs.now) × (end ≤ length ys.now) × (degree.0 ≤ highest_degree) }
-    ensures { result ≡ side_fit (drop start (weighted_rows_at Curve end xs.now xs.now ys.now ws.now)) degree }
+// The 16 coefficients of rows at a degree, +0 from k on.
+fn side_fit(rows: Rows<'_>, degree: Degree) -> [f64; TERMS]
+    requires { degree.0 ≤ highest_degree }
+    ensures { result ≡ side_fit (weighted_read rows.entry) degree }
 {
     let k = degree.k(Basis::Curve);
-    let sums = side_sums(xs, ys, ws, start, end, k);
+    let sums = side_sums(rows, k);
     let s = solve::solve(&sums, k);
     s.c
 }
 
 // Writes the fits of the two sides.
-fn write(
-    n: usize,
-    best: Best,
-    xs: &[f64],
-    ys: &[f64],
-    ws: &[f64],
-    earlier: &mut [f64],
-    later: &mut [f64],
-)
-    requires { (n ≤ length xs.now) × (n ≤ length ys.now) × (best.at ≤ n) × (best.before.0 ≤ highest_degree) × (best.after.0 ≤ highest_degree) × (max_terms ≤ length earlier.old) × (max_terms ≤ length later.old) }
-    ensures earlier { after earlier ≡ side_fit (take best.at (weighted_rows_at Curve n xs.now xs.now ys.now ws.now)) best.before ++ drop max_terms (before earlier) }
-    ensures later { after later ≡ side_fit (drop best.at (weighted_rows_at Curve n xs.now xs.now ys.now ws.now)) best.after ++ drop max_terms (before later) }
+fn write(rows: Rows<'_>, best: Best, earlier: &mut [f64], later: &mut [f64])
+    requires { (best.at ≤ length rows.ys.now) × (best.before.0 ≤ highest_degree) × (best.after.0 ≤ highest_degree) × (max_terms ≤ length earlier.old) × (max_terms ≤ length later.old) }
+    ensures earlier { after earlier ≡ side_fit (take best.at (weighted_read rows.entry)) best.before ++ drop max_terms (before earlier) }
+    ensures later { after later ≡ side_fit (drop best.at (weighted_read rows.entry)) best.after ++ drop max_terms (before later) }
 {
     let at = best.at;
-    let d = best.before;
-    let e = best.after;
-    lent::put_first(&side_fit(xs, ys, ws, 0, at, d), earlier);
-    lent::put_first(&side_fit(xs, ys, ws, at, n, e), later);
+    let n = rows.ys.len();
+    lent::put_first(&side_fit(rows.part(0, at), best.before), earlier);
+    lent::put_first(&side_fit(rows.part(at, n), best.after), later);
 }
 
 // A split of the book, with the pivot tests that it takes. The lent sums are judged and not read.
@@ -251,31 +245,28 @@ pub fn split_within(
     book: Book,
     settings: Settings,
     limit: usize,
-    xs: &[f64],
-    ys: &[f64],
-    ws: &[f64],
+    columns: Columns<'_>,
     sums: &[f64],
-    scratch: &mut [f64],
-    earlier: &mut [f64],
-    later: &mut [f64],
+    memory: Memory<'_>,
 ) -> CountedSplit
-    ensures { SplitWithinIs book.count settings limit (columns_of xs.now ys.now ws.now) sums.now result (lent_split scratch earlier later) }
+    ensures { SplitWithinIs book.count settings limit (held columns.entry) sums.now result (lent_memory memory) }
 {
     let n = book.count;
-    let places = Places {
-        scratch: scratch.len(),
-        before: earlier.len(),
-        after: later.len(),
-    };
-    if let Err(refusal) = refusals::check_split(n, settings, xs, ys, ws, sums.len(), places) {
+    if let Err(refusal) = refusals::check_split(n, settings, columns, sums.len(), memory.places()) {
         return CountedSplit {
             answer: Err(refusal),
             tests: 0,
         };
     }
+    let Memory {
+        scratch,
+        before,
+        after,
+    } = memory;
     let bound = settings.bound;
     let criterion = settings.criterion;
-    let s = search(n, bound, criterion, limit, xs, ys, ws, &mut *scratch);
+    let rows = Rows::curve(n, columns);
+    let s = search(rows, bound, criterion, limit, &mut *scratch);
     lent::clear(scratch, n);
     let best = match s.best {
         Ok(best) => best,
@@ -286,7 +277,7 @@ pub fn split_within(
             };
         }
     };
-    write(n, best, xs, ys, ws, earlier, later);
+    write(rows, best, before, after);
     CountedSplit {
         answer: Ok(Break {
             total: best.total,
@@ -304,18 +295,22 @@ pub fn split(
     book: Book,
     settings: Settings,
     limit: usize,
-    xs: &[f64],
-    ys: &[f64],
-    ws: &[f64],
+    columns: Columns<'_>,
     sums: &[f64],
-    scratch: &mut [f64],
-    earlier: &mut [f64],
-    later: &mut [f64],
+    memory: Memory<'_>,
 ) -> Result<Break, Refusal>
-    ensures { SplitIs book.count settings limit (columns_of xs.now ys.now ws.now) sums.now result (lent_split scratch earlier later) }
+    ensures { SplitIs book.count settings limit (held columns.entry) sums.now result (lent_memory memory) }
 {
-    let done = split_within(
-        book, settings, limit, xs, ys, ws, sums, scratch, earlier, later,
-    );
-    done.answer
+    // taken apart and rebuilt: of a struct of borrows that is handed on whole, a proof doesn't know what the callee leaves
+    let Memory {
+        scratch,
+        before,
+        after,
+    } = memory;
+    let memory = Memory {
+        scratch,
+        before,
+        after,
+    };
+    split_within(book, settings, limit, columns, sums, memory).answer
 }

@@ -1,6 +1,7 @@
 // Refusals 1 to 9 of a split: the tests in checking order, of which the first that holds refuses.
 ghost use Rattle.std.specs.Prelude.{◌≡◌};
-ghost use Rattle.samples.specs.Columns.{samples_of, columns_of, lengths};
+ghost use Rattle.samples.specs.Columns.{samples_of, lengths};
+ghost use Rattle.samples.specs.Held.{held};
 ghost use Rattle.refusal.specs.Named.{judged, memories_of};
 ghost use Rattle.refusal.specs.Tests.{too_short};
 ghost use Rattle.split.specs.Refusals.{split_needs, split_refusal};
@@ -9,6 +10,7 @@ use crate::Places;
 use basis::{SUMS, TERMS};
 use refusal::{Refusal, too_short};
 use reporting::check_settings;
+use samples::Columns;
 use settings::Settings;
 
 // The sums, and all that a split writes: of each memory, how many places it needs and how many are lent.
@@ -33,14 +35,12 @@ pub fn split_short(n: usize, columns: &[usize], sums: usize, p: Places) -> bool
 pub fn check_split(
     n: usize,
     settings: Settings,
-    xs: &[f64],
-    ys: &[f64],
-    ws: &[f64],
+    columns: Columns<'_>,
     sums: usize,
     places: Places,
 ) -> Result<(), Refusal>
-    ensures { result ≡ judged (split_refusal n settings (samples_of n (columns_of xs.now ys.now ws.now)) (lengths (columns_of xs.now ys.now ws.now)) sums places) }
+    ensures { result ≡ judged (split_refusal n settings (samples_of n (held columns.entry)) (lengths (held columns.entry)) sums places) }
 {
     let memories = split_memories(n, sums, places);
-    check_settings(n, settings, xs, ys, ws, &memories, n < 4)
+    check_settings(n, settings, columns, &memories, n < 4)
 }

@@ -7,6 +7,7 @@ use Rattle.monomial.specs.Terms.{terms_at}
 use Rattle.monomial.specs.Rows.{Row}
 use Rattle.monomial.specs.Plain.{at_one}
 use Rattle.monomial.specs.Sums.{sums_of}
+use Rattle.surface.specs.declared.Points.{Points}
 
 -- A surface's sample: two coordinates and y.
 pub record Point : Type 0 where
@@ -28,6 +29,10 @@ pub record PointColumns : Type 0 where
 
 abbrev pub point_columns : List Float → List Float → List Float → PointColumns
 point_columns xs zs ys = record { xs = xs; zs = zs; ys = ys }
+
+-- and of the lent struct
+abbrev pub held_points : Points → PointColumns
+held_points p = point_columns p.xs.now p.zs.now p.ys.now
 
 abbrev pub point_lengths : PointColumns → List ℕ
 point_lengths c = length c.xs ∷ length c.zs ∷ length c.ys ∷ []

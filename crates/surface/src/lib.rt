@@ -4,39 +4,64 @@
 
 mod refusals;
 
-ghost use Rattle.std.specs.Prelude.{◌≡◌, [], ◌≤◌, length};
+ghost use Rattle.std.specs.Prelude.{◌≡◌, ◌≤◌, length};
 ghost use Rattle.basis.specs.Sizes.{sum_places};
 ghost use Rattle.basis.specs.declared.Basis.TheVariants.{Surface};
-ghost use Rattle.monomial.specs.Rows.{weighted_rows_at};
+ghost use Rattle.monomial.specs.Reading.{rows_read, weighted_read};
 ghost use Rattle.monomial.specs.Sums.{sums_of};
 ghost use Rattle.lent.specs.Slices.{before, contents};
 ghost use Rattle.measure.specs.Fits.{FitIs};
 ghost use Rattle.measure.specs.Bands.{BandIs};
-ghost use Rattle.reporting.specs.Outputs.{outputs};
-ghost use Rattle.surface.specs.Points.{point_columns};
+ghost use Rattle.reporting.specs.Outputs.{lent_outputs};
+ghost use Rattle.surface.specs.Points.{held_points, point_lengths, points_of, rows_of_points, surface_sums};
 ghost use Rattle.surface.specs.Refusals.{highest_total};
 ghost use Rattle.surface.specs.Limited.{SurfaceWithinIs};
 ghost use Rattle.surface.specs.Surfaces.{last_tried, surface_fit_out, surface_band_out, SurfaceReportIs};
 
 use basis::{Basis, Degree, SUMS};
 use covariance::Band;
+use monomial::Rows;
 use refusal::Refusal;
 pub use refusals::report_short as surface_short;
-use reporting::{Counted, Places, Report};
+use reporting::{Counted, Memory, Report, local};
 use settings::Settings;
 use statistics::{Confidence, Tolerance};
 
-// The 272 sums over the samples, each at weight 1, from +0.
-fn sums_of(n: usize, xs: &[f64], zs: &[f64], ys: &[f64]) -> [f64; SUMS]
-    requires { (n ≤ length xs.now) × (n ≤ length zs.now) × (n ≤ length ys.now) }
+// The columns that a surface's samples stand in: x, z and y.
+#[derive(Clone, Copy)]
+pub struct Points<'a> {
+    pub xs: &'a [f64],
+    pub zs: &'a [f64],
+    pub ys: &'a [f64],
+}
+
+impl<'a> Points<'a> {
+    // How many places each has.
+    pub fn lengths(self) -> [usize; 3]
+        ensures { result ≡ point_lengths (held_points self.entry) }
+    {
+        [self.xs.len(), self.zs.len(), self.ys.len()]
+    }
+
+    // The rows of the first n samples.
+    fn rows(self, n: usize) -> Rows<'a>
+        requires { (n ≤ length self.xs.now) × (n ≤ length self.zs.now) × (n ≤ length self.ys.now) }
+        ensures rows { rows_read result ≡ rows_of_points (points_of n (held_points self.entry)) }
+        ensures sums { sums_of (weighted_read result) ≡ surface_sums (points_of n (held_points self.entry)) }
+        ensures long { length result.ys.now ≡ n }
+        ensures surface { result.basis ≡ Surface }
+    {
+        Rows::surface(n, self.xs, self.zs, self.ys)
+    }
+}
+
+// The 272 sums over the rows, from +0.
+fn sums_of(rows: Rows<'_>) -> [f64; SUMS]
     ensures long { length result ≡ sum_places }
-    ensures is { result ≡ sums_of (weighted_rows_at Surface n xs.now zs.now ys.now []) }
+    ensures is { result ≡ sums_of (weighted_read rows.entry) }
 {
     let mut sums = [0.0; SUMS];
-    for t in 0..n {
-        let terms = monomial::terms_at(Basis::Surface, xs[t], zs[t]);
-        monomial::add_row(&mut sums, &terms, ys[t], 1.0);
-    }
+    monomial::fold_sums(rows, &mut sums);
     sums
 }
 
@@ -61,27 +86,16 @@ fn last_tried(n: usize, bound: Degree) -> Degree
 pub fn surface_fit(
     count: usize,
     degree: Degree,
-    xs: &[f64],
-    zs: &[f64],
-    ys: &[f64],
+    points: Points<'_>,
     scratch: &mut [f64],
     coefficients: &mut [f64],
 ) -> Result<Degree, Refusal>
-    ensures { FitIs (surface_fit_out count degree.0 (point_columns xs.now zs.now ys.now) (before scratch) (before coefficients)) result (contents scratch) (contents coefficients) }
+    ensures { FitIs (surface_fit_out count degree.0 (held_points points.entry) (before scratch) (before coefficients)) result (contents scratch) (contents coefficients) }
 {
-    refusals::check_fit(count, degree, xs, zs, ys, scratch.len(), coefficients.len())?;
-    let sums = sums_of(count, xs, zs, ys);
-    measure::solve_at(
-        Basis::Surface,
-        count,
-        degree,
-        xs,
-        zs,
-        ys,
-        &sums,
-        scratch,
-        coefficients,
-    )
+    refusals::check_fit(count, degree, points, scratch.len(), coefficients.len())?;
+    let rows = points.rows(count);
+    let sums = sums_of(rows);
+    measure::solve_at(rows, degree, &sums, scratch, coefficients)
 }
 
 // The band at x and z of the surface of the asked total degree.
@@ -92,12 +106,10 @@ pub fn surface_band(
     degree: Degree,
     confidence: Confidence,
     tolerance: Tolerance,
-    xs: &[f64],
-    zs: &[f64],
-    ys: &[f64],
+    points: Points<'_>,
     scratch: &mut [f64],
 ) -> Result<Band, Refusal>
-    ensures { BandIs (surface_band_out count x z degree.0 confidence tolerance (point_columns xs.now zs.now ys.now) (before scratch)) result (contents scratch) }
+    ensures { BandIs (surface_band_out count x z degree.0 confidence tolerance (held_points points.entry) (before scratch)) result (contents scratch) }
 {
     refusals::check_band(
         count,
@@ -106,26 +118,12 @@ pub fn surface_band(
         degree,
         confidence,
         tolerance,
-        xs,
-        zs,
-        ys,
+        points,
         scratch.len(),
     )?;
-    let sums = sums_of(count, xs, zs, ys);
-    measure::band_of(
-        Basis::Surface,
-        count,
-        x,
-        z,
-        degree,
-        confidence,
-        tolerance,
-        xs,
-        zs,
-        ys,
-        &sums,
-        scratch,
-    )
+    let rows = points.rows(count);
+    let sums = sums_of(rows);
+    measure::band_of(rows, x, z, degree, confidence, tolerance, &sums, scratch)
 }
 
 // The report of the total degree that is chosen among those tried, within a limit of pivot tests. Nothing but scratch is written before 12 is ruled out.
@@ -133,29 +131,13 @@ pub fn surface_report_within(
     count: usize,
     settings: Settings,
     limit: usize,
-    xs: &[f64],
-    zs: &[f64],
-    ys: &[f64],
-    scratch: &mut [f64],
-    coefficients: &mut [f64],
-    errors: &mut [f64],
-    pruned: &mut [u8],
-    lower: &mut [f64],
-    upper: &mut [f64],
-    outliers: &mut [u8],
+    points: Points<'_>,
+    memory: Memory<'_>,
 ) -> Counted
-    ensures { SurfaceWithinIs count settings limit (point_columns xs.now zs.now ys.now) result (outputs scratch coefficients errors pruned lower upper outliers) }
+    ensures { SurfaceWithinIs count settings limit (held_points points.entry) result (lent_outputs memory) }
 {
-    let places = Places {
-        scratch: scratch.len(),
-        coefficients: coefficients.len(),
-        errors: errors.len(),
-        pruned: pruned.len(),
-        lower: lower.len(),
-        upper: upper.len(),
-        outliers: outliers.len(),
-    };
-    if let Err(refusal) = refusals::check_report(count, settings, xs, zs, ys, places) {
+    local!(memory);
+    if let Err(refusal) = refusals::check_report(count, settings, points, memory.places()) {
         return Counted {
             answer: Err(refusal),
             tests: 0,
@@ -164,58 +146,21 @@ pub fn surface_report_within(
     let bound = settings.bound;
     let most = statistics::max_degree(bound, count);
     let last = last_tried(count, most);
-    let sums = sums_of(count, xs, zs, ys);
-    reporting::report_rows(
-        Basis::Surface,
-        count,
-        last,
-        settings,
-        limit,
-        xs,
-        zs,
-        ys,
-        &sums,
-        scratch,
-        coefficients,
-        errors,
-        pruned,
-        lower,
-        upper,
-        outliers,
-    )
+    let rows = points.rows(count);
+    let sums = sums_of(rows);
+    let counted = reporting::report_rows(rows, last, settings, limit, &sums, memory);
+    counted
 }
 
 // The report of the total degree that is chosen among those tried.
 pub fn surface_report(
     count: usize,
     settings: Settings,
-    xs: &[f64],
-    zs: &[f64],
-    ys: &[f64],
-    scratch: &mut [f64],
-    coefficients: &mut [f64],
-    errors: &mut [f64],
-    pruned: &mut [u8],
-    lower: &mut [f64],
-    upper: &mut [f64],
-    outliers: &mut [u8],
+    points: Points<'_>,
+    memory: Memory<'_>,
 ) -> Result<Report, Refusal>
-    ensures { SurfaceReportIs count settings (point_columns xs.now zs.now ys.now) result (outputs scratch coefficients errors pruned lower upper outliers) }
+    ensures { SurfaceReportIs count settings (held_points points.entry) result (lent_outputs memory) }
 {
-    surface_report_within(
-        count,
-        settings,
-        reporting::NO_LIMIT,
-        xs,
-        zs,
-        ys,
-        scratch,
-        coefficients,
-        errors,
-        pruned,
-        lower,
-        upper,
-        outliers,
-    )
-    .answer
+    local!(memory);
+    surface_report_within(count, settings, reporting::NO_LIMIT, points, memory).answer
 }

@@ -9,9 +9,9 @@ use Rattle.allowance.proofs.group_split.Goals as goal
 pub returns-in_err-check_group : goal.returns-in_err-check_group
 unfolding group_split_on group_split_refusal
 returns-in_err-check_group c =
-    split_refused_early c.args.group c.args.table.now _ _ (rw c.split_short-short.ensures at c.check_group.ensures) c.in_err-check_group.was c.from_residual.ensures.1 _ _ _ _ _
+    split_refused_early c.args.group c.args.table.now _ _ (rw (c.split_short-short.ensures, c.lengths-lengths.ensures, c.places.ensures) at c.check_group.ensures) c.in_err-check_group.was c.from_residual.ensures.1 _ _ _ _ _
 
 pub returns : goal.returns
 unfolding group_split_on group_split_refusal split_on split_taken split_refusal
 returns c =
-    split_charged c.args.group c.args.table.now _ _ (rw c.split_short-short.ensures at c.check_group.ensures) c.in_ok-check_group.was _ _ c.split_within-done.result _ c.split_within-done.ensures.does c.split_within-done.ensures.taken
+    split_charged c.args.group c.args.table.now _ _ (rw (c.split_short-short.ensures, c.lengths-lengths.ensures, c.places.ensures) at c.check_group.ensures) c.in_ok-check_group.was _ _ c.split_within-done.result _ c.split_within-done.ensures.does c.split_within-done.ensures.taken

@@ -1,9 +1,10 @@
 -- `split::write` meets its contract: the samples before the break are the first of all.
 use Rattle.std.proofs.Common.{rules}
-use Rattle.basis.specs.declared.Basis.TheVariants.{Curve}
-use Rattle.monomial.specs.RowLaws.{weighted_at_take}
+use Rattle.monomial.specs.ReadingLaws.{weighted_from}
 use Rattle.split.proofs.write.Goals as goal
 
 pub returns-clause-earlier : goal.returns-clause-earlier
-returns-clause-earlier c =
-    rw (weighted_at_take Curve c.args.xs.now c.args.xs.now c.args.ys.now c.args.ws.now c.args.best.at c.args.n c.requires.2) (search rules)
+returns-clause-earlier c = rw (← c.part.ensures.weighted) (search rules)
+
+pub returns-clause-later : goal.returns-clause-later
+returns-clause-later c = rw (← (weighted_from c.args.rows c.args.best.at), ← c.part-2.ensures.weighted) (search rules)

@@ -2,17 +2,16 @@
 use Rattle.std.proofs.Common.{refl, rules}
 use Rattle.refusal.specs.NamedLaws.{first_asked, then_asked}
 use Rattle.surface.specs.Refusals.{surface_report_refusal}
-use Rattle.surface.specs.RefusalLaws.{points_finite_lem}
 use Rattle.surface.proofs.refusals.check_report.Goals as goal
 
-pub returns-in_err-check_samples : goal.returns-in_err-check_samples
+pub returns-in_err-check_points : goal.returns-in_err-check_points
 unfolding surface_report_refusal
-returns-in_err-check_samples c =
-    let asked = rw (c.score_finite.ensures, c.tolerance_finite.ensures, c.report_memories.ensures, points_finite_lem c.args.n c.args.xs.now c.args.zs.now c.args.ys.now) at c.check_samples.ensures in
-    first_asked _ _ refl asked c.in_err-check_samples.was c.from_residual.ensures.1
+returns-in_err-check_points c =
+    let asked = rw (c.score_finite.ensures, c.tolerance_finite.ensures, c.report_memories.ensures) at c.check_points.ensures in
+    first_asked _ _ refl asked c.in_err-check_points.was c.from_residual.ensures.1
 
 pub returns : goal.returns
 unfolding surface_report_refusal
 returns c =
-    let asked = rw (c.score_finite.ensures, c.tolerance_finite.ensures, c.report_memories.ensures, points_finite_lem c.args.n c.args.xs.now c.args.zs.now c.args.ys.now) at c.check_samples.ensures in
-    then_asked _ _ refl asked c.in_ok-check_samples.was (search rules)
+    let asked = rw (c.score_finite.ensures, c.tolerance_finite.ensures, c.report_memories.ensures) at c.check_points.ensures in
+    then_asked _ _ refl asked c.in_ok-check_points.was (search rules)
