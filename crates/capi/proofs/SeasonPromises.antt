@@ -1,16 +1,12 @@
 -- From what the season's own call promises to what the C interface promises.
 use mathlib.Core.Path.{◌≡◌, refl, ap, ◌∙◌}
-use mathlib.Core.List.{List, ◌++◌}
+use mathlib.Core.List.{List}
 use Prim.Native.Nat.{ℕ, ◌≤◌, ◌<◌}
 use native.Mathlib.Omega.{arith}
-use lib.ListN.{length, get_or, drop, length-map}
-use lib.Seq.{take_all}
+use lib.ListN.{length}
 use Rattle.book.specs.Calls.{Answer}
-use Rattle.loops.specs.Places.{each}
-use Rattle.loops.specs.PlaceLaws.{each_write, map_table, table_take}
 use Rattle.lent.specs.Slices.{Slice, before, after}
 use Rattle.lent.specs.Written.{over}
-use Rattle.lent.specs.WrittenLaws.{over_by}
 use Rattle.reporting.specs.Reports.{ReportAnswer, ReportOut}
 use Rattle.reporting.specs.Outputs.{LentOutputs}
 use Rattle.stakes.specs.Parts.{stakes}
@@ -26,16 +22,6 @@ season_packed i e = record { answer = e ∙ ap packed_book i.answer; season = i.
 
 pub stake_report_packed : {s : ℕ} {o : ReportOut} {a : ReportAnswer} {r : ℕ} {w : LentOutputs} → StakeReportIs s o a w → r ≡ packed_report a → StakeReportPacked s o r w
 stake_report_packed i q = record { answer = q ∙ ap packed_report i.answer; lent = record { answer = refl; outputs = i.outputs } }
-
--- the stakes' answers are written, place by place
-pub stakes_written : (d : ReportAnswer) (told : List ReportAnswer) (l : List ℕ) → length told ≡ stakes → stakes ≤ length l
-    → each (λ k _. packed_report (get_or told k d)) stakes l ≡ over (packed_stakes told) l
-stakes_written d told l e h =
-    over_by stakes (packed_stakes told) l _ (length-map told packed_report ∙ e)
-    (each_write (λ k. packed_report (get_or told k d)) stakes l h
-    ∙ ap (λ (v : List ℕ). v ++ drop stakes l)
-    (map_table packed_report (λ k. get_or told k d) stakes
-    ∙ ap packed_stakes (table_take d stakes told (omega arith) ∙ take_all stakes told (omega arith))))
 
 -- a season report whose answers have too few places, and enough
 module _ (o : Reported) (w : LentOutputs) (a : Slice ℕ) where

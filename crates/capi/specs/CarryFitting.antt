@@ -1,10 +1,9 @@
 -- What a carry answers fits, as Fitting.antt has it of the calls that change a book.
 use Rattle.std.specs.Prelude.{refl, List, ℕ, Float, length}
-use Rattle.std.proofs.Common.{arith}
 use Rattle.samples.specs.Columns.{Columns, lengths}
 use Rattle.book.specs.Calls.{Out, refused}
 use Rattle.carried.specs.Carry.{carry_refusal, carry_out}
-use Rattle.carried.specs.CarryLaws.{carry_numbers, carry_room}
+use Rattle.carried.specs.CarryLaws.{carry_room}
 use Rattle.capi.specs.Packed.{BookFits}
 use Rattle.capi.specs.Fitting.{settled_fits}
 

@@ -1,12 +1,12 @@
 -- What the calls can answer fits the fields that it is packed into: a count of at most 4,096, a degree of at most 15, at most 16 solved degrees and
 -- pruned terms, at most 4,096 outliers, and refusals 1 to 18.
-use Rattle.std.specs.Prelude.{◌≡◌, Bool, true, false, cond, not, ◌&&◌, List, [], ◌∷◌, map, ℕ, zero, suc, ◌+◌, ◌-◌, ◌≤◌, ltb, eqb, length, get_or, take, Float, Option, Some, None, Ok, Err}
+use Rattle.std.specs.Prelude.{◌≡◌, Bool, true, false, cond, not, ◌&&◌, List, [], ◌∷◌, map, ℕ, zero, suc, ◌+◌, ◌-◌, ◌≤◌, ltb, eqb, length, get_or, take, Float, Option, Some, None, Ok, Err, is_some}
 use Rattle.std.proofs.Math.Path.{refl}
 use Rattle.std.proofs.Common.{ap, ◌∙◌, add-one}
 use native.Mathlib.Omega.{arith}
 use Rattle.std.proofs.lemmas.List.{length-map}
 use Rattle.std.specs.Float.{nan}
-use Rattle.refusal.specs.Named.{number, refused_by}
+use Rattle.refusal.specs.Named.{refused_by}
 use Rattle.loops.specs.Fold.{fold}
 use Rattle.loops.specs.Loop.{from, turns}
 use Rattle.loops.specs.Places.{table}
@@ -25,7 +25,6 @@ use Rattle.monomial.specs.Rows.{Row, row_of, rows_of, weighted_rows}
 use Rattle.score.specs.declared.Criterion.{Criterion}
 use Rattle.choice.specs.Choice.{solved_count}
 use Rattle.choice.specs.Laws.{chosen}
-use Rattle.choice.specs.declared.Scored.{Scored}
 use Rattle.basis.specs.Counts.{count_of}
 use Rattle.basis.specs.declared.Basis.{Basis}
 use Rattle.basis.specs.declared.Basis.TheVariants.{Curve, Surface}
@@ -46,14 +45,14 @@ use Rattle.refusal.specs.NamedLaws.{number_fits}
 use Rattle.refusal.specs.Named.{named}
 use Rattle.refusal.specs.Refusals.{settle}
 use Rattle.refusal.specs.Tests.{capacity}
-use Rattle.book.specs.RefusalLaws.{open_numbers, add_numbers, correct_numbers, withdraw_numbers, frame_numbers, lines_numbers, add_room, correct_room, withdraw_room, frame_room, lines_room}
+use Rattle.book.specs.RefusalLaws.{add_room, correct_room, withdraw_room, frame_room, lines_room}
 use Rattle.book.specs.Calls.{Answer, Out, State, state_of, state_after, book_after, refused, add_next, add_many, open_out, add_out, correct_out, withdraw_out, add_frame_out, add_lines_out}
 use Rattle.book.specs.Window.{window_refusal, with_place, window_out}
-use Rattle.book.specs.WindowLaws.{window_numbers, window_room}
+use Rattle.book.specs.WindowLaws.{window_room}
 use Rattle.measure.specs.Places.{term_places}
-use Rattle.measure.specs.Measures.{inverse_fails, measure_refusal}
+use Rattle.measure.specs.Measures.{measure_refusal}
 use Rattle.query.specs.Refusals.{fit_refusal, validate_refusal, band_refusal}
-use Rattle.query.specs.RefusalLaws.{fit_numbers, validate_numbers, band_numbers_lem, fit_room, validate_room}
+use Rattle.query.specs.RefusalLaws.{fit_room, validate_room}
 use Rattle.measure.specs.Fits.{FitOut, fit_refused, fit_past}
 use Rattle.query.specs.Fits.{fit_on, fit_out, validate_past, validate_on, validate_out}
 use Rattle.measure.specs.Bands.{BandOut, band_refused, band_past}
@@ -61,7 +60,7 @@ use Rattle.query.specs.Bands.{band_for, band_out}
 use Rattle.settings.specs.declared.Settings.{Settings}
 use Rattle.reporting.specs.declared.Places.{Places}
 use Rattle.report.specs.Refusals.{report_refusal}
-use Rattle.report.specs.RefusalLaws.{report_numbers, report_room}
+use Rattle.report.specs.RefusalLaws.{report_room}
 use Rattle.report.specs.Reports.{report_choice}
 use Rattle.reporting.specs.ChosenLaws.{last_solved, of_either}
 use Rattle.reporting.specs.Reports.{ReportOut, refused_early, refused_late, report_of, written_by}
@@ -94,7 +93,7 @@ ones_table f h zero = omega (arith, none_marked f)
 ones_table f h (suc n) = omega (arith, ones_again f n, ones_table f h n, h n, ap (λ m. ones (table f m)) (add-one n))
 
 -- the solved degrees are at most the degrees tried
-solved_most : (S : ℕ → Scored) (b : ℕ) → solved_count S b ≤ b
+solved_most : (S : ℕ → Option Float) (b : ℕ) → solved_count S b ≤ b
 unfolding solved_count from turns
 solved_most S b =
     let w : solved_count S b ≤ 0 + (b - 0) = go 0 (b - 0) 0 in
@@ -104,9 +103,9 @@ solved_most S b =
     one true m = omega arith
     one false m = omega arith
 
-    go : (i n m : ℕ) → turns (λ d m. cond (S d).solved (m + 1) m) i n m ≤ m + n
+    go : (i n m : ℕ) → turns (λ d m. cond (is_some (S d)) (m + 1) m) i n m ≤ m + n
     go i zero m = omega arith
-    go i (suc n) m = omega (arith, go (i + 1) n (cond (S i).solved (m + 1) m), one (S i).solved m)
+    go i (suc n) m = omega (arith, go (i + 1) n (cond (is_some (S i)) (m + 1) m), one (is_some (S i)) m)
 
 -- ---- the calls that change a book, with weights or without
 

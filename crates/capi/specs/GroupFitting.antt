@@ -1,8 +1,8 @@
 -- What a group's calls answer fits its fields, as that of the same call without a group does, and reading it gives the answer back.
 use Rattle.std.specs.Prelude.{◌≡◌, Bool, true, false, cond, List, [], ◌∷◌, ltb, Float, take, Ok, Err}
 use Rattle.std.proofs.Math.Path.{refl}
-use Rattle.std.proofs.Common.{sym, ◌∙◌}
-use Prim.Native.Nat.{ℕ, zero, suc, ◌≤◌}
+use Rattle.std.proofs.Common.{◌∙◌}
+use Prim.Native.Nat.{ℕ, zero, suc}
 use native.Mathlib.Omega.{arith}
 use Rattle.std.proofs.Math.ListN.{length, length-map}
 use Rattle.refusal.specs.Named.{number}
@@ -40,7 +40,6 @@ use Rattle.split.specs.RefusalLaws.{split_room}
 use Rattle.split.specs.Splits.{SplitOut, split_refused}
 use Rattle.allowance.specs.Table.{TableAnswer, table_places, counter_of, start_out, renew_out}
 use Rattle.allowance.specs.Refusals.{with_group, group_report_refusal, group_surface_refusal, group_split_refusal}
-use Rattle.allowance.specs.RefusalLaws.{group_report_numbers, group_surface_numbers, group_split_numbers}
 use Rattle.allowance.specs.Charges.{Charged, charged, group_report_on, group_surface_on, group_split_on}
 use Rattle.capi.specs.Packed.{packed_report, packed_split, packed_table, ReportFits, SplitFits, charged_into, group_report_out, group_surface_out, group_split_out}
 use Rattle.capi.specs.Fitting.{chosen_fits}

@@ -13,7 +13,7 @@ use Rattle.reporting.specs.ChosenLaws.{of_either}
 use Rattle.report.specs.Reports.{report_choice}
 use Rattle.report.specs.ChosenLaws.{chosen_solved}
 use Rattle.losses.specs.Refusals.{loss_refusal}
-use Rattle.losses.specs.RefusalLaws.{loss_numbers_lem, loss_room}
+use Rattle.losses.specs.RefusalLaws.{loss_room}
 use Rattle.losses.specs.Losses.{LossOut, loss_refused, loss_late, losses_by, loss_of, loss_past, loss_on, loss_out}
 use Rattle.capi.specs.Packed.{LossFits, loss_into}
 

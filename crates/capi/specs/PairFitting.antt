@@ -4,11 +4,11 @@ use Rattle.std.specs.Prelude.{List, [], ℕ, ◌≤◌, Float, length}
 use Rattle.std.proofs.Common.{arith}
 use Rattle.basis.specs.Sizes.{max_samples}
 use Rattle.book.specs.Refusals.{open_refusal, correct_refusal, withdraw_refusal}
-use Rattle.book.specs.RefusalLaws.{open_numbers, correct_numbers, withdraw_numbers, correct_room, withdraw_room}
+use Rattle.book.specs.RefusalLaws.{correct_room, withdraw_room}
 use Rattle.two_column.specs.declared.Pair.{Pair}
 use Rattle.two_column.specs.Pairs.{Columns, columns as columns_of, lengths}
 use Rattle.two_column.specs.Refusals.{frame_pairs, add_refusal, frame_refusal}
-use Rattle.two_column.specs.RefusalLaws.{add_numbers, frame_numbers, add_room, frame_room}
+use Rattle.two_column.specs.RefusalLaws.{add_room, frame_room}
 use Rattle.two_column.specs.Calls.{Out, refused, State, state_of, add_next, add_many, open_out, add_out, correct_out, withdraw_out, add_frame_out}
 use Rattle.capi.specs.Packed.{BookFits}
 use Rattle.capi.specs.Fitting.{settled_fits, after_fits, many_fit}

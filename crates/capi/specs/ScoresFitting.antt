@@ -18,7 +18,7 @@ use Rattle.report.specs.Reports.{report_choice}
 use Rattle.report.specs.ChosenLaws.{chosen_solved}
 use Rattle.split.specs.SearchLaws.{tests_at_most}
 use Rattle.scores.specs.Refusals.{scores_refusal}
-use Rattle.scores.specs.RefusalLaws.{scores_numbers, scores_room}
+use Rattle.scores.specs.RefusalLaws.{scores_room}
 use Rattle.scores.specs.Scores.{ScoresAnswer, ScoresOut, scores_refused, scores_late, scores_by, scores_of, scores_past, scores_on, scores_out}
 use Rattle.capi.specs.Packed.{packed_scores, scores_into, ScoresFits}
 use Rattle.capi.specs.Fitting.{choice_solved}

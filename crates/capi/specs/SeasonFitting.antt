@@ -7,7 +7,7 @@ use native.Mathlib.Omega.{arith}
 use Rattle.std.proofs.lemmas.Bool.{eqb-false}
 use Rattle.std.proofs.Math.ListN.{length-replicate}
 use Rattle.std.proofs.lemmas.List.{get_or-replicate}
-use Rattle.refusal.specs.Named.{number, refused_by}
+use Rattle.refusal.specs.Named.{refused_by}
 use Rattle.reporting.specs.declared.Report.{Report}
 use Rattle.reporting.specs.Reports.{ReportAnswer}
 use Rattle.loops.specs.Loop.{from, turns}
@@ -18,7 +18,7 @@ use Rattle.ledger.specs.Ledger.{Change, adds, corrects, withdraws, frames, texts
 use Rattle.settings.specs.declared.Settings.{Settings}
 use Rattle.reporting.specs.Outputs.{Outputs, places_of}
 use Rattle.stakes.specs.Parts.{stakes}
-use Rattle.stakes.specs.Season.{SeasonState, stake_state, stake_tests, stake_refusal, season_open_tests, season_open_refusal, read_stake}
+use Rattle.stakes.specs.Season.{SeasonState, stake_state, stake_refusal, season_open_refusal, read_stake}
 use Rattle.season.specs.Changes.{SeasonOut, left_alone, on_stake, season_out, opens, open_stake_out, carries, carry_stake_out, season_open_out}
 use Rattle.season_report.specs.Reports.{parts_of, stake_report_out, passes, Reported, report_turn, unreported, season_report}
 use Rattle.capi.specs.Packed.{packed_book, packed_report, BookFits, ReportFits}

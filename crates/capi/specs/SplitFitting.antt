@@ -1,7 +1,6 @@
 -- What a split can answer fits the fields that it is packed into, and is read back.
 use Rattle.std.specs.Prelude.{◌≡◌, refl, Bool, true, false, cond, List, [], ℕ, zero, suc, ◌%◌, ◌≤◌, ◌<◌, ltb, Float, length, Result, Ok, Err}
 use Rattle.std.proofs.Common.{ap, ◌∙◌, mod-eq_of_lt, arith}
-use Rattle.std.proofs.lemmas.Bool.{not-false}
 use Rattle.std.proofs.lemmas.List.{length-map}
 use Rattle.refusal.specs.Named.{number}
 use Rattle.statistics.specs.Degrees.{max_degree}

@@ -1,7 +1,6 @@
 -- What the calls that read a stake answer fits the fields that it is packed into, as the book's own answer does, and is read back.
 use Rattle.std.specs.Prelude.{Bool, true, false, cond, List, [], leb, Float, length}
-use Prim.Native.Nat.{ℕ, zero, suc, ◌≤◌}
-use native.Mathlib.Omega.{arith}
+use Prim.Native.Nat.{ℕ, zero, suc}
 use Rattle.statistics.specs.declared.DegreeBound.{DegreeBound}
 use Rattle.statistics.specs.declared.Confidence.{Confidence}
 use Rattle.statistics.specs.declared.Tolerance.{Tolerance}
@@ -17,7 +16,7 @@ use Rattle.losses.specs.Losses.{LossOut, loss_refused}
 use Rattle.scores.specs.Scores.{ScoresOut, scores_refused}
 use Rattle.split.specs.Splits.{SplitOut, split_refused}
 use Rattle.stakes.specs.Parts.{stakes, part_of}
-use Rattle.stakes.specs.Season.{SeasonState, stake_state, stake_tests, stake_refusal, read_stake}
+use Rattle.stakes.specs.Season.{SeasonState, stake_state, stake_refusal, read_stake}
 use Rattle.season_query.specs.Reads.{fit_from, validate_from, stake_fit_out, band_from, stake_band_out, loss_from, stake_loss_out, scores_from, stake_scores_out, split_from, stake_split_out}
 use Rattle.capi.specs.Packed.{packed_fit, packed_band, band_into, packed_losses, loss_into, packed_scores, scores_into, packed_split, split_into, FitFits, BandFits, LossFits, ScoresFits, SplitFits}
 use Rattle.capi.specs.SeasonPacked.{stake_into}

@@ -14,7 +14,7 @@ use Rattle.reporting.specs.declared.Places.{Places}
 use Rattle.surface.specs.Points.{PointColumns, point_lengths, points_of, row_of_point, rows_of_points, surface_sums}
 use Rattle.surface.specs.PointLaws.{length_points}
 use Rattle.surface.specs.Refusals.{surface_fit_refusal, surface_band_refusal, surface_report_refusal}
-use Rattle.surface.specs.RefusalLaws.{surface_fit_numbers, surface_band_numbers, surface_report_numbers, surface_fit_room, surface_report_room}
+use Rattle.surface.specs.RefusalLaws.{surface_fit_room, surface_report_room}
 use Rattle.surface.specs.Surfaces.{last_tried, surface_fit_on, surface_fit_out, surface_band_on, surface_band_out, surface_report_past, surface_report_on, surface_report_out}
 use Rattle.surface.specs.TriedLaws.{last_within, surface_choice_is}
 use Rattle.capi.specs.Packed.{packed_fit, packed_band, packed_report, band_into, FitFits, BandFits, ReportFits}

@@ -36,10 +36,12 @@ use covariance::Band;
 use frame::Cursor;
 use losses::LossTotals;
 use refusal::Refusal;
-use reporting::Report;
-use samples::Sample;
+use replay::Calls;
+use reporting::{Memory, Report};
+use samples::{Columns, Sample};
 use scores::ScoreTable;
 use split::Break;
+use surface::Points;
 use two_column::Pair;
 
 // The places that a band is written to, the total and the score of losses, and a reader's sample.
@@ -348,9 +350,7 @@ pub extern "C" fn stakebook_fit(
     packed::fit(query::fit(
         Book { count },
         Degree(degree),
-        xs,
-        ys,
-        ws,
+        Columns { xs, ys, ws },
         sums,
         scratch,
         coefficients,
@@ -381,9 +381,7 @@ pub extern "C" fn stakebook_validate(
         folds,
         by,
         scored,
-        xs,
-        ys,
-        ws,
+        Columns { xs, ys, ws },
         sums,
         scratch,
         coefficients,
@@ -420,9 +418,7 @@ pub extern "C" fn stakebook_band(
         Degree(degree),
         with,
         allowed,
-        xs,
-        ys,
-        ws,
+        Columns { xs, ys, ws },
         sums,
         scratch,
     );
@@ -460,17 +456,17 @@ pub extern "C" fn stakebook_report(
     packed_report(report::report(
         Book { count },
         settings,
-        xs,
-        ys,
-        ws,
+        Columns { xs, ys, ws },
         sums,
-        scratch,
-        coefficients,
-        errors,
-        pruned,
-        lower,
-        upper,
-        outliers,
+        Memory {
+            scratch,
+            coefficients,
+            errors,
+            pruned,
+            lower,
+            upper,
+            outliers,
+        },
     ))
 }
 
@@ -498,17 +494,17 @@ pub extern "C" fn stakebook_report_by(
     packed_report(report::report(
         Book { count },
         settings,
-        xs,
-        ys,
-        ws,
+        Columns { xs, ys, ws },
         sums,
-        scratch,
-        coefficients,
-        errors,
-        pruned,
-        lower,
-        upper,
-        outliers,
+        Memory {
+            scratch,
+            coefficients,
+            errors,
+            pruned,
+            lower,
+            upper,
+            outliers,
+        },
     ))
 }
 
@@ -525,7 +521,13 @@ pub extern "C" fn stakebook_surface_fit(
 ) -> u64
     ensures { FitPacked (surface_fit_out count degree (point_columns xs.now zs.now ys.now) (before scratch) (before coefficients)) result scratch coefficients }
 {
-    packed::fit(surface::surface_fit(count, Degree(degree), xs, zs, ys, scratch, coefficients))
+    packed::fit(surface::surface_fit(
+        count,
+        Degree(degree),
+        Points { xs, zs, ys },
+        scratch,
+        coefficients,
+    ))
 }
 
 // The band at x and z of the surface of the asked total degree, written to three places: value, lower and upper.
@@ -560,9 +562,7 @@ pub extern "C" fn stakebook_surface_band(
         Degree(degree),
         with,
         allowed,
-        xs,
-        zs,
-        ys,
+        Points { xs, zs, ys },
         scratch,
     );
     packed_band(answer, numbers)
@@ -591,16 +591,16 @@ pub extern "C" fn stakebook_surface_report(
     packed_report(surface::surface_report(
         count,
         settings,
-        xs,
-        zs,
-        ys,
-        scratch,
-        coefficients,
-        errors,
-        pruned,
-        lower,
-        upper,
-        outliers,
+        Points { xs, zs, ys },
+        Memory {
+            scratch,
+            coefficients,
+            errors,
+            pruned,
+            lower,
+            upper,
+            outliers,
+        },
     ))
 }
 
@@ -630,13 +630,13 @@ pub extern "C" fn stakebook_split(
         Book { count },
         settings,
         limit,
-        xs,
-        ys,
-        ws,
+        Columns { xs, ys, ws },
         sums,
-        scratch,
-        earlier,
-        later,
+        split::Memory {
+            scratch,
+            before: earlier,
+            after: later,
+        },
     );
     packed_split(answer, total)
 }
@@ -662,7 +662,14 @@ pub extern "C" fn stakebook_losses(
     }
     let settings = settings::listed(words, values);
     packed_losses(
-        losses::losses(Book { count }, settings, xs, ys, ws, sums, scratch, losses),
+        losses::losses(
+            Book { count },
+            settings,
+            Columns { xs, ys, ws },
+            sums,
+            scratch,
+            losses,
+        ),
         numbers,
     )
 }
@@ -692,9 +699,7 @@ pub extern "C" fn stakebook_scores(
     let answer = scores::scores(
         Book { count },
         settings,
-        xs,
-        ys,
-        ws,
+        Columns { xs, ys, ws },
         sums,
         scratch,
         solved,
@@ -746,17 +751,17 @@ pub extern "C" fn stakebook_group_report(
         group,
         Book { count },
         settings,
-        xs,
-        ys,
-        ws,
+        Columns { xs, ys, ws },
         sums,
-        scratch,
-        coefficients,
-        errors,
-        pruned,
-        lower,
-        upper,
-        outliers,
+        Memory {
+            scratch,
+            coefficients,
+            errors,
+            pruned,
+            lower,
+            upper,
+            outliers,
+        },
         table,
     ))
 }
@@ -787,16 +792,16 @@ pub extern "C" fn stakebook_group_surface_report(
         group,
         count,
         settings,
-        xs,
-        zs,
-        ys,
-        scratch,
-        coefficients,
-        errors,
-        pruned,
-        lower,
-        upper,
-        outliers,
+        Points { xs, zs, ys },
+        Memory {
+            scratch,
+            coefficients,
+            errors,
+            pruned,
+            lower,
+            upper,
+            outliers,
+        },
         table,
     ))
 }
@@ -828,13 +833,13 @@ pub extern "C" fn stakebook_group_split(
         group,
         Book { count },
         settings,
-        xs,
-        ys,
-        ws,
+        Columns { xs, ys, ws },
         sums,
-        scratch,
-        earlier,
-        later,
+        split::Memory {
+            scratch,
+            before: earlier,
+            after: later,
+        },
         table,
     );
     packed_split(answer, total)
@@ -883,21 +888,25 @@ pub extern "C" fn stakebook_replay(
     ensures { ReplayPacked kinds.now words.now numbers.now width (memory xs ys ws sums results (outputs scratch coefficients errors pruned lower upper outliers)) result }
 {
     packed::replay(replay::replay(
-        kinds,
-        words,
-        numbers,
+        Calls {
+            kinds,
+            words,
+            numbers,
+        },
         width,
         xs,
         ys,
         ws,
         sums,
         results,
-        scratch,
-        coefficients,
-        errors,
-        pruned,
-        lower,
-        upper,
-        outliers,
+        Memory {
+            scratch,
+            coefficients,
+            errors,
+            pruned,
+            lower,
+            upper,
+            outliers,
+        },
     ))
 }

@@ -10,7 +10,8 @@ ghost use Rattle.capi.specs.SeasonPacked.{StakeFitPacked, StakeBandPackedIs, Sta
 use crate::{BAND, TOLD, packed, packed_band, packed_losses, packed_scores, packed_split};
 use basis::Degree;
 use refusal::Refusal;
-use stakes::STAKES;
+use samples::Columns;
+use stakes::{STAKES, Season};
 
 // The fit of the asked degree.
 #[unsafe(no_mangle)]
@@ -27,17 +28,13 @@ pub extern "C" fn stakebook_season_fit(
 ) -> u64
     ensures { StakeFitPacked stake (stake_fit_out (fit_from degree) stake (season_of counts.now (columns_of xs.now ys.now ws.now) sums.now) (before scratch) (before coefficients)) result scratch coefficients }
 {
-    packed::fit(season_query::fit(
-        stake,
-        Degree(degree),
+    let columns = Columns { xs, ys, ws };
+    let season = Season {
         counts,
-        xs,
-        ys,
-        ws,
+        columns,
         sums,
-        scratch,
-        coefficients,
-    ))
+    };
+    packed::fit(season_query::fit(stake, Degree(degree), season, scratch, coefficients))
 }
 
 // The fit of the degree that k-fold cross-validation chooses. A bound is a number and a degree.
@@ -60,19 +57,13 @@ pub extern "C" fn stakebook_season_validate(
 {
     let by = settings::bound(bound, most);
     let scored = settings::criterion(criterion);
-    packed::fit(season_query::validate(
-        stake,
-        folds,
-        by,
-        scored,
+    let columns = Columns { xs, ys, ws };
+    let season = Season {
         counts,
-        xs,
-        ys,
-        ws,
+        columns,
         sums,
-        scratch,
-        coefficients,
-    ))
+    };
+    packed::fit(season_query::validate(stake, folds, by, scored, season, scratch, coefficients))
 }
 
 // The band at x of the curve of the asked degree, written to three places: value, lower and upper.
@@ -103,19 +94,13 @@ pub extern "C" fn stakebook_season_band(
     }
     let with = settings::confidence(confidence, score);
     let allowed = settings::tolerance(tolerance, value);
-    let answer = season_query::band(
-        stake,
-        x,
-        Degree(degree),
-        with,
-        allowed,
+    let columns = Columns { xs, ys, ws };
+    let season = Season {
         counts,
-        xs,
-        ys,
-        ws,
+        columns,
         sums,
-        scratch,
-    );
+    };
+    let answer = season_query::band(stake, x, Degree(degree), with, allowed, season, scratch);
     packed_band(answer, numbers)
 }
 
@@ -143,7 +128,13 @@ pub extern "C" fn stakebook_season_losses(
         return packed::refused(Refusal::Short);
     }
     let settings = settings::listed(words, values);
-    let answer = season_query::losses(stake, settings, counts, xs, ys, ws, sums, scratch, losses);
+    let columns = Columns { xs, ys, ws };
+    let season = Season {
+        counts,
+        columns,
+        sums,
+    };
+    let answer = season_query::losses(stake, settings, season, scratch, losses);
     packed_losses(answer, numbers)
 }
 
@@ -172,9 +163,13 @@ pub extern "C" fn stakebook_season_scores(
         return packed::refused(Refusal::Short);
     }
     let settings = settings::listed(words, values);
-    let answer = season_query::scores(
-        stake, settings, counts, xs, ys, ws, sums, scratch, solved, scores,
-    );
+    let columns = Columns { xs, ys, ws };
+    let season = Season {
+        counts,
+        columns,
+        sums,
+    };
+    let answer = season_query::scores(stake, settings, season, scratch, solved, scores);
     packed_scores(answer, least)
 }
 
@@ -204,8 +199,12 @@ pub extern "C" fn stakebook_season_split(
         return packed::refused(Refusal::Short);
     }
     let settings = settings::listed(words, values);
-    let answer = season_query::split(
-        stake, settings, limit, counts, xs, ys, ws, sums, scratch, earlier, later,
-    );
+    let columns = Columns { xs, ys, ws };
+    let season = Season {
+        counts,
+        columns,
+        sums,
+    };
+    let answer = season_query::split(stake, settings, limit, season, scratch, earlier, later);
     packed_split(answer, total)
 }

@@ -11,8 +11,10 @@ ghost use Rattle.capi.specs.SeasonPacked.{StakesFit, packed_stakes, StakeReportP
 
 use crate::{packed, packed_report};
 use refusal::Refusal;
+use reporting::Memory;
+use samples::Columns;
 use season_report::SeasonReport;
-use stakes::STAKES;
+use stakes::{STAKES, Season};
 
 // A report of one stake, by lists of settings.
 #[unsafe(no_mangle)]
@@ -36,14 +38,13 @@ pub extern "C" fn stakebook_season_report_stake(
     ensures { StakeReportPackedIs (settings_in words.now values.now) stake (season_of counts.now (columns_of xs.now ys.now ws.now) sums.now) result (outputs scratch coefficients errors pruned lower upper outliers) }
 {
     let settings = settings::listed(words, values);
-    packed_report(season_report::report(
-        stake,
-        settings,
+    let columns = Columns { xs, ys, ws };
+    let season = Season {
         counts,
-        xs,
-        ys,
-        ws,
+        columns,
         sums,
+    };
+    let memory = Memory {
         scratch,
         coefficients,
         errors,
@@ -51,7 +52,8 @@ pub extern "C" fn stakebook_season_report_stake(
         lower,
         upper,
         outliers,
-    ))
+    };
+    packed_report(season_report::report(stake, settings, season, memory))
 }
 
 // The stakes' answers, packed, in stake order.
@@ -60,9 +62,8 @@ fn put_stakes(told: SeasonReport, answers: &mut [u64])
     requires stakes_in_bounds { stakes ≤ length answers.old }
     ensures { after answers ≡ over (packed_stakes told.reports) (before answers) }
 {
-    for stake in 0..STAKES {
-        answers[stake] = packed_report(told.reports[stake]);
-    }
+    let packed = told.reports.map(packed_report);
+    answers[..STAKES].copy_from_slice(&packed);
 }
 
 // The season report: each stake's report or refusal, by lists of settings. Their packed answers are written to 32 places.
@@ -90,13 +91,13 @@ pub extern "C" fn stakebook_season_report(
         return packed::refused(Refusal::Short);
     }
     let settings = settings::listed(words, values);
-    let told = season_report::season_report(
-        settings,
+    let columns = Columns { xs, ys, ws };
+    let season = Season {
         counts,
-        xs,
-        ys,
-        ws,
+        columns,
         sums,
+    };
+    let memory = Memory {
         scratch,
         coefficients,
         errors,
@@ -104,7 +105,8 @@ pub extern "C" fn stakebook_season_report(
         lower,
         upper,
         outliers,
-    );
+    };
+    let told = season_report::season_report(settings, season, memory);
     put_stakes(told, answers);
     told.passed as u64
 }

@@ -1,5 +1,5 @@
 -- Laws on buffers, on one call, on room, and on the loop of a replay.
 pub mod Laws
-pub mod Calls
+pub mod Calling
 pub mod Rooms
 pub mod Turns

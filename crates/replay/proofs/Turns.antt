@@ -33,7 +33,7 @@ use Rattle.replay.specs.Records.{settings_at, places_at, call_of, call_at, call_
 use Rattle.replay.specs.Replay.{Memory, Ran, ReplayIs, buffers_in, results_of, written_of, over_at, write_all, put_results, put_outputs}
 use Rattle.replay.specs.Steps.{results_in, change_record, Changed, Reported, Turned}
 use Rattle.replay.proofs.Laws.{window_over, write_snoc}
-use Rattle.replay.proofs.Calls.{change_count, report_count, report_results_lem, nothing_else, is_report_lem}
+use Rattle.replay.proofs.Calling.{change_count, report_count, report_results_lem, nothing_else, is_report_lem}
 use Rattle.replay.proofs.Rooms.{Formed, formed}
 
 -- ---- one call

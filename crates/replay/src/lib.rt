@@ -6,18 +6,29 @@ ghost use Rattle.book.specs.Calls.{state_of};
 ghost use Rattle.report.specs.Reports.{report_out};
 ghost use Rattle.lent.specs.Slices.{before, after};
 ghost use Rattle.lent.specs.Written.{over};
-ghost use Rattle.reporting.specs.Outputs.{outputs, outputs_now};
+ghost use Rattle.reporting.specs.Outputs.{lent_outputs, outputs_now};
 ghost use Rattle.replay.specs.Records.{pruning_by, settings_at, places_at, call_of, call_at, calls_of, holds, holds_all, fits_in, all_fit, has_room, well_formed};
 ghost use Rattle.replay.specs.Replay.{ReplayIs, memory, buffers_of};
 ghost use Rattle.replay.specs.Steps.{results_in, change_record, report_record, Changed, Reported, TurnIs, RunIs, Stands, Windows};
 ghost use Rattle.samples.specs.Columns.{columns_of};
+ghost use Rattle.samples.specs.Held.{held};
+ghost use Rattle.reporting.specs.declared.Places.{Places};
+ghost use Rattle.settings.specs.declared.Settings.{Settings};
 
 use basis::SUMS;
 use book::Book;
 use refusal::Refusal;
-use reporting::{Places, Report};
-use samples::Sample;
+use reporting::{Memory, Places, Report, local};
+use samples::{Columns, Sample};
 use settings::Settings;
+
+// A list of calls: the kinds, the words and the numbers of one after another.
+#[derive(Clone, Copy)]
+pub struct Calls<'a> {
+    pub kinds: &'a [u32],
+    pub words: &'a [usize],
+    pub numbers: &'a [f64],
+}
 
 // How many places the buffers have that are written.
 #[derive(Clone, Copy)]
@@ -50,21 +61,21 @@ fn pruning_by(kind: u32) -> u32
 }
 
 // The settings of the k-th record.
-fn settings_at(kinds: &[u32], words: &[usize], numbers: &[f64], k: usize) -> Settings
-    requires { Stands kinds.now words.now numbers.now k }
-    ensures { result ≡ settings_at kinds.now words.now numbers.now k }
+fn settings_at(calls: Calls<'_>, k: usize) -> Settings
+    requires { Stands calls.kinds.now calls.words.now calls.numbers.now k }
+    ensures { result ≡ settings_at calls.entry.kinds.now calls.entry.words.now calls.entry.numbers.now k }
 {
     let kind = 5 * k;
     let word = 9 * k;
     let number = 5 * k;
-    let bound = kinds[kind + 1];
-    let most = words[word + 1];
-    let criterion = kinds[kind + 2];
-    let confidence = kinds[kind + 3];
-    let score = numbers[number + 3];
-    let tolerance = kinds[kind + 4];
-    let value = numbers[number + 4];
-    let pruning = pruning_by(kinds[kind]);
+    let bound = calls.kinds[kind + 1];
+    let most = calls.words[word + 1];
+    let criterion = calls.kinds[kind + 2];
+    let confidence = calls.kinds[kind + 3];
+    let score = calls.numbers[number + 3];
+    let tolerance = calls.kinds[kind + 4];
+    let value = calls.numbers[number + 4];
+    let pruning = pruning_by(calls.kinds[kind]);
     settings::numbered(
         bound, most, criterion, confidence, score, tolerance, value, pruning,
     )
@@ -110,7 +121,7 @@ fn fits_in(width: usize, p: Places) -> bool
         & (p.outliers <= width)
 }
 
-// Whether that of the first m records does.
+// Whether that of the first m records does. The kinds tell how many there are, and the words may have room for more.
 fn all_fit(words: &[usize], width: usize, m: usize) -> bool
     requires { 9 * m ≤ length words.now }
     ensures { result ≡ all_fit words.now width m }
@@ -149,14 +160,14 @@ fn has_room(m: usize, words: usize, numbers: usize, width: usize, b: Buffers) ->
 }
 
 // Whether the buffers hold a list of calls, with room for all that is written.
-fn well_formed(kinds: &[u32], words: &[usize], numbers: &[f64], width: usize, b: Buffers) -> bool
-    ensures { result ≡ well_formed kinds.now words.now numbers.now width b }
+fn well_formed(calls: Calls<'_>, width: usize, b: Buffers) -> bool
+    ensures { result ≡ well_formed calls.entry.kinds.now calls.entry.words.now calls.entry.numbers.now width b }
 {
-    let calls = kinds.len() / 5;
-    if !has_room(calls, words.len(), numbers.len(), width, b) {
+    let count = calls.kinds.len() / 5;
+    if !has_room(count, calls.words.len(), calls.numbers.len(), width, b) {
         return false;
     }
-    all_fit(words, width, calls)
+    all_fit(calls.words, width, count)
 }
 
 // After the answer of a call that changes a book.
@@ -223,30 +234,27 @@ fn put(d: Done, out: &mut [usize])
     out[4] = d.pruned;
 }
 
-// A call that changes the book: 0 add, 1 correct, 2 withdraw.
+// A call that changes the book: 0 add, 1 correct, which takes the sample's y alone, 2 withdraw. Kinds are numbers, since they stand so in the buffers that
+// the C interface lends. No setting and no place is read.
 fn change(
     book: Book,
     kind: u32,
     index: usize,
-    x: f64,
-    y: f64,
-    w: f64,
-    settings: Settings,
-    places: Places,
+    sample: Sample,
     xs: &mut [f64],
     ys: &mut [f64],
     ws: &mut [f64],
     sums: &mut [f64],
 ) -> Done
     requires { kind < 3 }
-    ensures { Changed (state_of book.count (columns_of (before xs) (before ys) (before ws)) (before sums)) (call_of kind index x y w settings places) result (columns_of (after xs) (after ys) (after ws)) (after sums) }
+    ensures { (settings : Settings) (places : Places) → Changed (state_of book.count (columns_of (before xs) (before ys) (before ws)) (before sums)) (call_of kind index sample.x sample.y sample.w settings places) result (columns_of (after xs) (after ys) (after ws)) (after sums) }
 {
     if kind == 0 {
-        let a = book::add(book, Sample { x, y, w }, xs, ys, ws, sums);
+        let a = book::add(book, sample, xs, ys, ws, sums);
         return record_change(book, a);
     }
     if kind == 1 {
-        let a = book::correct(book, index, y, xs, ys, ws, sums);
+        let a = book::correct(book, index, sample.y, xs, ys, ws, sums);
         return record_change(book, a);
     }
     let a = book::withdraw(book, index, xs, ys, ws, sums);
@@ -259,21 +267,22 @@ fn report_at(
     settings: Settings,
     p: Places,
     at: usize,
-    xs: &[f64],
-    ys: &[f64],
-    ws: &[f64],
+    columns: Columns<'_>,
     sums: &[f64],
-    scratch: &mut [f64],
-    coefficients: &mut [f64],
-    errors: &mut [f64],
-    pruned: &mut [u8],
-    lower: &mut [f64],
-    upper: &mut [f64],
-    outliers: &mut [u8],
+    outputs: Memory<'_>,
 ) -> Done
-    requires { Windows at p (outputs_now scratch coefficients errors pruned lower upper outliers) }
-    ensures { Reported book.count at (report_out book.count settings (columns_of xs.now ys.now ws.now) sums.now p) result (outputs scratch coefficients errors pruned lower upper outliers) }
+    requires { Windows at p (outputs_now outputs) }
+    ensures { Reported book.count at (report_out book.count settings (held columns.entry) sums.now p) result (lent_outputs outputs) }
 {
+    let Memory {
+        scratch,
+        coefficients,
+        errors,
+        pruned,
+        lower,
+        upper,
+        outliers,
+    } = outputs;
     let s = at + p.scratch;
     let c = at + p.coefficients;
     let e = at + p.errors;
@@ -281,12 +290,10 @@ fn report_at(
     let l = at + p.lower;
     let u = at + p.upper;
     let o = at + p.outliers;
-    let a = report::report(
+    let a = report::report_into(
         book,
         settings,
-        xs,
-        ys,
-        ws,
+        columns,
         sums,
         &mut scratch[at..s],
         &mut coefficients[at..c],
@@ -299,12 +306,11 @@ fn report_at(
     record_report(book, a)
 }
 
-// The k-th call. The book goes on.
+// The k-th call. The book goes on. Columns, sums and results stay parameters: three functions pass them, and a struct of them, taken apart and built again in each,
+// would be longer.
 fn turn(
     book: Book,
-    kinds: &[u32],
-    words: &[usize],
-    numbers: &[f64],
+    calls: Calls<'_>,
     width: usize,
     k: usize,
     xs: &mut [f64],
@@ -312,43 +318,50 @@ fn turn(
     ws: &mut [f64],
     sums: &mut [f64],
     results: &mut [usize],
-    scratch: &mut [f64],
-    coefficients: &mut [f64],
-    errors: &mut [f64],
-    pruned: &mut [u8],
-    lower: &mut [f64],
-    upper: &mut [f64],
-    outliers: &mut [u8],
+    outputs: Memory<'_>,
 ) -> Book
-    requires { Stands kinds.now words.now numbers.now k × (5 * k + 5 ≤ length results.old) × Windows (width * k) (places_at words.now k) (outputs_now scratch coefficients errors pruned lower upper outliers) }
-    ensures { TurnIs (call_at kinds.now words.now numbers.now k) width k book.count result.count (memory xs ys ws sums results (outputs scratch coefficients errors pruned lower upper outliers)) }
+    requires { Stands calls.kinds.now calls.words.now calls.numbers.now k × (5 * k + 5 ≤ length results.old) × Windows (width * k) (places_at calls.words.now k) (outputs_now outputs) }
+    ensures { TurnIs (call_at calls.entry.kinds.now calls.entry.words.now calls.entry.numbers.now k) width k book.count result.count (memory xs ys ws sums results (lent_outputs outputs)) }
 {
-    let settings = settings_at(kinds, words, numbers, k);
-    let places = places_at(words, k);
-    let kind = kinds[5 * k];
+    local!(outputs);
+    let settings = settings_at(calls, k);
+    let places = places_at(calls.words, k);
+    let kind = calls.kinds[5 * k];
     let from = 5 * k;
     let end = from + 5;
     if kind < 3 {
-        let index = words[9 * k];
+        let index = calls.words[9 * k];
         let number = 5 * k;
-        let x = numbers[number];
-        let y = numbers[number + 1];
-        let w = numbers[number + 2];
-        let d = change(
-            book, kind, index, x, y, w, settings, places, xs, ys, ws, sums,
-        );
+        let sample = Sample {
+            x: calls.numbers[number],
+            y: calls.numbers[number + 1],
+            w: calls.numbers[number + 2],
+        };
+        let d = change(book, kind, index, sample, xs, ys, ws, sums);
         put(d, &mut results[from..end]);
         return Book { count: d.count };
     }
-    let d = report_at(
-        book,
-        settings,
-        places,
-        width * k,
-        xs,
-        ys,
-        ws,
-        sums,
+    let columns = Columns { xs, ys, ws };
+    let d = report_at(book, settings, places, width * k, columns, sums, outputs);
+    put(d, &mut results[from..end]);
+    Book { count: d.count }
+}
+
+// The calls of the buffers, one after another, from a book just opened.
+fn run(
+    calls: Calls<'_>,
+    width: usize,
+    xs: &mut [f64],
+    ys: &mut [f64],
+    ws: &mut [f64],
+    sums: &mut [f64],
+    results: &mut [usize],
+    outputs: Memory<'_>,
+) -> Book
+    requires { well_formed calls.kinds.now calls.words.now calls.numbers.now width (buffers_of sums.old results.old (outputs_now outputs)) ≡ true }
+    ensures { RunIs (calls_of calls.entry.kinds.now calls.entry.words.now calls.entry.numbers.now) width result.count (memory xs ys ws sums results (lent_outputs outputs)) }
+{
+    let Memory {
         scratch,
         coefficients,
         errors,
@@ -356,43 +369,15 @@ fn turn(
         lower,
         upper,
         outliers,
-    );
-    put(d, &mut results[from..end]);
-    Book { count: d.count }
-}
-
-// The calls of the buffers, one after another, from a book just opened.
-fn run(
-    kinds: &[u32],
-    words: &[usize],
-    numbers: &[f64],
-    width: usize,
-    xs: &mut [f64],
-    ys: &mut [f64],
-    ws: &mut [f64],
-    sums: &mut [f64],
-    results: &mut [usize],
-    scratch: &mut [f64],
-    coefficients: &mut [f64],
-    errors: &mut [f64],
-    pruned: &mut [u8],
-    lower: &mut [f64],
-    upper: &mut [f64],
-    outliers: &mut [u8],
-) -> Book
-    requires { well_formed kinds.now words.now numbers.now width (buffers_of sums.old results.old (outputs_now scratch coefficients errors pruned lower upper outliers)) ≡ true }
-    ensures { RunIs (calls_of kinds.now words.now numbers.now) width result.count (memory xs ys ws sums results (outputs scratch coefficients errors pruned lower upper outliers)) }
-{
+    } = outputs;
     let answer = book::open(sums);
     let first = record_change(Book { count: 0 }, answer);
     let mut book = Book { count: first.count };
-    let m = kinds.len() / 5;
+    let m = calls.kinds.len() / 5;
     for k in 0..m {
         book = turn(
             book,
-            kinds,
-            words,
-            numbers,
+            calls,
             width,
             k,
             xs,
@@ -400,13 +385,15 @@ fn run(
             ws,
             sums,
             results,
-            scratch,
-            coefficients,
-            errors,
-            pruned,
-            lower,
-            upper,
-            outliers,
+            Memory {
+                scratch: &mut *scratch,
+                coefficients: &mut *coefficients,
+                errors: &mut *errors,
+                pruned: &mut *pruned,
+                lower: &mut *lower,
+                upper: &mut *upper,
+                outliers: &mut *outliers,
+            },
         );
     }
     book
@@ -414,59 +401,26 @@ fn run(
 
 // The calls are run where the buffers hold a list of calls, and the book after the last call is answered; else nothing is written.
 pub fn replay(
-    kinds: &[u32],
-    words: &[usize],
-    numbers: &[f64],
+    calls: Calls<'_>,
     width: usize,
     xs: &mut [f64],
     ys: &mut [f64],
     ws: &mut [f64],
     sums: &mut [f64],
     results: &mut [usize],
-    scratch: &mut [f64],
-    coefficients: &mut [f64],
-    errors: &mut [f64],
-    pruned: &mut [u8],
-    lower: &mut [f64],
-    upper: &mut [f64],
-    outliers: &mut [u8],
+    outputs: Memory<'_>,
 ) -> Option<Book>
-    ensures { ReplayIs kinds.now words.now numbers.now width (memory xs ys ws sums results (outputs scratch coefficients errors pruned lower upper outliers)) result }
+    ensures { ReplayIs calls.entry.kinds.now calls.entry.words.now calls.entry.numbers.now width (memory xs ys ws sums results (lent_outputs outputs)) result }
 {
-    let places = Places {
-        scratch: scratch.len(),
-        coefficients: coefficients.len(),
-        errors: errors.len(),
-        pruned: pruned.len(),
-        lower: lower.len(),
-        upper: upper.len(),
-        outliers: outliers.len(),
-    };
+    local!(outputs);
     let b = Buffers {
         sums: sums.len(),
         results: results.len(),
-        outputs: places,
+        outputs: outputs.places(),
     };
-    if !well_formed(kinds, words, numbers, width, b) {
+    if !well_formed(calls, width, b) {
         return None;
     }
-    let book = run(
-        kinds,
-        words,
-        numbers,
-        width,
-        xs,
-        ys,
-        ws,
-        sums,
-        results,
-        scratch,
-        coefficients,
-        errors,
-        pruned,
-        lower,
-        upper,
-        outliers,
-    );
+    let book = run(calls, width, xs, ys, ws, sums, results, outputs);
     Some(book)
 }

@@ -1,8 +1,6 @@
 -- What a call on the parts of a stake makes of the season.
-use Rattle.std.specs.Prelude.{Result, Ok, Err, IsErrAnd, ⊤}
-use Rattle.std.proofs.lemmas.Result.{err_from_is_err_and}
-use Rattle.std.proofs.lemmas.List.{set-get_or}
-use mathlib.Core.Path.{◌≡◌, refl, sym, ap, subst, ◌∙◌}
+use Rattle.std.specs.Prelude.{Result, Ok, Err, ⊤}
+use mathlib.Core.Path.{◌≡◌, refl, sym, subst, ◌∙◌}
 use mathlib.Core.List.{List}
 use Prim.Native.Nat.{ℕ, ◌≤◌, ◌<◌}
 use borrow.Author.Tests.{le-ltb}
@@ -14,7 +12,6 @@ use Rattle.refusal.specs.declared.refusals.Refusal.{Refusal}
 use Rattle.refusal.specs.Refusals.{first_of}
 use Rattle.refusal.specs.Tests.{any_short}
 use Rattle.refusal.specs.Named.{judged}
-use Rattle.book.specs.declared.Book.{Book}
 use Rattle.book.specs.Refusals.{open_refusal}
 use Rattle.book.specs.Calls.{Answer, Out, State, state_of, Is, book_of, book_after, open_out}
 use Rattle.stakes.specs.Parts.{stakes, part_of, with_part}
@@ -22,47 +19,33 @@ use Rattle.stakes.specs.PartLaws.{with_own, length_part}
 use Rattle.stakes.specs.SeasonLaws.{stake_taken, all_counted}
 use Rattle.stakes.specs.Season.{season_of, stake_state, with_stake, stake_refusal, season_open_refusal}
 use Rattle.stakes.proofs.Pieces.{Piece, book_is}
-use Rattle.season.specs.Changes.{SeasonOut, SeasonIs, on_stake, opens, open_stake_out}
+use Rattle.season.specs.Changes.{SeasonIs, on_stake, opens, open_stake_out}
 use Rattle.season.specs.ChangeLaws.{stake_done}
 
 -- a call on the parts of three columns and of the sums: r is what the season's own tests came to
 module _ (s : ℕ) (call : State → Out) (counts : List ℕ) (xs ys ws sums : List Float) {r : Result ⊤ Refusal} (e : r ≡ judged (stake_refusal s (length counts))) {u : ⊤} (h : r ≡ Ok u) where
-  pub stake_changed : (a : Answer) (m : ℕ) → m ≡ book_after (get_or counts s 0) a
+  pub stake_changed : (a : Answer)
       → {xp xq xm yp yq ym wp wq wm sp sq sm : List Float} → Piece s xs xp xq xm → Piece s ys yp yq ym → Piece s ws wp wq wm → Piece s sums sp sq sm
       → Is (call (state_of (get_or counts s 0) (columns_of xp yp wp) sp)) a (columns_of xq yq wq) sq
-      → SeasonIs (on_stake s (season_of counts (columns_of xs ys ws) sums) call) a (season_of (set counts s m) (columns_of xm ym wm) sm)
-  stake_changed a m k {xq = xq} {yq = yq} {wq = wq} {sq = sq} px py pw ps i =
+      → SeasonIs (on_stake s (season_of counts (columns_of xs ys ws) sums) call) a (season_of (set counts s (book_after (get_or counts s 0) a)) (columns_of xm ym wm) sm)
+  stake_changed a {xq = xq} {yq = yq} {wq = wq} {sq = sq} px py pw ps i =
       let S = season_of counts (columns_of xs ys ws) sums in
       let own = subst (λ (b : State). Is (call b) a (columns_of xq yq wq) sq) (book_is s counts xs ys ws sums px.found py.found pw.found ps.found) i in
-      let whole : season_of (set counts s m) (columns_of _ _ _) _ ≡ with_stake s (state_of (book_after (get_or counts s 0) a) (columns_of xq yq wq) sq) S
-      = λ j. season_of (set counts s (k j)) (columns_are {c = λ c. with_part s (columns_of xq yq wq c) (columns_of xs ys ws c)} px.left py.left pw.left j) (ps.left j) in
+      let whole : season_of (set counts s (book_after (get_or counts s 0) a)) (columns_of _ _ _) _ ≡ with_stake s (state_of (book_after (get_or counts s 0) a) (columns_of xq yq wq) sq) S
+      = λ j. season_of (set counts s (book_after (get_or counts s 0) a)) (columns_are {c = λ c. with_part s (columns_of xq yq wq c) (columns_of xs ys ws c)} px.left py.left pw.left j) (ps.left j) in
       rw whole (stake_done s S call e h a (columns_of xq yq wq) sq own)
 
 -- an open, which is lent no column: whatever the columns are, they stand
 pub stake_opened : (s : ℕ) (counts : List ℕ) (columns : Columns) (sums : List Float) {r : Result ⊤ Refusal} → r ≡ judged (stake_refusal s (length counts)) → {u : ⊤} → r ≡ Ok u
-    → (a : Answer) (m : ℕ) → m ≡ book_after (get_or counts s 0) a → {sp sq sm : List Float} → Piece s sums sp sq sm → Is (open_out sp) a no_columns sq
-    → SeasonIs (open_stake_out s (season_of counts columns sums)) a (season_of (set counts s m) columns sm)
-stake_opened s counts columns sums e h a m k {sq = sq} {sm = sm} ps i =
+    → (a : Answer) → {sp sq sm : List Float} → Piece s sums sp sq sm → Is (open_out sp) a no_columns sq
+    → SeasonIs (open_stake_out s (season_of counts columns sums)) a (season_of (set counts s (book_after (get_or counts s 0) a)) columns sm)
+stake_opened s counts columns sums e h a {sq = sq} {sm = sm} ps i =
     let S = season_of counts columns sums in
     let o = subst (λ (l : List Float). Is (open_out l) a no_columns sq) ps.found i in
     let own : Is (opens (stake_state s S)) a (stake_state s S).columns sq = record { answer = o.answer; columns = refl; sums = o.sums } in
-    let whole : season_of (set counts s m) columns sm ≡ with_stake s (state_of (book_after (get_or counts s 0) a) (stake_state s S).columns sq) S
-    = λ j. season_of (set counts s (k j)) (λ c. sym (with_own s (columns c)) j) (ps.left j) in
+    let whole : season_of (set counts s (book_after (get_or counts s 0) a)) columns sm ≡ with_stake s (state_of (book_after (get_or counts s 0) a) (stake_state s S).columns sq) S
+    = λ j. season_of (set counts s (book_after (get_or counts s 0) a)) (λ c. sym (with_own s (columns c)) j) (ps.left j) in
     rw whole (stake_done s S opens e h a (stake_state s S).columns sq own)
-
--- By the book's call: it is refused, and the counts stand; or it answers its book, whose count is written.
-module _ (s : ℕ) (counts : List ℕ) {o : SeasonOut} {c : Columns} {t : List Float} {a : Answer} (is : (m : ℕ) → m ≡ book_after (get_or counts s 0) a → SeasonIs o a (season_of (set counts s m) c t)) where
-  pub refused_there : {d : Refusal} {b : Answer} → a ≡ Err d → IsErrAnd b (λ x. x ≡ d) → SeasonIs o b (season_of counts c t)
-  refused_there {b = b} h q =
-      let k = err_from_is_err_and b q in
-      let w = is (get_or counts s 0) (sym (ap (book_after (get_or counts s 0)) h)) in
-      let stood = sym (set-get_or counts s 0) in
-      record { answer = k.1 ∙ ap (λ x. Err x) k.2 ∙ sym h ∙ w.answer; season = (λ j. season_of (stood j) c t) ∙ w.season }
-
-  pub done_there : {b : Book} → a ≡ Ok b → SeasonIs o (Ok b) (season_of (set counts s b.count) c t)
-  done_there {b} h =
-      let w = is b.count (sym (ap (book_after (get_or counts s 0)) h)) in
-      record { answer = sym h ∙ w.answer; season = w.season }
 
 -- ---- all 32 opened: none of them is refused
 

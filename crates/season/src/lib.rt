@@ -5,7 +5,7 @@
 ghost use Rattle.std.specs.Prelude.{◌≡◌};
 ghost use Rattle.samples.specs.Columns.{columns_of, no_columns};
 ghost use Rattle.lent.specs.Slices.{before, after};
-ghost use Rattle.book.specs.Calls.{Is, state_of};
+ghost use Rattle.book.specs.Calls.{Is, state_of, book_after};
 ghost use Rattle.ledger.specs.Ledger.{out_of, adds, corrects, withdraws, frames, texts, windows};
 ghost use Rattle.stakes.specs.Season.{season_of};
 ghost use Rattle.season.specs.Changes.{SeasonIs, season_out, change_of, carry_stake_out, open_stake_out, season_open_out};
@@ -45,6 +45,17 @@ fn call(
     }
 }
 
+// What the book's own call answered; a book's count is written. What comes before that call stands in each: the test of the stake is one line, and a function of it and
+// the count would be longer than the lines that it took out.
+fn kept(answer: Result<Book, Refusal>, count: &mut usize) -> Result<Book, Refusal>
+    ensures { (result ≡ answer) × (count.new ≡ book_after count.old answer) }
+{
+    if let Ok(book) = answer {
+        *count = book.count;
+    }
+    answer
+}
+
 // The same on the parts of a stake.
 fn change(
     stake: usize,
@@ -63,16 +74,15 @@ fn change(
     let y = stakes::cut(ys.len(), stake);
     let w = stakes::cut(ws.len(), stake);
     let s = stakes::cut(sums.len(), stake);
-    let after = call(
+    let changed = call(
         Book { count },
         asked,
         &mut xs[x],
         &mut ys[y],
         &mut ws[w],
         &mut sums[s],
-    )?;
-    counts[stake] = after.count;
-    Ok(after)
+    );
+    kept(changed, &mut counts[stake])
 }
 
 // One sample at the end.
@@ -167,7 +177,7 @@ pub fn correct(
     let count = counts[stake];
     let at = stakes::cut(ys.len(), stake);
     let s = stakes::cut(sums.len(), stake);
-    let book = book::correct(
+    let answer = book::correct(
         Book { count },
         i,
         y,
@@ -175,9 +185,8 @@ pub fn correct(
         &mut ys[at],
         stakes::part(ws, stake),
         &mut sums[s],
-    )?;
-    counts[stake] = book.count;
-    Ok(book)
+    );
+    kept(answer, &mut counts[stake])
 }
 
 // An open two-column book of a stake goes on with weights: those below the count become 1.
@@ -194,15 +203,14 @@ pub fn carry(
     stakes::check_stake(stake, counts.len())?;
     let count = counts[stake];
     let w = stakes::cut(ws.len(), stake);
-    let book = carried::carry(
+    let answer = carried::carry(
         Book { count },
         stakes::part(xs, stake),
         stakes::part(ys, stake),
         &mut ws[w],
         stakes::part(sums, stake),
-    )?;
-    counts[stake] = book.count;
-    Ok(book)
+    );
+    kept(answer, &mut counts[stake])
 }
 
 // An empty book for one stake: its sums become those of no sample.
@@ -211,9 +219,8 @@ pub fn open_stake(stake: usize, counts: &mut [usize], sums: &mut [f64]) -> Resul
 {
     stakes::check_stake(stake, counts.len())?;
     let s = stakes::cut(sums.len(), stake);
-    let book = book::open(&mut sums[s])?;
-    counts[stake] = book.count;
-    Ok(book)
+    let answer = book::open(&mut sums[s]);
+    kept(answer, &mut counts[stake])
 }
 
 // An empty book for each of the 32 stakes.
@@ -221,6 +228,7 @@ pub fn season_open(counts: &mut [usize], sums: &mut [f64]) -> Result<Book, Refus
     ensures { SeasonIs (season_open_out (season_of (before counts) no_columns (before sums))) result (season_of (after counts) no_columns (after sums)) }
 {
     stakes::check_open(counts.len(), sums.len())?;
+    // over numbers, since that is what the call takes; of counts and parts that an iterator hands out side by side nothing is known after the loop
     for stake in 0..STAKES {
         open_stake(stake, counts, sums)?;
     }

@@ -1,5 +1,5 @@
 -- A report of one stake: from what the book's own report promises on the stake's parts to what the season's promises, refused and not.
-use Rattle.std.specs.Prelude.{Bool, Ok, Err, ◌≤◌}
+use Rattle.std.specs.Prelude.{Bool, Result, Ok, Err, IsErrAnd, ◌≤◌}
 use Rattle.std.specs.Int.{from_bool}
 use Rattle.std.proofs.Common.{arith}
 use Rattle.std.specs.Result.{is_ok}
@@ -7,17 +7,20 @@ use mathlib.Core.Path.{◌≡◌, refl, sym, ap, ◌∙◌}
 use Prim.Native.Nat.{ℕ, ◌+◌}
 use lib.ListN.{length, set}
 use Rattle.book.specs.Calls.{State}
-use Rattle.refusal.specs.Named.{refused_by}
+use Rattle.refusal.specs.declared.refusals.Refusal.{Refusal}
 use Rattle.settings.specs.declared.Settings.{Settings}
 use Rattle.reporting.specs.Outputs.{Outputs, nothing, over_all}
 use Rattle.reporting.specs.Reports.{ReportAnswer, ReportOut, Does, refused_early}
 use Rattle.stakes.specs.Parts.{with_part}
-use Rattle.stakes.specs.Season.{SeasonState, stake_state, stake_refusal}
+use Rattle.stakes.specs.Season.{SeasonState, stake_refusal}
+use Rattle.stakes.specs.declared.Stake.{Stake}
+use Rattle.stakes.specs.Stake.{book_held, StakeIs}
 use Rattle.stakes.specs.SeasonLaws.{read_done, read_refused, none_over}
-use Rattle.stakes.proofs.Pieces.{Piece}
+use Rattle.stakes.proofs.Pieces.{Piece, turned_away}
 use Rattle.season_report.specs.Reports.{parts_of, over_parts, report_from, stake_report_out, StakeReportIs, passes, Reported, report_turn}
 
-module _ (s : ℕ) (S : SeasonState) (settings : Settings) (w : Outputs) where
+-- r is what `Season::stake` answered
+module _ {s : ℕ} {S : SeasonState} {r : Result Stake Refusal} (is : StakeIs s S r) (settings : Settings) (w : Outputs) where
   abbrev refusal : ℕ
   refusal = stake_refusal s (length S.counts)
 
@@ -37,11 +40,12 @@ module _ (s : ℕ) (S : SeasonState) (settings : Settings) (w : Outputs) where
         outliers = none_over s w.outliers j;
       }
 
-  pub report_refused : {a : ReportAnswer} → (refusal ≡ 0 → ⊥) × (a ≡ refused_by refusal) → StakeReportIs s (stake_report_out settings s S w) a (record { found = w; left = w })
-  report_refused h =
-      let q : refused_early refusal ≡ stake_report_out settings s S w = sym (read_refused s S call refused_early refusal refl h.0) in
+  pub report_refused : {e : Refusal} {a : ReportAnswer} → r ≡ Err e → IsErrAnd a (λ d. d ≡ e) → StakeReportIs s (stake_report_out settings s S w) a (record { found = w; left = w })
+  report_refused h given =
+      let away = turned_away is h given in
+      let q : refused_early refusal ≡ stake_report_out settings s S w = sym (read_refused s S call refused_early refusal refl away.0) in
       record {
-        answer = h.1 ∙ ap (λ (o : ReportOut). o.answer) q;
+        answer = away.1 ∙ ap (λ (o : ReportOut). o.answer) q;
         outputs = none_over_all ∙ ap (λ (o : ReportOut). over_parts s o.written w) q;
       }
 
@@ -58,7 +62,7 @@ module _ (s : ℕ) (S : SeasonState) (settings : Settings) (w : Outputs) where
         outliers = with_part s q.outliers w.outliers;
       }
 
-  pub report_done : refusal ≡ 0 → {b : State} → b ≡ stake_state s S → {p q m : Outputs}
+  pub report_done : {b : Stake} → r ≡ Ok b → {p q m : Outputs}
       → Piece s w.scratch p.scratch q.scratch m.scratch
       → Piece s w.coefficients p.coefficients q.coefficients m.coefficients
       → Piece s w.errors p.errors q.errors m.errors
@@ -66,11 +70,12 @@ module _ (s : ℕ) (S : SeasonState) (settings : Settings) (w : Outputs) where
       → Piece s w.lower p.lower q.lower m.lower
       → Piece s w.upper p.upper q.upper m.upper
       → Piece s w.outliers p.outliers q.outliers m.outliers
-      → {a : ReportAnswer} → Does (report_from settings b p) a (record { found = p; left = q }) → StakeReportIs s (stake_report_out settings s S w) a (record { found = w; left = m })
-  report_done z {b = b} own {p = p} {q = q} {m = m} pt pc pe pp pl pu po i =
+      → {a : ReportAnswer} → Does (report_from settings (book_held b) p) a (record { found = p; left = q }) → StakeReportIs s (stake_report_out settings s S w) a (record { found = w; left = m })
+  report_done {b = b} h {p = p} {q = q} {m = m} pt pc pe pp pl pu po i =
+      let own = is.taken b h in
       let parts : p ≡ parts_of s w = λ j. record { scratch = pt.found j; coefficients = pc.found j; errors = pe.found j; pruned = pp.found j; lower = pl.found j; upper = pu.found j; outliers = po.found j } in
-      let o : report_from settings b p ≡ stake_report_out settings s S w
-      = (λ j. report_from settings (own j) (parts j)) ∙ sym (read_done s S call refused_early z) in
+      let o : report_from settings (book_held b) p ≡ stake_report_out settings s S w
+      = (λ j. report_from settings (own.1 j) (parts j)) ∙ sym (read_done s S call refused_early own.0) in
       let left : m ≡ put_back q = λ j. record { scratch = pt.left j; coefficients = pc.left j; errors = pe.left j; pruned = pp.left j; lower = pl.left j; upper = pu.left j; outliers = po.left j } in
       record {
         answer = i.answer ∙ ap (λ (o : ReportOut). o.answer) o;

@@ -2,17 +2,14 @@
 #![tactic(auto)]
 
 ghost use Rattle.std.specs.Prelude.{◌≡◌, ◌≤◌};
-ghost use Rattle.samples.specs.Columns.{columns_of};
-ghost use Rattle.lent.specs.Slices.{before};
-ghost use Rattle.reporting.specs.Outputs.{outputs};
-ghost use Rattle.stakes.specs.Season.{season_of};
+ghost use Rattle.reporting.specs.Outputs.{lent_outputs};
+ghost use Rattle.stakes.specs.Stake.{season_held};
 ghost use Rattle.season_report.specs.Reports.{StakeReports, SeasonReports};
 
-use book::Book;
 use refusal::Refusal;
-use reporting::Report;
+use reporting::{Memory, Report};
 use settings::Settings;
-use stakes::STAKES;
+use stakes::{STAKES, Season};
 
 // The stakes' reports or refusals in stake order, and how many of them are not refused.
 #[derive(Clone, Copy)]
@@ -22,27 +19,25 @@ pub struct SeasonReport {
 }
 
 // A report of a stake.
-#[tactic(auto, using(stakes::proofs::Pieces::below))]
+#[tactic(auto, using(stakes::proofs::Pieces::taken_below))]
 pub fn report(
     stake: usize,
     settings: Settings,
-    counts: &[usize],
-    xs: &[f64],
-    ys: &[f64],
-    ws: &[f64],
-    sums: &[f64],
-    scratch: &mut [f64],
-    coefficients: &mut [f64],
-    errors: &mut [f64],
-    pruned: &mut [u8],
-    lower: &mut [f64],
-    upper: &mut [f64],
-    outliers: &mut [u8],
+    season: Season<'_>,
+    memory: Memory<'_>,
 ) -> Result<Report, Refusal>
-    ensures { StakeReports settings stake (season_of counts.now (columns_of xs.now ys.now ws.now) sums.now) result (outputs scratch coefficients errors pruned lower upper outliers) }
+    ensures { StakeReports settings stake (season_held season.entry) result (lent_outputs memory) }
 {
-    stakes::check_stake(stake, counts.len())?;
-    let n = counts[stake];
+    let s = season.stake(stake)?;
+    let Memory {
+        scratch,
+        coefficients,
+        errors,
+        pruned,
+        lower,
+        upper,
+        outliers,
+    } = memory;
     let t = stakes::cut(scratch.len(), stake);
     let c = stakes::cut(coefficients.len(), stake);
     let e = stakes::cut(errors.len(), stake);
@@ -50,13 +45,11 @@ pub fn report(
     let l = stakes::cut(lower.len(), stake);
     let u = stakes::cut(upper.len(), stake);
     let o = stakes::cut(outliers.len(), stake);
-    report::report(
-        Book { count: n },
+    report::report_into(
+        s.book,
         settings,
-        stakes::part(xs, stake),
-        stakes::part(ys, stake),
-        stakes::part(ws, stake),
-        stakes::part(sums, stake),
+        s.columns,
+        s.sums,
         &mut scratch[t],
         &mut coefficients[c],
         &mut errors[e],
@@ -68,41 +61,35 @@ pub fn report(
 }
 
 // The stakes in order, each one's report or refusal under one settings, whatever the others gave.
-pub fn season_report(
-    settings: Settings,
-    counts: &[usize],
-    xs: &[f64],
-    ys: &[f64],
-    ws: &[f64],
-    sums: &[f64],
-    scratch: &mut [f64],
-    coefficients: &mut [f64],
-    errors: &mut [f64],
-    pruned: &mut [u8],
-    lower: &mut [f64],
-    upper: &mut [f64],
-    outliers: &mut [u8],
-) -> SeasonReport
-    ensures { SeasonReports settings (season_of counts.now (columns_of xs.now ys.now ws.now) sums.now) result (outputs scratch coefficients errors pruned lower upper outliers) }
+pub fn season_report(settings: Settings, season: Season<'_>, memory: Memory<'_>) -> SeasonReport
+    ensures { SeasonReports settings (season_held season.entry) result (lent_outputs memory) }
 {
+    let Memory {
+        scratch,
+        coefficients,
+        errors,
+        pruned,
+        lower,
+        upper,
+        outliers,
+    } = memory;
     let mut reports = [Err(Refusal::Short); STAKES];
     let mut passed = 0;
+    // not `std::array::from_fn`, which says what its closure answered and not what is left of the memory that it borrows
     for stake in 0..STAKES {
         let answer = report(
             stake,
             settings,
-            counts,
-            xs,
-            ys,
-            ws,
-            sums,
-            scratch,
-            coefficients,
-            errors,
-            pruned,
-            lower,
-            upper,
-            outliers,
+            season,
+            Memory {
+                scratch: &mut *scratch,
+                coefficients: &mut *coefficients,
+                errors: &mut *errors,
+                pruned: &mut *pruned,
+                lower: &mut *lower,
+                upper: &mut *upper,
+                outliers: &mut *outliers,
+            },
         );
         passed += usize::from(answer.is_ok());
         reports[stake] = answer;

@@ -3,4 +3,5 @@ pub mod Parts
 pub mod PartLaws
 pub mod Season
 pub mod SeasonLaws
+pub mod Stake
 pub mod RefusalLaws

@@ -6,9 +6,12 @@ ghost use Rattle.std.specs.Prelude.{◌≡◌, ◌<◌};
 ghost use Rattle.refusal.specs.Named.{judged};
 ghost use Rattle.stakes.specs.Parts.{stakes, part_of, Cut};
 ghost use Rattle.stakes.specs.Season.{stake_refusal, season_open_refusal};
+ghost use Rattle.stakes.specs.Stake.{season_held, StakeIs};
 
 use basis::SUMS;
+use book::Book;
 use refusal::{Refusal, first_of};
+use samples::Columns;
 use std::ops::Range;
 
 // How many stakes there are.
@@ -50,4 +53,41 @@ pub fn check_open(counts: usize, sums: usize) -> Result<(), Refusal>
 {
     let memories = [(STAKES, counts), (SUMS, sums / STAKES)];
     first_of(&[(refusal::any_short(&memories), Refusal::Short)])
+}
+
+// The counts, the columns and the sums of all stakes, lent whole to a call that reads.
+#[derive(Clone, Copy)]
+pub struct Season<'a> {
+    pub counts: &'a [usize],
+    pub columns: Columns<'a>,
+    pub sums: &'a [f64],
+}
+
+// A stake's book, and its parts of the columns and of the sums.
+#[derive(Clone, Copy)]
+pub struct Stake<'a> {
+    pub book: Book,
+    pub columns: Columns<'a>,
+    pub sums: &'a [f64],
+}
+
+impl<'a> Season<'a> {
+    // The book of a stake, where the season's own tests don't refuse it.
+    #[tactic(auto, using(crate::proofs::Pieces::below))]
+    pub fn stake(self, stake: usize) -> Result<Stake<'a>, Refusal>
+        ensures { StakeIs stake (season_held self.entry) result }
+    {
+        check_stake(stake, self.counts.len())?;
+        Ok(Stake {
+            book: Book {
+                count: self.counts[stake],
+            },
+            columns: Columns {
+                xs: part(self.columns.xs, stake),
+                ys: part(self.columns.ys, stake),
+                ws: part(self.columns.ws, stake),
+            },
+            sums: part(self.sums, stake),
+        })
+    }
 }

@@ -1,22 +1,15 @@
 -- `season::change` meets its contract: a stake that is refused leaves everything, and else four parts are lent and put back.
 use Rattle.season.specs.ChangeLaws.{stake_refused}
 use Rattle.stakes.proofs.Pieces.{lends}
-use Rattle.season.proofs.Changed.{stake_changed, refused_there, done_there}
+use Rattle.season.proofs.Changed.{stake_changed}
 use Rattle.season.proofs.change.Goals as goal
 
 pub returns-in_err-check_stake : goal.returns-in_err-check_stake
 returns-in_err-check_stake c = stake_refused _ _ _ c.check_stake.ensures c.in_err-check_stake.was c.from_residual.ensures.1
 
-pub returns-in_err-after : goal.returns-in_err-after
-returns-in_err-after c = refused_there c.args.stake c.args.counts.now
-    (λ m k. stake_changed c.args.stake _ c.args.counts.now c.args.xs.now c.args.ys.now c.args.ws.now c.args.sums.now c.check_stake.ensures c.in_ok-check_stake.was _ m k
-    (lends c.args.stake c.args.xs.now _ _ _ c.cut-x.ensures) (lends c.args.stake c.args.ys.now _ _ _ c.cut-y.ensures) (lends c.args.stake c.args.ws.now _ _ _ c.cut-w.ensures)
-    (lends c.args.stake c.args.sums.now _ _ _ c.cut-s.ensures) c.call.ensures)
-    c.in_err-after.was c.from_residual-in_err-after.ensures.1
-
 pub returns : goal.returns
-returns c = done_there c.args.stake c.args.counts.now
-    (λ m k. stake_changed c.args.stake _ c.args.counts.now c.args.xs.now c.args.ys.now c.args.ws.now c.args.sums.now c.check_stake.ensures c.in_ok-check_stake.was _ m k
+returns c =
+    rw (c.kept.ensures.0, c.kept.ensures.1)
+    (stake_changed c.args.stake _ c.args.counts.now c.args.xs.now c.args.ys.now c.args.ws.now c.args.sums.now c.check_stake.ensures c.in_ok-check_stake.was _
     (lends c.args.stake c.args.xs.now _ _ _ c.cut-x.ensures) (lends c.args.stake c.args.ys.now _ _ _ c.cut-y.ensures) (lends c.args.stake c.args.ws.now _ _ _ c.cut-w.ensures)
-    (lends c.args.stake c.args.sums.now _ _ _ c.cut-s.ensures) c.call.ensures)
-    c.in_ok-after.was
+    (lends c.args.stake c.args.sums.now _ _ _ c.cut-s.ensures) c.call-changed.ensures)

@@ -2,24 +2,16 @@
 use Rattle.ledger.specs.Ledger.{out_of}
 use Rattle.season.specs.ChangeLaws.{stake_refused}
 use Rattle.stakes.proofs.Pieces.{lends, shows}
-use Rattle.season.proofs.Changed.{stake_changed, refused_there, done_there}
+use Rattle.season.proofs.Changed.{stake_changed}
 use Rattle.season.proofs.correct.Goals as goal
 
 pub returns-in_err-check_stake : goal.returns-in_err-check_stake
 returns-in_err-check_stake c = stake_refused _ _ _ c.check_stake.ensures c.in_err-check_stake.was c.from_residual.ensures.1
 
-pub returns-in_err-book : goal.returns-in_err-book
-unfolding out_of
-returns-in_err-book c = refused_there c.args.stake c.args.counts.now
-    (λ m k. stake_changed c.args.stake _ c.args.counts.now c.args.xs.now c.args.ys.now c.args.ws.now c.args.sums.now c.check_stake.ensures c.in_ok-check_stake.was _ m k
-    (shows c.args.stake c.args.xs.now _ c.part.ensures) (lends c.args.stake c.args.ys.now _ _ _ c.cut-at.ensures) (shows c.args.stake c.args.ws.now _ c.part-2.ensures)
-    (lends c.args.stake c.args.sums.now _ _ _ c.cut-s.ensures) c.correct.ensures)
-    c.in_err-book.was c.from_residual-in_err-book.ensures.1
-
 pub returns : goal.returns
 unfolding out_of
-returns c = done_there c.args.stake c.args.counts.now
-    (λ m k. stake_changed c.args.stake _ c.args.counts.now c.args.xs.now c.args.ys.now c.args.ws.now c.args.sums.now c.check_stake.ensures c.in_ok-check_stake.was _ m k
+returns c =
+    rw (c.kept.ensures.0, c.kept.ensures.1)
+    (stake_changed c.args.stake _ c.args.counts.now c.args.xs.now c.args.ys.now c.args.ws.now c.args.sums.now c.check_stake.ensures c.in_ok-check_stake.was _
     (shows c.args.stake c.args.xs.now _ c.part.ensures) (lends c.args.stake c.args.ys.now _ _ _ c.cut-at.ensures) (shows c.args.stake c.args.ws.now _ c.part-2.ensures)
-    (lends c.args.stake c.args.sums.now _ _ _ c.cut-s.ensures) c.correct.ensures)
-    c.in_ok-book.was
+    (lends c.args.stake c.args.sums.now _ _ _ c.cut-s.ensures) c.correct-answer.ensures)

@@ -1,14 +1,12 @@
 -- `season_query::band` meets its contract: the part of scratch is put back, the others are only read.
-use Rattle.refusal.specs.NamedLaws.{passed, refused_on}
-use Rattle.stakes.proofs.Pieces.{lends, book_is}
+use Rattle.stakes.proofs.Pieces.{lends}
 use Rattle.season_query.specs.Reads.{band_from}
 use Rattle.season_query.proofs.Readings.{band_refused_lem, band_done}
 use Rattle.season_query.proofs.band.Goals as goal
 
-pub returns-in_err-check_stake : goal.returns-in_err-check_stake
-returns-in_err-check_stake c = band_refused_lem _ _ _ (band_from c.args.x c.args.degree.0 c.args.confidence c.args.tolerance) (refused_on c.check_stake.ensures c.in_err-check_stake.was c.from_residual.ensures.1)
+pub returns-in_err-s : goal.returns-in_err-s
+returns-in_err-s c = band_refused_lem c.stake.ensures _ (band_from c.args.x c.args.degree.0 c.args.confidence c.args.tolerance) c.in_err-s.was c.from_residual.ensures.1
 
 pub returns : goal.returns
 returns c =
-    let own = book_is c.args.stake c.args.counts.now c.args.xs.now c.args.ys.now c.args.ws.now c.args.sums.now c.part.ensures c.part-2.ensures c.part-3.ensures c.part-4.ensures in
-    band_done _ _ _ (band_from c.args.x c.args.degree.0 c.args.confidence c.args.tolerance) (passed c.check_stake.ensures c.in_ok-check_stake.was) own (lends _ c.args.scratch.now _ _ _ c.cut-t.ensures) c.band.ensures
+    band_done c.stake.ensures _ (band_from c.args.x c.args.degree.0 c.args.confidence c.args.tolerance) c.in_ok-s.was (lends _ c.args.scratch.now _ _ _ c.cut-t.ensures) c.band.ensures

@@ -6,10 +6,9 @@ use native.Mathlib.Omega.{arith}
 use borrow.Author.Rules.{rules}
 use lib.ListN.{length-set}
 use Rattle.stakes.specs.Parts.{stakes}
-use Rattle.stakes.specs.Season.{season_of}
+use Rattle.stakes.specs.Stake.{season_held}
 use Rattle.season_report.specs.Reports.{Reported, report_turn, season_report}
 use Rattle.season_report.proofs.Reporting.{passes_is, turn_is}
-use Rattle.samples.specs.Columns.{columns_of}
 use Rattle.loops.specs.Loop.{from}
 use Rattle.loops.specs.LoopLaws.{again, done}
 use Rattle.season_report.proofs.season_report.Goals as goal
@@ -19,7 +18,7 @@ loop-stake-init c = (refl, refl, refl, refl, refl, refl, refl, refl, search rule
 
 pub loop-stake-preserved : goal.loop-stake-preserved
 loop-stake-preserved c =
-    let S = season_of c.args.counts.now (columns_of c.args.xs.now c.args.ys.now c.args.ws.now) c.args.sums.now in
+    let S = season_held c.args.season in
     let counted = passes_is c.report-answer.result c.from-passed.ensures c.is_ok.ensures.value in (
       search rules,
       search rules,
@@ -38,6 +37,6 @@ loop-stake-preserved c =
 pub returns : goal.returns
 unfolding season_report
 returns c =
-    let S = season_of c.args.counts.now (columns_of c.args.xs.now c.args.ys.now c.args.ws.now) c.args.sums.now in
+    let S = season_held c.args.season in
     let q = sym (done (report_turn c.args.settings S) c.loop-stake.stake stakes _ c.loop-stake-test.false) ∙ c.loop-stake.invariant.9 in
     record { reports = ap (λ (t : Reported). t.reports) q; passed = ap (λ (t : Reported). t.passed) q; outputs = ap (λ (t : Reported). t.lent) q }

@@ -6,7 +6,6 @@ use Prim.Native.Nat.{ℕ, zero, suc, ◌+◌, ◌-◌, ◌≤◌, ◌<◌}
 use native.Mathlib.Omega.{arith}
 use lib.ListN.{length, take, drop}
 use lib.Ieee.{Float}
-use Rattle.refusal.specs.Named.{number}
 use Rattle.book.specs.Calls.{Answer, Is, State, state_of, book_after, add_out, correct_out, withdraw_out}
 use Rattle.samples.specs.Columns.{Columns}
 use Rattle.settings.specs.declared.Settings.{Settings}
