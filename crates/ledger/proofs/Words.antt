@@ -6,6 +6,7 @@ use mathlib.Core.List.{List}
 use Prim.Native.Nat.{ℕ, ◌<◌}
 use native.Mathlib.Omega.{arith}
 use lib.ListN.{length}
+use lib.Ieee.{Float}
 use Rattle.refusal.specs.Named.{refused_by, number_of}
 use Rattle.loops.specs.PlaceLaws.{length_table, table_at}
 use Rattle.statistics.specs.Degrees.{max_degree}
@@ -18,7 +19,6 @@ use Rattle.solve.specs.Solve.{solve}
 use Rattle.choice.specs.Choice.{degree, chosen_of, solved_count}
 use Rattle.choice.specs.ChoiceLaws.{chosen_same, count_same}
 use Rattle.choice.specs.Laws.{none_below, attained, chosen, chosen_is, none_such, none_such_only}
-use Rattle.choice.specs.declared.Scored.{Scored}
 use Rattle.fit.specs.Solved.{scored_by}
 use Rattle.fit.specs.Chosen.{counts_of, tried, choice_of}
 use Rattle.measure.specs.Measures.{inverse_fails, covariance_at}
@@ -33,7 +33,7 @@ module _ (settings : Settings) (l : List Sample) where
   counts : List ℕ
   counts = counts_of Curve (max_degree settings.bound (length l))
 
-  try : ℕ → Scored
+  try : ℕ → Option Float
   try = tried settings.criterion (ledger_sums settings l) (rows_of l) counts
 
   long : length counts ≡ degrees settings l
@@ -72,7 +72,7 @@ module _ (settings : Settings) (l : List Sample) where
       go false w h = h
 
 module _ (settings : Settings) (l : List Sample) (o : ReportOut) (e : o ≡ report_by settings l (chosen_of (scored settings l) (degrees settings l))) where
-  S : ℕ → Scored
+  S : ℕ → Option Float
   S = scored settings l
 
   b : ℕ

@@ -1,5 +1,5 @@
 -- What demand 3 says of a report that passes refusals 1 to 9, word by word, over the ledger's samples. Definitions only.
-use Rattle.std.specs.Prelude.{◌≡◌, true, false, List, ◌⊎◌, ℕ, ◌+◌, ◌<◌, length, Float}
+use Rattle.std.specs.Prelude.{◌≡◌, true, false, List, ◌⊎◌, ℕ, ◌+◌, ◌<◌, length, Float, Option, Some}
 use Rattle.std.specs.Float.Ieee.{lt}
 use Rattle.refusal.specs.Named.{refused_by}
 use Rattle.value.specs.Numbers.{infinity_f}
@@ -11,7 +11,6 @@ use Rattle.monomial.specs.Rows.{rows_of, weighted_rows}
 use Rattle.monomial.specs.Sums.{sums_of}
 use Rattle.solve.specs.Solve.{solve}
 use Rattle.choice.specs.Choice.{least_of, solved_count, Attained, Chosen}
-use Rattle.choice.specs.declared.Scored.{Scored}
 use Rattle.fit.specs.Solved.{scored_by}
 use Rattle.measure.specs.Measures.{inverse_fails, covariance_at}
 use Rattle.settings.specs.declared.Settings.{Settings}
@@ -26,8 +25,8 @@ module _ (settings : Settings) (samples : List Sample) where
   abbrev pub degrees : ℕ
   degrees = max_degree settings.bound (length samples) + 1
 
-  -- whether a degree is solved, and its score
-  abbrev pub scored : ℕ → Scored
+  -- a degree's score, if it is solved
+  abbrev pub scored : ℕ → Option Float
   scored d = scored_by settings.criterion ledger_sums (rows_of samples) (rows_of samples) (count_of Curve d)
 
   abbrev pub least_score : Float
@@ -40,7 +39,7 @@ module _ (settings : Settings) (samples : List Sample) where
   -- the words, of what a report answers and writes
   pub record Words (o : ReportOut) : Type 0 where
     -- No solved degree within that bound scores below this least.
-    pub none_below : (d : ℕ) → d < degrees → (scored d).solved ≡ true → lt (scored d).score least_score ≡ false
+    pub none_below : (d : ℕ) (v : Float) → d < degrees → scored d ≡ Some v → lt v least_score ≡ false
     -- It is a solved degree's score, or +infinity.
     pub attained : (least_score ≡ infinity_f) ⊎ Attained scored degrees least_score
     -- No two degrees are chosen.

@@ -1,6 +1,6 @@
 -- The fit of rows alike but for the sign of y: residuals are opposite, so that their sizes, their losses, the solved degrees, every score and the
 -- choice are equal, bit for bit.
-use Rattle.std.specs.Prelude.{◌≡◌, List, map, length, get_or, Float}
+use Rattle.std.specs.Prelude.{◌≡◌, List, map, length, get_or, Float, Option}
 use Rattle.std.proofs.Common.{sym, ◌∙◌}
 use Rattle.std.proofs.Math.Path.{ap, ap₂, fun_ext}
 use Rattle.std.proofs.Math.Bool.{◌&&◌}
@@ -19,10 +19,9 @@ use Rattle.monomial.specs.Rows.{Row, fitted}
 use Rattle.solve.specs.Solve.{solve}
 use Rattle.score.specs.declared.Criterion.{Criterion}
 use Rattle.choice.specs.Choice.{least_of, chosen_of, chosen_score, solved_count}
-use Rattle.choice.specs.declared.Scored.{Scored}
 use Rattle.fit.specs.Residuals.{residual, residuals}
 use Rattle.fit.specs.Solved.{is_solved, score_on, scored_by, pivot_tests}
-use Rattle.fit.specs.Chosen.{tried, tests_of, flags_of, scores_of, choice_of}
+use Rattle.fit.specs.Chosen.{tried, tests_of, scores_of, choice_of}
 use Rattle.signs.specs.Opposite.{Opposite}
 use Rattle.signs.specs.OppositeLaws.{opposite_nan}
 use Rattle.signs.specs.Steps.{sub_opposite, mul_opposite_left, abs_opposite, finite_opposite}
@@ -91,14 +90,14 @@ module _ {s t : List Float} (h : MirrorSums s t) where
     pub residual_variance_mirror : (k : ℕ) → residual_variance k (residuals k (solve s k).c rs) ≡ residual_variance k (residuals k (solve t k).c qs)
     residual_variance_mirror k = variance_mirror (solved_residuals k) k
 
--- what is known of k coefficients: solved or not, and the score
+-- what is known of k coefficients: the score, if they are solved
 pub scored_mirror : (criterion : Criterion) {s t : List Float} → MirrorSums s t → {rs qs own own' : List Row} → MirrorRows rs qs → MirrorRows own own'
     → (k : ℕ) → scored_by criterion s rs own k ≡ scored_by criterion t qs own' k
 unfolding scored_by
 scored_mirror criterion h p o k = rw (solved_mirror h p k, score_mirror h o criterion k)
 
 -- The whole choice, of any counts to try: the chosen degree or none, its score, the least score, the number of solved degrees and of pivot tests, and
--- of every degree whether it is solved and its score
+-- of every degree its score, if it is solved
 module _ (criterion : Criterion) {s t : List Float} (h : MirrorSums s t) {rs qs : List Row} (p : MirrorRows rs qs) (counts : List ℕ) where
   pub tried_mirror : tried criterion s rs counts ≡ tried criterion t qs counts
   unfolding tried
@@ -108,14 +107,13 @@ module _ (criterion : Criterion) {s t : List Float} (h : MirrorSums s t) {rs qs 
   unfolding choice_of
   choice_mirror =
       ap₂
-      (λ (S : ℕ → Scored) (tests : ℕ).
+      (λ (S : ℕ → Option Float) (tests : ℕ).
       record {
         chosen = chosen_of S (length counts);
-        score = chosen_score (λ d. (S d).score) (chosen_of S (length counts));
+        score = chosen_score S (chosen_of S (length counts));
         least = least_of S (length counts);
         solved = solved_count S (length counts);
         tests = tests;
-        flags = flags_of S (length counts);
         scores = scores_of S (length counts);
       })
       tried_mirror (all_tests_mirror h counts)

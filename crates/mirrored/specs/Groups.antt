@@ -10,7 +10,6 @@ use Rattle.statistics.specs.declared.Confidence.{Confidence}
 use Rattle.statistics.specs.declared.Tolerance.{Tolerance}
 use Rattle.samples.specs.declared.Sample.{Sample}
 use Rattle.samples.specs.Columns.{Columns, samples_of}
-use Rattle.choice.specs.declared.Scored.{Scored}
 use Rattle.fit.specs.Solved.{scored_by}
 use Rattle.settings.specs.declared.Settings.{Settings}
 use Rattle.reporting.specs.declared.Places.{Places}
@@ -112,8 +111,8 @@ surface_reported (calls (costs (group_reports settings places))) = None
 surface_reported (calls (costs (group_surfaces n settings columns places))) = Some (record { settings = settings; points = points_of n columns })
 surface_reported (calls (costs (group_splits settings places))) = None
 
--- whether a total degree is solved, and its score: `scored` of crate `ledger`, of a surface's rows and sums
-abbrev pub surface_scored : Settings → List Point → ℕ → Scored
+-- the score of a total degree, if it is solved: `scored` of crate `ledger`, of a surface's rows and sums
+abbrev pub surface_scored : Settings → List Point → ℕ → Option Float
 surface_scored settings points d =
     scored_by settings.criterion (surface_sums points) (rows_of_points points) (rows_of_points points) (count_of Surface d)
 
