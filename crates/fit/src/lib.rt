@@ -155,7 +155,7 @@ pub fn choose(
     let e = solve::eliminated(sums, most);
     let mut scores = [None; TERMS];
     let mut tests = 0;
-    // by index: the degree is the place
+    // by index, the degree: of an `iter_mut` behind `enumerate` a proof knows no element
     for d in 0..b {
         let k = Degree(d).k(rows.basis);
         let s = e.solution(k);

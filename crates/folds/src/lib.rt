@@ -136,7 +136,7 @@ fn add_fold(
     let start = start_of(n, folds, f);
     let end = end_of(n, folds, f);
     let sums = fold_others(rows, end, CoefficientCount(b), before);
-    // by index: the degree is the place
+    // by index, the degree: of an `iter_mut` behind `enumerate` a proof knows no element
     for d in 0..b {
         let degree = Degree(d);
         let s = score_fold(rows, start, end, &sums, degree, criterion, &mut *scratch);

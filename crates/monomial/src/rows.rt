@@ -5,8 +5,8 @@ use basis::Basis;
 
 // Columns that are cut to the samples to be read: x, z and y of each. A curve reads no z and is lent x for it. The weights may be fewer: where none is
 // lent, it is 1.
-// What is lent to be written beside them, scratch or bands, stays a parameter with a clause on its length: of a `&mut` field of a struct that is handed on nothing is
-// known after.
+// They are cut here, so that no count stands beside them. What is lent to be written, scratch or bands, stays a parameter with a clause on its length: in one struct
+// with the rows each call would take it apart and build it again, which is no plainer.
 #[derive(Clone, Copy)]
 pub struct Rows<'a> {
     pub basis: Basis,

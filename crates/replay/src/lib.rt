@@ -39,7 +39,7 @@ pub struct Buffers {
 }
 
 // The book that goes on to the next call, and the results recorded of a call: the refusal's number, 0 for none; the book's count or the degree;
-// solved degrees; outliers; pruned terms.
+// solved degrees; outliers; pruned terms. Numbers, as C reads them.
 #[derive(Clone, Copy)]
 pub struct Done {
     pub count: usize,
@@ -50,7 +50,7 @@ pub struct Done {
     pub pruned: usize,
 }
 
-// The rule of pruning by the number of a call's kind: 4 is a report that prunes by size.
+// The rule of pruning by the number of a call's kind, both numbers of the C interface: 4 is a report that prunes by size.
 fn pruning_by(kind: u32) -> u32
     ensures { result ≡ pruning_by kind }
 {
@@ -195,7 +195,7 @@ fn record_change(old: Book, answer: Result<Book, Refusal>) -> Done
     }
 }
 
-// After a report's.
+// After a report's. It shares no more with the above than the refusal's number and a record of nothing.
 fn record_report(old: Book, answer: Result<Report, Refusal>) -> Done
     ensures { result ≡ report_record old.count answer }
 {
@@ -234,8 +234,8 @@ fn put(d: Done, out: &mut [usize])
     out[4] = d.pruned;
 }
 
-// A call that changes the book: 0 add, 1 correct, which takes the sample's y alone, 2 withdraw. Kinds are numbers, since they stand so in the buffers that
-// the C interface lends. No setting and no place is read.
+// A call that changes the book: 0 add, 1 correct, which takes the sample's y alone, 2 withdraw. Kinds are numbers, as C
+// lends them: an enum would be made of one and taken apart at once. No setting and no place is read.
 fn change(
     book: Book,
     kind: u32,

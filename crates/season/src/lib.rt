@@ -1,5 +1,6 @@
 // The season book's calls that change it. Each that names a stake is promised to answer what the book's own call on the stake's parts answers, and to leave every
 // place of all lent memory as that call and the season's definition have it.
+// The memory that a call writes stays parameters, as in `book`: its parts are lent on.
 #![tactic(auto, using(stakes::proofs::Pieces::below), unfolding(crate::specs::Changes::change_of))]
 
 ghost use Rattle.std.specs.Prelude.{◌≡◌};

@@ -74,7 +74,7 @@ fn front<const N: usize>(s: &[f64]) -> [f64; N]
     a
 }
 
-// How many pivots held, and the k coefficients if all did; +0 in every other place.
+// How many pivots held, and the k coefficients if all did; +0 in every other place. The number is no flag: the pivot tests are counted by it.
 #[derive(Clone, Copy)]
 pub struct Solved {
     pub held: usize,
@@ -148,7 +148,8 @@ fn put_column(k: CoefficientCount, j: usize, b: &[f64; TERMS], v: &mut [f64; MAT
     }
 }
 
-// How many columns of the inverse are made, all k unless a pivot fails, and the inverse; +0 in every other place.
+// How many columns of the inverse are made, all k unless a pivot fails, and the inverse; +0 in every other place. A number and no `Option`, since the columns that are made
+// before a pivot fails are promised too.
 #[derive(Clone, Copy)]
 pub struct Inverted {
     pub columns: usize,

@@ -27,7 +27,7 @@ use reporting::{Counted, Memory, Report, local};
 use settings::Settings;
 use statistics::{Confidence, Tolerance};
 
-// The columns that a surface's samples stand in: x, z and y.
+// The columns that a surface's samples stand in: x, z and y. A type of its own, so that they are never taken for a book's, whose third column is weights.
 #[derive(Clone, Copy)]
 pub struct Points<'a> {
     pub xs: &'a [f64],

@@ -19,7 +19,7 @@ pub const HIGHEST_TOTAL: usize = 4;
 
 const PLACES: usize = 15;
 
-// All that a report writes: of each memory, how many places it needs and how many are lent.
+// All that a report writes, with a surface's places and no sums, which it folds itself: of each memory, how many places it needs and how many are lent.
 fn report_memories(n: usize, p: Places) -> [(usize, usize); 7]
     ensures { memories_of result ≡ surface_report_needs n p }
 {
