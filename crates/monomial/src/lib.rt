@@ -193,15 +193,25 @@ fn add_lines(sums: &mut [f64], k: CoefficientCount, terms: &[f64; TERMS], y: f64
     }
 }
 
-// The same. A cubic's 4 and the 16 of the whole are written out, so that their loops are unrolled and no other power is worked out.
+// The same. The 16 of the whole is written out, so that its loops are unrolled.
 fn add_row_corner(sums: &mut [f64], k: CoefficientCount, terms: &[f64; TERMS], y: f64, w: f64)
     requires { (sum_places ≤ length sums.old) × (k.0 ≤ max_terms) }
     ensures { CornerSet k.0 (add_row sums.old (weighted_row terms.now y w)) sums.old sums.new }
 {
     match k.0 {
-        4 => add_lines(sums, CoefficientCount(4), terms, y, w),
         16 => add_lines(sums, CoefficientCount(16), terms, y, w),
         _ => add_lines(sums, k, terms, y, w),
+    }
+}
+
+// Adds rows in that corner. Inlined, so that a cubic's loops are unrolled and no other power is worked out.
+#[inline(always)]
+fn add_rows(rows: Rows<'_>, k: CoefficientCount, sums: &mut [f64])
+    requires { (k.0 ≤ max_terms) × (sum_places ≤ length sums.old) }
+    ensures { CornerSet k.0 (add_rows sums.old (weighted_read rows.entry)) sums.old sums.new }
+{
+    for t in 0..rows.len() {
+        add_row_corner(&mut *sums, k, &rows.terms(t), rows.ys[t], rows.weight(t));
     }
 }
 
@@ -210,8 +220,9 @@ pub fn add_corner(rows: Rows<'_>, k: CoefficientCount, sums: &mut [f64])
     requires { (k.0 ≤ max_terms) × (sum_places ≤ length sums.old) }
     ensures { CornerSet k.0 (add_rows sums.old (weighted_read rows.entry)) sums.old sums.new }
 {
-    for t in 0..rows.len() {
-        add_row_corner(&mut *sums, k, &rows.terms(t), rows.ys[t], rows.weight(t));
+    match k.0 {
+        4 => add_rows(rows, CoefficientCount(4), sums),
+        _ => add_rows(rows, k, sums),
     }
 }
 

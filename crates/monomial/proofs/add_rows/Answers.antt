@@ -1,10 +1,10 @@
--- `monomial::add_corner` meets its contract. The invariant: the rows passed are added in the corner.
+-- `monomial::add_rows` meets its contract. The invariant: the rows passed are added in the corner.
 use mathlib.Core.Path.{◌≡◌, refl, ◌∙◌}
 use native.Mathlib.Omega.{arith}
 use borrow.Author.Rules.{rules}
 use lib.ListN.{length}
 use Rattle.monomial.proofs.Lines.{rows_none, rows_more}
-use Rattle.monomial.proofs.add_corner.Goals as goal
+use Rattle.monomial.proofs.add_rows.Goals as goal
 
 pub loop-t-init : goal.loop-t-init
 loop-t-init c = let r = c.args.rows in (search rules, refl, rows_none c.args.k.0 r.basis r.xs.now r.zs.now r.ys.now r.ws.now c.args.sums.now)
