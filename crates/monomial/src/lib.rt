@@ -4,15 +4,16 @@
 mod reading;
 mod rows;
 
-ghost use Rattle.std.specs.Prelude.{◌≡◌, ◌++◌, ◌+◌, ◌≤◌, ◌<◌, length, take, drop};
+ghost use Rattle.std.specs.Prelude.{◌≡◌, ◌++◌, ◌+◌, ◌≤◌, ◌<◌, length, set, take, drop};
 ghost use Rattle.std.specs.Float.{binary64};
 ghost use Rattle.std.specs.Float.Ieee.{add};
 ghost use Rattle.basis.specs.Sizes.{matrix_places, max_terms, sum_places};
+ghost use Rattle.basis.specs.declared.Basis.TheVariants.{Curve};
 ghost use Rattle.loops.specs.Places.{each, table};
 ghost use Rattle.value.specs.Numbers.{zero_f};
 ghost use Rattle.value.specs.Power.{power_f};
 ghost use Rattle.monomial.specs.Terms.{surface_terms, terms_at};
-ghost use Rattle.monomial.specs.Rows.{weighted_row, weighted_of, weighted_at, fitted as fitted_f};
+ghost use Rattle.monomial.specs.Rows.{weighted_row, weighted_of, weighted_at, weighted_rows_at, fitted as fitted_f};
 ghost use Rattle.monomial.specs.Reading.{weighted_read};
 ghost use Rattle.monomial.specs.Sums.{weighted_product, add_row, add_rows, sums_of};
 ghost use Rattle.monomial.specs.Corner.{CornerSet};
@@ -20,6 +21,7 @@ ghost use Rattle.monomial.specs.Upper.{SameUpper, Symmetric};
 
 use basis::{Basis, CoefficientCount, SUMS, TERMS};
 pub use rows::Rows;
+use samples::Columns;
 
 // Coefficient × term value, ascending, for the k coefficients.
 pub fn fitted(k: CoefficientCount, c: &[f64; TERMS], terms: &[f64; TERMS]) -> f64
@@ -306,4 +308,14 @@ pub fn refold_right(rows: Rows<'_>, sums: &mut [f64])
     ensures { sums.new ≡ take matrix_places sums.old ++ (drop matrix_places (sums_of (weighted_read rows.entry)) ++ drop sum_places sums.old) }
 {
     fold_right(rows, &mut sums[256..]);
+}
+
+// Place i of the y column holds y, and g is folded afresh over n samples of a curve, at weight 1 where no weight is lent. A stands. The count stands beside
+// the columns, since they have room for more samples.
+pub fn set_y(i: usize, y: f64, n: usize, xs: &[f64], ys: &mut [f64], ws: &[f64], sums: &mut [f64])
+    requires { (i < n) × (n ≤ length xs.now) × (n ≤ length ys.old) × (sum_places ≤ length sums.old) }
+    ensures { (ys.new ≡ set ys.old i y) × (sums.new ≡ take matrix_places sums.old ++ (drop matrix_places (sums_of (weighted_rows_at Curve n xs.now xs.now ys.new ws.now)) ++ drop sum_places sums.old)) }
+{
+    ys[i] = y;
+    refold_right(Rows::curve(n, Columns { xs, ys, ws }), sums);
 }
