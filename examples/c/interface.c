@@ -1,13 +1,19 @@
 /* Checks of the C interface that no list of calls reaches: a frame read sample by sample, a window of the latest samples, a replay beside its single calls,
- * the calls of two columns beside those of three at weight 1, a book carried over from two columns to three, what a split, the losses and the scores write, a surface by its settings, course groups that use up their allowance, and the stakes of a season. What is expected is worked out by hand here, or is what
- * the other calls leave. It prints what fails, and ends with 1 if anything does. */
+ * the calls of two columns beside those of three at weight 1, a book carried over from two columns to three, what a split, the losses and the scores write, a
+ * surface by its settings, course groups that use up their allowance, and the stakes of a season. What is expected is worked out by hand here, or is what
+ * the other calls leave. All of it runs in a thread that has the stack which stakebook.h calls enough, and would end in a segmentation fault if it were not.
+ * It prints what fails, and ends with 1 if anything does. */
+#define _POSIX_C_SOURCE 200809L
 #include <math.h>
+#include <pthread.h>
 #include <stdio.h>
 #include <string.h>
 
 #include "stakebook.h"
 
 #define ROOM 4
+/* what stakebook.h says of a thread's stack */
+#define STACK (56 * 1024)
 
 static int checks, failures;
 
@@ -687,7 +693,8 @@ static void check_season(void) {
     CHECK(SEASON_REPORT(STAKEBOOK_STAKES) == 1 && answers[0] == (uint64_t)7 << 56 && answers[31] == before[31]);
 }
 
-int main(void) {
+static void *check_all(void *unused) {
+    check_season();
     check_surface();
     check_weights();
     check_frames();
@@ -698,7 +705,17 @@ int main(void) {
     check_split_and_losses();
     check_scores();
     check_groups();
-    check_season();
-    printf("C interface: %d checks, %d failed\n", checks, failures);
+    return unused;
+}
+
+int main(void) {
+    pthread_attr_t attributes;
+    pthread_t thread;
+    if (pthread_attr_init(&attributes) != 0 || pthread_attr_setstacksize(&attributes, STACK) != 0 ||
+        pthread_create(&thread, &attributes, check_all, NULL) != 0 || pthread_join(thread, NULL) != 0) {
+        puts("C interface: no thread of that stack");
+        return 1;
+    }
+    printf("C interface: %d checks in a thread of %d KB of stack, %d failed\n", checks, STACK / 1024, failures);
     return failures != 0;
 }
