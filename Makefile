@@ -31,7 +31,7 @@ MAN3 := $(patsubst packaging/man/%,target/man/%,$(wildcard packaging/man/*.3))
 # of the Python package, what is meant to be installed: no cache, no editor's file
 PYTHON_FILES = $(sort $(foreach kind,*.py *.txt *.css *.html py.typed,$(wildcard python/stakebook/$(kind))))
 DOCUMENTS = $(wildcard docs/INSTALL.md docs/JOURNAL.md docs/PYTHON.md docs/SEASON.md docs/STAKE.md)
-EXAMPLES = $(wildcard examples/pit.csv examples/c/season.c examples/c/printed.h)
+EXAMPLES = $(wildcard examples/pit.csv examples/pits.csv examples/c/season.c examples/c/printed.h)
 
 .DELETE_ON_ERROR:
 .SUFFIXES:

@@ -1,6 +1,6 @@
 #!/usr/bin/env bash
-# Builds what everything outside Rattle links and runs, from the proved crates: target/staticlib/libcapi.a and target/bin/stakebook. What an earlier run of
-# `rt ci` or `rt check` here proved is taken as it stands, and what has changed since is proved first: minutes the first time. Both run on every x86-64.
+# Builds what everything outside Rattle links and runs, from the proved crates: target/staticlib/libcapi.a and target/bin/stakebook. What `rt check` has kept in
+# crates/*/out is taken as it stands; else the crates are checked once more, some minutes after `rt ci` on a fresh checkout. Both run on every x86-64.
 #   tools/build.sh               both
 #   tools/build.sh capi          the library alone
 #   tools/build.sh stakebook     the program alone

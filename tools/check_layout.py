@@ -1,11 +1,13 @@
 #!/usr/bin/env python3
-"""Checks what a proof does not see: crates.txt, must-fail edits, the layer table of docs/DESIGN.md, long contracts, definitions apart from laws. Run in the
-repository's root.
+"""Checks what a proof does not see: crates.txt, must-fail edits, the layer table of docs/DESIGN.md, the lists of files of docs/READING.md, long contracts,
+definitions apart from laws. Run in the repository's root.
 
 crates.txt: every crate folder is on it and the other way round, each crate after those it rests on. A line lists the libraries that the crate's own
 files name, may list those that declare the types which its code reaches, and no others: the prover finds what these rest on by itself.
 Edits: the first line is a comment that names an input; each `old:` text stands exactly once in its file.
-docs/DESIGN.md: the table of layers has every crate, in the order of crates.txt.
+docs/DESIGN.md: the table of layers has every crate, in the order of crates.txt. Each edit is named, as `WHAT`, or as `CRATE/WHAT`, which it must be where two crates have
+an edit of that name.
+docs/READING.md: each list of files to read has as many lines as it says, and so have the files of its command, which are those of the first table.
 Files: no contract line is longer than 300 characters; no comment of specs/ or proofs/ says that nothing is assumed, which the prover sees to.
 specs/: a file whose first comment says `Definitions only.` has no law, and any other has no definition that is `pub`.
 
@@ -19,6 +21,7 @@ KIT = {'check', 'io', 'itoa'}
 LONGEST = 300
 CRATES = Path('crates')
 DESIGN = Path('docs/DESIGN.md')
+READING = Path('docs/READING.md')
 wrong = []
 
 
@@ -144,6 +147,46 @@ def check_design(crates):
         wrong.append(f'{DESIGN}: the layers have {ours} where crates.txt has {theirs}')
 
 
+def check_edits_named(crates):
+    quoted = set(re.findall(r'`([^`\n]+)`', DESIGN.read_text(encoding='utf-8')))
+    paths = [path for crate in crates for path in sorted((CRATES / crate / 'must-fail').glob('*.edit'))]
+    names = [path.stem for path in paths]
+    for path in paths:
+        name, whole = path.stem, f'{path.parent.parent.name}/{path.stem}'
+        if whole not in quoted and (name not in quoted or names.count(name) > 1):
+            wrong.append(f'{DESIGN}: the edit {whole} is not named')
+
+
+# The files that a text names: CRATE/specs/NAME, or several as CRATE/specs/{NAME,NAME}.
+def files_named(text):
+    found = re.findall(r'(\w+/specs/)(?:\{([\w,]+)\}|(\w+))', text)
+    return [CRATES / f'{folder}{name}.antt' for folder, several, one in found for name in (several or one).split(',')]
+
+
+def count_lines(paths, begin=''):
+    return sum(line.startswith(begin) for path in paths for line in path.read_text(encoding='utf-8').splitlines())
+
+
+def check_reading():
+    text = READING.read_text(encoding='utf-8')
+    row = re.compile(r'^\| .* \| (.*) \| (\d+) \|$', re.M)
+    lists = [(files_named(files), int(said)) for files, said in row.findall(text)]
+    first = files_named(' '.join(files for files, _ in row.findall(text.split('```')[0])))
+    command = files_named(' '.join(re.findall(r'^wc -l .*', text, re.M)))
+    missing = sorted({path for files in [command, *(files for files, _ in lists)] for path in files if not path.is_file()})
+    wrong.extend(f'{READING}: there is no {path}' for path in missing)
+    if missing:
+        return
+    for files, said in lists:
+        if count_lines(files) != said:
+            wrong.append(f'{READING}: the files from {files[0]} on have {count_lines(files)} lines, and not {said}')
+    total = f'{count_lines(command):,} lines in {len(command)} files, {count_lines(command, "use ")} of them imports'
+    if f'\n{total},' not in text:
+        wrong.append(f'{READING}: its command counts {total}')
+    if sorted(first) != sorted(command):
+        wrong.append(f'{READING}: its command and the table above it have other files: {", ".join(sorted(map(str, {*first} ^ {*command})))}')
+
+
 def check_files(crates):
     for crate in crates:
         for path in files(crate, ['src']):
@@ -189,13 +232,15 @@ def main():
     check_crates(crates)
     edits = check_edits(crates)
     check_design(crates)
+    check_edits_named(crates)
+    check_reading()
     check_files(crates)
     check_specs(crates)
     for line in wrong:
         print('layout:', line)
     if wrong:
         return 1
-    print(f'layout: {len(crates)} crates and {edits} edits: dependencies, old texts, table of layers, contract lines and definitions are in order')
+    print(f'layout: {len(crates)} crates and {edits} edits: dependencies, old texts, names in the tables, lists of files, contract lines and definitions are in order')
     return 0
 
 

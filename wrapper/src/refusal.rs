@@ -18,8 +18,8 @@ pub enum Refusal {
     NoSuchSample,
     /// 7: there are no samples, for a split fewer than 4, or the folds are below 2 or above their number.
     NoSamples,
-    /// 8: the degree is at or above the number of samples, or above 15; for a surface, the total degree is
-    /// above 4 or has more terms than there are samples.
+    /// 8: the degree is at or above the number of samples, or it or the bound is above 15; for a surface,
+    /// one of them is above 4, or the degree has more terms than there are samples.
     DegreeTooHigh,
     /// 9: x lies outside the samples, or z does.
     OutOfRange,
@@ -87,7 +87,7 @@ impl std::fmt::Display for Refusal {
             Refusal::NoSuchSample => "there is no sample of this index",
             Refusal::NoSamples => "there are no samples, or too few, or no such folds",
             Refusal::DegreeTooHigh => "the degree is too high",
-            Refusal::OutOfRange => "x lies outside the samples",
+            Refusal::OutOfRange => "x or z lies outside the samples",
             Refusal::Unsolved => "the degree is unsolved",
             Refusal::NoDegree => "no degree is chosen",
             Refusal::NoCovariance => "the covariance can't be worked out",

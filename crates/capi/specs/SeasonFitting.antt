@@ -20,6 +20,7 @@ use Rattle.reporting.specs.Outputs.{Outputs, places_of}
 use Rattle.stakes.specs.Parts.{stakes}
 use Rattle.stakes.specs.Season.{SeasonState, stake_state, stake_refusal, season_open_refusal, read_stake}
 use Rattle.season.specs.Changes.{SeasonOut, left_alone, on_stake, season_out, opens, open_stake_out, carries, carry_stake_out, season_open_out}
+use Rattle.season_report.specs.ReportLaws.{passes_most}
 use Rattle.season_report.specs.Reports.{parts_of, stake_report_out, passes, Reported, report_turn, unreported, season_report}
 use Rattle.capi.specs.Packed.{packed_book, packed_report, BookFits, ReportFits}
 use Rattle.capi.specs.Fitting.{settled_fits, open_fits, add_fits, correct_fits, withdraw_fits, frame_fits, lines_fits, window_fits, report_settles, report_fits}
@@ -74,10 +75,6 @@ pub season_open_back : (S : SeasonState) → (let a = (season_open_out S).answer
 season_open_back S = book_read _ (season_open_fits S)
 
 -- ---- reports
-
-passes_most : (a : ReportAnswer) → passes a ≤ 1
-passes_most (Ok r) = omega arith
-passes_most (Err k) = omega arith
 
 -- one stake's answer more
 set_fits : (told : List ReportAnswer) (j : ℕ) (a : ReportAnswer) → j < stakes → ReportFits a → StakesFit told → StakesFit (set told j a)

@@ -49,7 +49,7 @@ stake_opened s counts columns sums e h a {sq = sq} {sm = sm} ps i =
 
 -- ---- all 32 opened: none of them is refused
 
-opens_book : (sums : List Float) → 272 ≤ length sums → (open_out sums).answer ≡ book_of 0
+pub opens_book : (sums : List Float) → 272 ≤ length sums → (open_out sums).answer ≡ book_of 0
 unfolding open_out open_refusal first_of any_short
 opens_book sums h = rw (le-ltb (length sums) 272 h) refl
 

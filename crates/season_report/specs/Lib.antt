@@ -1,2 +1,3 @@
 -- Reports of the season book.
 pub mod Reports
+pub mod ReportLaws

@@ -3,5 +3,6 @@ pub mod Lengths
 pub mod Stakes
 pub mod Columns
 pub mod Written
+pub mod Left
 pub mod Turns
 pub mod Lists

@@ -10,7 +10,6 @@ use native.Mathlib.Nat.{eq-or-lt_of_le}
 use borrow.Author.Tests.{eqb-true, eqb-false, ltb-false, le-ltb}
 use lib.Dec.{eqb, ltb}
 use lib.ListN.{length, get_or, drop}
-use lib.Ieee.{Float}
 use Rattle.refusal.specs.Named.{refused_by}
 use Rattle.loops.specs.Cases.{or_false}
 use Rattle.loops.specs.Fold.{fold}
@@ -36,6 +35,7 @@ use Rattle.stakes.specs.Parts.{stakes, part_of}
 use Rattle.stakes.specs.PartLaws.{length_part}
 use Rattle.stakes.specs.Season.{SeasonState, stake_state, stake_refusal, season_open_refusal}
 use Rattle.stakes.specs.SeasonLaws.{stake_taken, stake_below, counts_long, read_done}
+use Rattle.season.proofs.Changed.{opens_book}
 use Rattle.season.specs.Changes.{SeasonOut, left_alone, on_stake, opens, open_stake_out, emptied, season_open_out}
 use Rattle.seasons.specs.Calls.{opening, StakeCall, alters, looks, SeasonCall, names, opens_all, seasonal, SeasonReply, by_part, out_by, read_from, book_next, book_reply, own_book, as_stake, refused_told, part_places, report_at, season_next, season_reply, season_book, as_part, own_call, own_reply}
 use Rattle.seasons.specs.Claims.{StakeByStake, WholeStake, OpenedStake, WholeStakes}
@@ -101,10 +101,6 @@ open_room n m e =
     let a = or_false (ltb n stakes) _ (first_none _ 0 _ e).0 in
     let b = or_false (ltb (m / stakes) 272) _ a.1 in
     (ltb-false n stakes a.0, ltb-false (m / stakes) 272 b.0)
-
-opens_book : (sums : List Float) → 272 ≤ length sums → (open_out sums).answer ≡ book_of 0
-unfolding open_out open_refusal first_of any_short
-opens_book sums h = rw (le-ltb (length sums) 272 h) refl
 
 emptied_is : (S : SeasonState) → season_open_refusal (length S.counts) (length S.sums) ≡ 0 → (season_open_out S).season ≡ emptied S
 unfolding season_open_out

@@ -1,9 +1,11 @@
 -- A call on one stake: what it makes of that stake's book, and that it leaves every other.
 use mathlib.Core.Path.{◌≡◌, refl, ap, ◌∙◌}
+use mathlib.Core.List.{List, [], ◌∷◌, map}
 use Prim.Native.Nat.{ℕ, zero, suc, ◌≤◌, ◌<◌}
 use native.Mathlib.Omega.{arith}
 use lib.ListN.{length, length-set}
 use borrow.Author.Tests.{le-leb}
+use Rattle.loops.specs.Fold.{fold}
 use Rattle.refusal.specs.Refusals.{settle, first_of}
 use Rattle.book.specs.Calls.{Out, State, state_after}
 use Rattle.ledger.specs.Ledger.{said, told}
@@ -18,7 +20,7 @@ use Rattle.seasons.proofs.Lengths.{Long, long_by}
 
 -- a call on stake s of the season S, not refused, refused, and in either case
 module _ (s : ℕ) (S : SeasonState) (call : State → Out) where
-  abbrev left : State
+  abbrev pub left : State
   left = state_after (stake_state s S).count (call (stake_state s S))
 
   pub on_done : stake_refusal s (length S.counts) ≡ 0
@@ -26,10 +28,10 @@ module _ (s : ℕ) (S : SeasonState) (call : State → Out) where
   unfolding on_stake
   on_done z = rw z
 
-  sized : s < stakes → Long (stake_state s S) left → Sized left S
+  pub sized : s < stakes → Long (stake_state s S) left → Sized left S
   sized h l = record { columns = λ k. l.columns k ∙ length_part s (S.columns k) h; sums = l.sums ∙ length_part s S.sums h }
 
-  by_refusal : (P : SeasonState → Type 0) → P S → (stake_refusal s (length S.counts) ≡ 0 → P (with_stake s left S)) → P (on_stake s S call).season
+  pub by_refusal : (P : SeasonState → Type 0) → P S → (stake_refusal s (length S.counts) ≡ 0 → P (with_stake s left S)) → P (on_stake s S call).season
   unfolding on_stake
   by_refusal P p q = go (stake_refusal s (length S.counts)) refl
     where
@@ -65,6 +67,18 @@ pub leaves_others : LeavesOthers
 unfolding season_next
 leaves_others S s t (alters c) h ne = on_other s S (out_by c) (long_by c (stake_state s S)) t h ne
 leaves_others S s t (looks q) h ne = refl
+
+-- and no list of calls on one stake does either, nor changes another
+pub calls_counted : (s : ℕ) (cs : List StakeCall) (S : SeasonState) → length (fold season_next S (map (names s) cs)).counts ≡ length S.counts
+unfolding fold
+calls_counted s [] S = refl
+calls_counted s (c ∷ cs) S = calls_counted s cs (season_next S (names s c)) ∙ counts_kept S s c
+
+pub calls_leave_others : (s t : ℕ) → t < stakes → (t ≡ s → ⊥) → (cs : List StakeCall) (S : SeasonState)
+    → stake_state t (fold season_next S (map (names s) cs)) ≡ stake_state t S
+unfolding fold
+calls_leave_others s t h ne [] S = refl
+calls_leave_others s t h ne (c ∷ cs) S = calls_leave_others s t h ne cs (season_next S (names s c)) ∙ leaves_others S s t c h ne
 
 above_31 : (s n : ℕ) → stakes ≤ s → stake_refusal s n ≡ 18
 unfolding stake_refusal first_of

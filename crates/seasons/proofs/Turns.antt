@@ -1,15 +1,14 @@
 -- The season report, stake by stake: what the first b turns leave. Then the user's case.
-use Rattle.std.specs.Prelude.{Ok, Err}
 use mathlib.Core.Path.{◌≡◌, refl, sym, ap, ap₂, ◌∙◌}
 use mathlib.Core.List.{List, [], ◌∷◌, map, ◌++◌}
-use Prim.Native.Nat.{ℕ, zero, suc, ◌+◌, ◌*◌, ◌/◌, ◌≤◌, ◌<◌}
+use Prim.Native.Nat.{ℕ, zero, suc, ◌+◌, ◌≤◌, ◌<◌}
 use native.Mathlib.Omega.{arith}
 use native.Mathlib.Numerals.{add-one}
 use native.Mathlib.Nat.{eq-or-lt_of_le}
 use mathlib.Core.Logic.{⊎_elim}
 use lib.ListN.{length, get_or, set, drop, replicate, length-replicate}
 use lib.Seq.{drop_at}
-use Rattle.refusal.specs.Named.{number, refused_by}
+use Rattle.refusal.specs.Named.{refused_by}
 use Rattle.loops.specs.Fold.{fold}
 use Rattle.loops.specs.FoldLaws.{fold_table}
 use Rattle.loops.specs.Loop.{from}
@@ -23,18 +22,16 @@ use Rattle.reporting.specs.declared.Places.{Places}
 use Rattle.reporting.specs.Outputs.{Outputs, places_of, over_all}
 use Rattle.reporting.specs.declared.Report.{Report}
 use Rattle.reporting.specs.Reports.{ReportAnswer, ReportOut, refused_early}
-use Rattle.ledger.specs.Ledger.{corrects}
-use Rattle.stakes.specs.Parts.{stakes, size, part_of, over_part}
-use Rattle.stakes.specs.PartLaws.{length_over, over_own, over_other, over_rest}
+use Rattle.stakes.specs.Parts.{stakes}
+use Rattle.stakes.specs.PartLaws.{length_over, over_own, over_other}
 use Rattle.stakes.specs.Season.{SeasonState, stake_state, stake_refusal, read_stake}
-use Rattle.season.specs.Changes.{season_out}
+use Rattle.season_report.specs.ReportLaws.{passes_most}
 use Rattle.season_report.specs.Reports.{parts_of, over_parts, stake_report_out, passes, Reported, report_turn, unreported, season_report, report_from}
-use Rattle.seasons.specs.Calls.{changing, report_at, reports_of, passed_of, out_by}
+use Rattle.seasons.specs.Calls.{names, report_at, reports_of, passed_of, season_next}
 use Rattle.seasons.specs.CallLaws.{report_is}
-use Rattle.seasons.specs.Claims.{rest_of, EachReports, OneCorrected}
-use Rattle.seasons.proofs.Lengths.{long_by}
-use Rattle.seasons.proofs.Stakes.{on_other, on_counts}
-use Rattle.seasons.proofs.Written.{Fits, stake_fits}
+use Rattle.seasons.specs.Claims.{rest, seen_of, EachReports, OneCorrected}
+use Rattle.seasons.proofs.Stakes.{calls_counted, calls_leave_others}
+use Rattle.seasons.proofs.Written.{Fits, stake_fits, rest_over}
 
 -- a report depends on the lent memory by its lengths alone
 same_places : (settings : Settings) (s : ℕ) (S : SeasonState) (v w : Outputs) → places_of v ≡ places_of w → stake_report_out settings s S v ≡ stake_report_out settings s S w
@@ -86,19 +83,16 @@ module _ (s : ℕ) (h : s < stakes) (v w : Outputs) (f : Fits v (places_of (part
         outliers = length_over s w.outliers h v.outliers f.outliers j;
       }
 
-  rest_of_lem : {A : Type 0} (l v : List A) → length v ≤ length (part_of s l) → drop (stakes * size (over_part s v l)) (over_part s v l) ≡ drop (stakes * size l) l
-  rest_of_lem l v k = ap (λ (n : ℕ). drop (stakes * (n / stakes)) (over_part s v l)) (length_over s l h v k) ∙ over_rest s l h v k
-
-  rest_kept : rest_of (over_parts s v w) ≡ rest_of w
+  rest_kept : seen_of (λ A l. rest l) (over_parts s v w) ≡ seen_of (λ A l. rest l) w
   rest_kept =
       λ j. record {
-        scratch = rest_of_lem w.scratch v.scratch f.scratch j;
-        coefficients = rest_of_lem w.coefficients v.coefficients f.coefficients j;
-        errors = rest_of_lem w.errors v.errors f.errors j;
-        pruned = rest_of_lem w.pruned v.pruned f.pruned j;
-        lower = rest_of_lem w.lower v.lower f.lower j;
-        upper = rest_of_lem w.upper v.upper f.upper j;
-        outliers = rest_of_lem w.outliers v.outliers f.outliers j;
+        scratch = rest_over s w.scratch v.scratch h f.scratch j;
+        coefficients = rest_over s w.coefficients v.coefficients h f.coefficients j;
+        errors = rest_over s w.errors v.errors h f.errors j;
+        pruned = rest_over s w.pruned v.pruned h f.pruned j;
+        lower = rest_over s w.lower v.lower h f.lower j;
+        upper = rest_over s w.upper v.upper h f.upper j;
+        outliers = rest_over s w.outliers v.outliers h f.outliers j;
       }
 
 -- the same values written once more
@@ -118,10 +112,6 @@ twice_all v w =
     }
 
 -- at most all are not refused
-passes_most : (a : ReportAnswer) → passes a ≤ 1
-passes_most (Ok r) = omega arith
-passes_most (Err k) = omega arith
-
 passed_most : (os : List ReportOut) (n : ℕ) → fold (λ (m : ℕ) (o : ReportOut). m + passes o.answer) n os ≤ n + length os
 unfolding fold
 passed_most [] n = omega arith
@@ -145,7 +135,7 @@ module _ (settings : Settings) (S : SeasonState) (w : Outputs) where
     pub reports : t.reports ≡ each (λ s _. tell s) b no_reports
     pub passed : t.passed ≡ passed_of (table own b)
     pub places : places_of t.lent ≡ places_of w
-    pub rest : rest_of t.lent ≡ rest_of w
+    pub rest : seen_of (λ A l. rest l) t.lent ≡ seen_of (λ A l. rest l) w
     pub later : (s : ℕ) → b ≤ s → s < stakes → parts_of s t.lent ≡ parts_of s w
     pub done : (s : ℕ) → s < b → s < stakes → parts_of s t.lent ≡ over_all (own s).written (parts_of s w)
 
@@ -241,9 +231,8 @@ module _ (settings : Settings) (S T : SeasonState) (w : Outputs) (t : ℕ) (h : 
       ∙ twice_all (stake_report_out settings t S w).written (parts_of t w) ∙ sym q
 
 pub one_corrected : OneCorrected
-unfolding out_by
-one_corrected settings S w s i y t h ne =
-    let T = (season_out s S (corrects i y)).season in
-    let n : length T.counts ≡ length S.counts = on_counts s S (out_by (changing (corrects i y))) in
-    let b : stake_state t T ≡ stake_state t S = on_other s S (out_by (changing (corrects i y))) (long_by (changing (corrects i y)) (stake_state s S)) t h ne in
+one_corrected settings S w s cs t h ne =
+    let T = fold season_next S (map (names s) cs) in
+    let n : length T.counts ≡ length S.counts = calls_counted s cs S in
+    let b : stake_state t T ≡ stake_state t S = calls_leave_others s t h ne cs S in
     record { answer = same_answer settings S T w t h n b; written = same_written settings S T w t h n b }

@@ -1,10 +1,10 @@
--- What a call that reads writes has room in the stake's parts: so it writes no place of another's.
+-- What a call that reads writes has room in the stake's parts: so it writes no place of another's, nor past the 32.
 use Rattle.std.specs.Prelude.{Option, Some, None, Result, Ok, Err}
 use mathlib.Core.Path.{◌≡◌, refl, sym, ap, ◌∙◌}
 use mathlib.Core.List.{List, [], map}
-use Prim.Native.Nat.{ℕ, zero, suc, ◌≤◌, ◌<◌}
+use Prim.Native.Nat.{ℕ, zero, suc, ◌*◌, ◌/◌, ◌≤◌, ◌<◌}
 use native.Mathlib.Omega.{arith}
-use lib.ListN.{length, take, length-take, length-map, length-replicate}
+use lib.ListN.{length, take, drop, length-take, length-map, length-replicate}
 use lib.Ieee.{Float}
 use Rattle.basis.specs.Counts.{count_of}
 use Rattle.basis.specs.declared.Basis.{Basis}
@@ -59,12 +59,12 @@ use Rattle.split.specs.Search.{best_break, search_tests}
 use Rattle.split.specs.RefusalLaws.{split_room}
 use Rattle.split.specs.Splits.{SplitOut, split_refused, split_at, split_by, split_past, split_on}
 use Rattle.stakes.specs.Parts.{stakes, part_of, over_part}
-use Rattle.stakes.specs.PartLaws.{over_other}
+use Rattle.stakes.specs.PartLaws.{length_over, over_other, over_rest}
 use Rattle.stakes.specs.Season.{SeasonState, stake_state, stake_refusal, read_stake}
 use Rattle.stakes.specs.SeasonLaws.{stake_below, none_over}
 use Rattle.season_query.specs.Reads.{fit_from, validate_from, band_from, loss_from, scores_from, split_from}
 use Rattle.season_report.specs.Reports.{parts_of, over_parts, stake_report_out, report_from}
-use Rattle.seasons.specs.Claims.{ReadsLeaveOthers}
+use Rattle.seasons.specs.Claims.{rest, seen_of, ReadsLeave, ReadsLeaveOthers, ReadsLeaveRest}
 
 -- ---- lengths
 
@@ -256,20 +256,21 @@ stake_fits settings s S w =
     (length_samples b.count b.columns))
     (none_fits p r)
 
--- ---- other stakes' parts
+-- ---- what is seen of a memory where no written place lies
 
-module _ (s t : ℕ) (S : SeasonState) (h : t < stakes) (ne : t ≡ s → ⊥) where
+module _ (seen : (A : Type 0) → List A → List A) (s : ℕ) (S : SeasonState)
+    (stands : (A : Type 0) (l v : List A) → s < stakes → length v ≤ length (part_of s l) → seen A (over_part s v l) ≡ seen A l) where
   -- one written list f of what a call makes
   untouched : {A O : Type 0} (f : O → List A) (l : List A) (call : State → O) (refused : ℕ → O)
-      → length (f (call (stake_state s S))) ≤ length (part_of s l) → ((r : ℕ) → f (refused r) ≡ []) → part_of t (over_part s (f (read_stake s S call refused)) l) ≡ part_of t l
+      → length (f (call (stake_state s S))) ≤ length (part_of s l) → ((r : ℕ) → f (refused r) ≡ []) → seen A (over_part s (f (read_stake s S call refused)) l) ≡ seen A l
   unfolding read_stake
   untouched {A} {O} f l call refused fit none = go (stake_refusal s (length S.counts)) refl
     where
-      go : (r : ℕ) → stake_refusal s (length S.counts) ≡ r → part_of t (over_part s (f (settle r (call (stake_state s S)) (refused r))) l) ≡ part_of t l
-      go zero z = over_other s l (stake_below s (length S.counts) z) (f (call (stake_state s S))) fit t h ne
-      go (suc r) z = ap (λ (v : List A). part_of t (over_part s v l)) (none (suc r)) ∙ ap (part_of t) (sym (none_over s l))
+      go : (r : ℕ) → stake_refusal s (length S.counts) ≡ r → seen A (over_part s (f (settle r (call (stake_state s S)) (refused r))) l) ≡ seen A l
+      go zero z = stands A l (f (call (stake_state s S))) (stake_below s (length S.counts) z) fit
+      go (suc r) z = ap (λ (v : List A). seen A (over_part s v l)) (none (suc r)) ∙ ap (seen A) (sym (none_over s l))
 
-  report_own : (settings : Settings) (w : Outputs) → parts_of t (over_parts s (stake_report_out settings s S w).written w) ≡ parts_of t w
+  report_own : (settings : Settings) (w : Outputs) → seen_of seen (over_parts s (stake_report_out settings s S w).written w) ≡ seen_of seen w
   report_own settings w =
       let b = stake_state s S in
       let call : State → ReportOut = λ c. report_from settings c (parts_of s w) in
@@ -285,38 +286,49 @@ module _ (s t : ℕ) (S : SeasonState) (h : t < stakes) (ne : t ≡ s → ⊥) w
         outliers = untouched (λ (o : ReportOut). o.written.outliers) w.outliers call refused_early fits.outliers (λ r. refl) j;
       }
 
+  reads_leave : ReadsLeave seen s S
+  reads_leave =
+      let b = stake_state s S in
+      let n = b.count in
+      let ps = samples_of n b.columns in
+      let sums = take 272 b.sums in
+      let columns = lengths b.columns in
+      let places = length b.sums in
+      record {
+        report = report_own;
+        fit = λ d l c.
+            let k = fit_fits n ps sums columns places (length (part_of s l)) d (length (part_of s c)) in
+            let call : State → FitOut = λ a. fit_from d a (part_of s l) (part_of s c) in (
+              untouched (λ (o : FitOut). o.scratch) l call fit_refused k.0 (λ r. refl),
+              untouched (λ (o : FitOut). o.coefficients) c call fit_refused k.1 (λ r. refl),
+            );
+        validate = λ folds bound criterion l c.
+            let k = validate_fits n ps sums columns places (length (part_of s l)) folds bound criterion (length (part_of s c)) in
+            let call : State → FitOut = λ a. validate_from folds bound criterion a (part_of s l) (part_of s c) in (
+              untouched (λ (o : FitOut). o.scratch) l call fit_refused k.0 (λ r. refl),
+              untouched (λ (o : FitOut). o.coefficients) c call fit_refused k.1 (λ r. refl),
+            );
+        band = λ x d confidence tolerance l.
+            untouched (λ (o : BandOut). o.scratch) l (λ a. band_from x d confidence tolerance a (part_of s l)) band_refused
+            (band_fits n ps sums columns places (length (part_of s l)) x d confidence tolerance) (λ r. refl);
+        losses = λ settings d l.
+            untouched (λ (o : LossOut). o.scratch) l (λ a. loss_from settings d a (part_of s l)) loss_refused
+            (loss_fits n ps sums columns places (length (part_of s l)) settings (length d)) (λ r. refl);
+        scores = λ settings e d l.
+            untouched (λ (o : ScoresOut). o.scratch) l (λ a. scores_from settings e d a (part_of s l)) scores_refused
+            (scores_fits n ps sums columns places (length (part_of s l)) settings (length e) (length d)) (λ r. refl);
+        split = λ settings limit f g l.
+            untouched (λ (o : SplitOut). o.scratch) l (λ a. split_from settings limit f g a (part_of s l)) (λ r. split_refused r [])
+            (split_fits n settings limit ps columns places (record { scratch = length (part_of s l); before = length f; after = length g })) (λ r. refl);
+      }
+
+-- another stake's part
 pub reads_leave_others : ReadsLeaveOthers
-reads_leave_others s t S h ne =
-    let b = stake_state s S in
-    let n = b.count in
-    let ps = samples_of n b.columns in
-    let sums = take 272 b.sums in
-    let columns = lengths b.columns in
-    let places = length b.sums in
-    record {
-      report = report_own s t S h ne;
-      fit = λ d l c.
-          let k = fit_fits n ps sums columns places (length (part_of s l)) d (length (part_of s c)) in
-          let call : State → FitOut = λ a. fit_from d a (part_of s l) (part_of s c) in (
-            untouched s t S h ne (λ (o : FitOut). o.scratch) l call fit_refused k.0 (λ r. refl),
-            untouched s t S h ne (λ (o : FitOut). o.coefficients) c call fit_refused k.1 (λ r. refl),
-          );
-      validate = λ folds bound criterion l c.
-          let k = validate_fits n ps sums columns places (length (part_of s l)) folds bound criterion (length (part_of s c)) in
-          let call : State → FitOut = λ a. validate_from folds bound criterion a (part_of s l) (part_of s c) in (
-            untouched s t S h ne (λ (o : FitOut). o.scratch) l call fit_refused k.0 (λ r. refl),
-            untouched s t S h ne (λ (o : FitOut). o.coefficients) c call fit_refused k.1 (λ r. refl),
-          );
-      band = λ x d confidence tolerance l.
-          untouched s t S h ne (λ (o : BandOut). o.scratch) l (λ a. band_from x d confidence tolerance a (part_of s l)) band_refused
-          (band_fits n ps sums columns places (length (part_of s l)) x d confidence tolerance) (λ r. refl);
-      losses = λ settings d l.
-          untouched s t S h ne (λ (o : LossOut). o.scratch) l (λ a. loss_from settings d a (part_of s l)) loss_refused
-          (loss_fits n ps sums columns places (length (part_of s l)) settings (length d)) (λ r. refl);
-      scores = λ settings e d l.
-          untouched s t S h ne (λ (o : ScoresOut). o.scratch) l (λ a. scores_from settings e d a (part_of s l)) scores_refused
-          (scores_fits n ps sums columns places (length (part_of s l)) settings (length e) (length d)) (λ r. refl);
-      split = λ settings limit f g l.
-          untouched s t S h ne (λ (o : SplitOut). o.scratch) l (λ a. split_from settings limit f g a (part_of s l)) (λ r. split_refused r [])
-          (split_fits n settings limit ps columns places (record { scratch = length (part_of s l); before = length f; after = length g })) (λ r. refl);
-    }
+reads_leave_others s t S h ne = reads_leave (λ A l. part_of t l) s S (λ A l v own fit. over_other s l own v fit t h ne)
+
+-- what is past the 32 parts
+pub rest_over : {A : Type 0} (s : ℕ) (l v : List A) → s < stakes → length v ≤ length (part_of s l) → rest (over_part s v l) ≡ rest l
+rest_over s l v h fit = ap (λ (n : ℕ). drop (stakes * (n / stakes)) (over_part s v l)) (length_over s l h v fit) ∙ over_rest s l h v fit
+
+pub reads_leave_rest : ReadsLeaveRest
+reads_leave_rest s S = reads_leave (λ A l. rest l) s S (λ A l v own fit. rest_over s l v own fit)

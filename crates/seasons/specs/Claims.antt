@@ -1,5 +1,6 @@
 -- What is claimed of a season book. The theorems are in proofs/. Definitions only.
-use Rattle.std.specs.Prelude.{◌≡◌, List, map, ℕ, ◌*◌, ◌≤◌, ◌<◌, length, get_or, drop, Float}
+use Rattle.std.specs.Prelude.{◌≡◌, List, map, ℕ, ◌*◌, ◌≤◌, ◌<◌, length, get_or, drop, Err, Float}
+use Rattle.refusal.specs.declared.refusals.Refusal.{Refusal}
 use Rattle.refusal.specs.Named.{refused_by}
 use Rattle.loops.specs.Fold.{fold}
 use Rattle.runs.specs.Runs.{replies as replies_of, only, pick}
@@ -11,12 +12,12 @@ use Rattle.score.specs.declared.Criterion.{Criterion}
 use Rattle.settings.specs.declared.Settings.{Settings}
 use Rattle.book.specs.Calls.{book_of, open_out}
 use Rattle.reporting.specs.Outputs.{Outputs, places_of, over_all}
-use Rattle.ledger.specs.Ledger.{Call, said, told, corrects, program_replies, final, opened}
+use Rattle.ledger.specs.Ledger.{Call, said, told, program_replies, final, opened}
 use Rattle.ledger.specs.ReadCalls.{ReadCall, read_on}
 use Rattle.ledger.specs.Whole.{WholeBook}
 use Rattle.stakes.specs.Parts.{stakes, size, part_of, over_part}
-use Rattle.stakes.specs.Season.{SeasonState, stake_state}
-use Rattle.season.specs.Changes.{season_out, open_stake_out, season_open_out}
+use Rattle.stakes.specs.Season.{SeasonState, season_of, stake_state}
+use Rattle.season.specs.Changes.{open_stake_out, season_open_out}
 use Rattle.season_query.specs.Reads.{fit_from, validate_from, stake_fit_out, band_from, stake_band_out, loss_from, stake_loss_out, scores_from, stake_scores_out, split_from, stake_split_out}
 use Rattle.reporting.specs.Reports.{ReportAnswer}
 use Rattle.season_report.specs.Reports.{parts_of, over_parts, stake_report_out, Reported, season_report}
@@ -28,6 +29,22 @@ abbrev pub LeavesOthers : Type 0
 LeavesOthers =
     (S : SeasonState) (s t : ℕ) (c : StakeCall) → t < stakes → (t ≡ s → ⊥) → stake_state t (season_next S (names s c)) ≡ stake_state t S
 
+-- ---- a refused call changes nothing, whether the season's own tests refuse it or the book's
+
+abbrev pub RefusedLeaves : Type 0
+RefusedLeaves = (S : SeasonState) (c : SeasonCall) (r : Refusal) → season_reply S c ≡ of_stake (said (Err r)) → season_next S c ≡ S
+
+-- ---- no call changes what is past the 32 parts, which is nobody's
+
+abbrev pub rest : {A : Type 0} → List A → List A
+rest l = drop (stakes * size l) l
+
+abbrev pub season_rest : SeasonState → SeasonState
+season_rest S = season_of (drop stakes S.counts) (λ k. rest (S.columns k)) (rest S.sums)
+
+abbrev pub LeavesRest : Type 0
+LeavesRest = (S : SeasonState) (c : SeasonCall) → season_rest (season_next S c) ≡ season_rest S
+
 -- ---- a stake number above 31 gets 18, before every other check, and changes nothing
 
 pub record Stray (S : SeasonState) (s : ℕ) : Type 0 where
@@ -38,41 +55,45 @@ pub record Stray (S : SeasonState) (s : ℕ) : Type 0 where
 abbrev pub Strays : Type 0
 Strays = (S : SeasonState) (s : ℕ) → stakes ≤ s → Stray S s
 
--- ---- and a call that reads one stake writes no place of another's parts
+-- ---- and a call that reads one stake writes no place of another's parts, nor of what is past the 32
 
--- the part of stake t of the memory l stands where values go to that of stake s
-abbrev pub LeftPart : ℕ → ℕ → List Float → List Float → Type 0
-LeftPart s t l values = part_of t (over_part s values l) ≡ part_of t l
+-- what is seen of the memory l stands where values go to the part of stake s
+abbrev pub Stands : ((A : Type 0) → List A → List A) → ℕ → List Float → List Float → Type 0
+Stands seen s l values = seen Float (over_part s values l) ≡ seen Float l
 
-pub record WritesOwn (s t : ℕ) (S : SeasonState) : Type 0 where
-  pub report : (settings : Settings) (w : Outputs) → parts_of t (over_parts s (stake_report_out settings s S w).written w) ≡ parts_of t w
-  pub fit : (degree : ℕ) (l c : List Float) → LeftPart s t l (stake_fit_out (fit_from degree) s S l c).scratch × LeftPart s t c (stake_fit_out (fit_from degree) s S l c).coefficients
+-- of each memory that a report writes
+abbrev pub seen_of : ((A : Type 0) → List A → List A) → Outputs → Outputs
+seen_of seen w =
+    record {
+      scratch = seen _ w.scratch;
+      coefficients = seen _ w.coefficients;
+      errors = seen _ w.errors;
+      pruned = seen _ w.pruned;
+      lower = seen _ w.lower;
+      upper = seen _ w.upper;
+      outliers = seen _ w.outliers;
+    }
+
+pub record ReadsLeave (seen : (A : Type 0) → List A → List A) (s : ℕ) (S : SeasonState) : Type 0 where
+  pub report : (settings : Settings) (w : Outputs) → seen_of seen (over_parts s (stake_report_out settings s S w).written w) ≡ seen_of seen w
+  pub fit : (degree : ℕ) (l c : List Float)
+      → Stands seen s l (stake_fit_out (fit_from degree) s S l c).scratch × Stands seen s c (stake_fit_out (fit_from degree) s S l c).coefficients
   pub validate : (folds : ℕ) (bound : DegreeBound) (criterion : Criterion) (l c : List Float)
-      → LeftPart s t l (stake_fit_out (validate_from folds bound criterion) s S l c).scratch
-      × LeftPart s t c (stake_fit_out (validate_from folds bound criterion) s S l c).coefficients
+      → Stands seen s l (stake_fit_out (validate_from folds bound criterion) s S l c).scratch
+      × Stands seen s c (stake_fit_out (validate_from folds bound criterion) s S l c).coefficients
   pub band : (x : Float) (degree : ℕ) (confidence : Confidence) (tolerance : Tolerance) (l : List Float)
-      → LeftPart s t l (stake_band_out (band_from x degree confidence tolerance) s S l).scratch
-  pub losses : (settings : Settings) (d l : List Float) → LeftPart s t l (stake_loss_out (loss_from settings d) s S l).scratch
-  pub scores : (settings : Settings) (b : List ℕ) (d l : List Float) → LeftPart s t l (stake_scores_out (scores_from settings b d) s S l).scratch
-  pub split : (settings : Settings) (limit : ℕ) (f g l : List Float) → LeftPart s t l (stake_split_out (split_from settings limit f g) s S l).scratch
+      → Stands seen s l (stake_band_out (band_from x degree confidence tolerance) s S l).scratch
+  pub losses : (settings : Settings) (d l : List Float) → Stands seen s l (stake_loss_out (loss_from settings d) s S l).scratch
+  pub scores : (settings : Settings) (b : List ℕ) (d l : List Float) → Stands seen s l (stake_scores_out (scores_from settings b d) s S l).scratch
+  pub split : (settings : Settings) (limit : ℕ) (f g l : List Float) → Stands seen s l (stake_split_out (split_from settings limit f g) s S l).scratch
 
 abbrev pub ReadsLeaveOthers : Type 0
-ReadsLeaveOthers = (s t : ℕ) (S : SeasonState) → t < stakes → (t ≡ s → ⊥) → WritesOwn s t S
+ReadsLeaveOthers = (s t : ℕ) (S : SeasonState) → t < stakes → (t ≡ s → ⊥) → ReadsLeave (λ A l. part_of t l) s S
+
+abbrev pub ReadsLeaveRest : Type 0
+ReadsLeaveRest = (s : ℕ) (S : SeasonState) → ReadsLeave (λ A l. rest l) s S
 
 -- ---- a season report
-
--- what is past the 32 parts
-abbrev pub rest_of : Outputs → Outputs
-rest_of w =
-    record {
-      scratch = drop (stakes * size w.scratch) w.scratch;
-      coefficients = drop (stakes * size w.coefficients) w.coefficients;
-      errors = drop (stakes * size w.errors) w.errors;
-      pruned = drop (stakes * size w.pruned) w.pruned;
-      lower = drop (stakes * size w.lower) w.lower;
-      upper = drop (stakes * size w.upper) w.upper;
-      outliers = drop (stakes * size w.outliers) w.outliers;
-    }
 
 -- of the stakes together: each one's report on the memory as it was found
 pub record EachReports (settings : Settings) (S : SeasonState) (w : Outputs) : Type 0 where
@@ -82,7 +103,7 @@ pub record EachReports (settings : Settings) (S : SeasonState) (w : Outputs) : T
   pub answer : (t : ℕ) → t < stakes → (d : ReportAnswer) → get_or (season_report settings S w).reports t d ≡ (stake_report_out settings t S w).answer
   pub written : (t : ℕ) → t < stakes → parts_of t (season_report settings S w).lent ≡ over_all (stake_report_out settings t S w).written (parts_of t w)
   -- the rest is nobody's, and at most 32 are not refused
-  pub rest : rest_of (season_report settings S w).lent ≡ rest_of w
+  pub rest : seen_of (λ A l. rest l) (season_report settings S w).lent ≡ seen_of (λ A l. rest l) w
   pub most : (season_report settings S w).passed ≤ stakes
 
 -- ---- any list of calls
@@ -123,16 +144,17 @@ WholeStakes =
 
 -- ---- the user's case
 
--- the second of two season reports on the same lent memory, with a correction of stake s between them
-abbrev pub after_correction : Settings → SeasonState → Outputs → ℕ → ℕ → Float → Reported
-after_correction settings S w s i y = season_report settings (season_out s S (corrects i y)).season (season_report settings S w).lent
+-- the second of two season reports on the same lent memory, with calls on stake s between them
+abbrev pub report_after : Settings → SeasonState → Outputs → ℕ → List StakeCall → Reported
+report_after settings S w s cs = season_report settings (fold season_next S (map (names s) cs)) (season_report settings S w).lent
 
 -- Correct one stake, and nothing else, between two season reports with the same settings and lent memory, and the other 31 reports keep their bits, refused or
--- not: the answer, and every written place of the stake's parts.
-pub record KeepsBits (settings : Settings) (S : SeasonState) (w : Outputs) (s i : ℕ) (y : Float) (t : ℕ) : Type 0 where
-  pub answer : (d : ReportAnswer) → get_or (after_correction settings S w s i y).reports t d ≡ get_or (season_report settings S w).reports t d
-  pub written : parts_of t (after_correction settings S w s i y).lent ≡ parts_of t (season_report settings S w).lent
+-- not: the answer, and every written place of the stake's parts. NaNs are one value.
+pub record KeepsBits (settings : Settings) (S : SeasonState) (w : Outputs) (s : ℕ) (cs : List StakeCall) (t : ℕ) : Type 0 where
+  pub answer : (d : ReportAnswer) → get_or (report_after settings S w s cs).reports t d ≡ get_or (season_report settings S w).reports t d
+  pub written : parts_of t (report_after settings S w s cs).lent ≡ parts_of t (season_report settings S w).lent
 
+-- corrections, one or more, are such calls, and so are all others that name the stake
 abbrev pub OneCorrected : Type 0
 OneCorrected =
-    (settings : Settings) (S : SeasonState) (w : Outputs) (s i : ℕ) (y : Float) (t : ℕ) → t < stakes → (t ≡ s → ⊥) → KeepsBits settings S w s i y t
+    (settings : Settings) (S : SeasonState) (w : Outputs) (s : ℕ) (cs : List StakeCall) (t : ℕ) → t < stakes → (t ≡ s → ⊥) → KeepsBits settings S w s cs t
