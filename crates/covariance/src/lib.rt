@@ -215,8 +215,9 @@ pub fn put_pruned(
     count
 }
 
-// Value and prediction variance of each row.
-fn put_values(
+// Value and prediction variance of each row. Inlined, so that a number of coefficients that is written out gives a loop of straight code.
+#[inline(always)]
+fn put_values_by(
     rows: Rows<'_>,
     k: CoefficientCount,
     c: &[f64; TERMS],
@@ -232,6 +233,40 @@ fn put_values(
         let terms = rows.terms(i);
         values[i] = monomial::fitted(k, c, &terms);
         variances[i] = prediction_variance(k, &terms, covariance);
+    }
+}
+
+// The same, with each number of coefficients written out.
+fn put_values(
+    rows: Rows<'_>,
+    k: CoefficientCount,
+    c: &[f64; TERMS],
+    covariance: &[f64; MATRIX],
+    values: &mut [f64],
+    variances: &mut [f64],
+)
+    requires { (k.0 ≤ max_terms) × (length rows.ys.now ≤ length values.old) × (length rows.ys.now ≤ length variances.old) }
+    ensures values_after { values.new ≡ each (λ i _. fitted k.0 c.now (terms_at rows.entry.basis (get_or rows.entry.xs.now i nan) (get_or rows.entry.zs.now i nan))) (length rows.entry.ys.now) values.old }
+    ensures variances_after { variances.new ≡ each (λ i _. prediction_variance k.0 (terms_at rows.entry.basis (get_or rows.entry.xs.now i nan) (get_or rows.entry.zs.now i nan)) covariance.now) (length rows.entry.ys.now) variances.old }
+{
+    match k.0 {
+        1 => put_values_by(rows, CoefficientCount(1), c, covariance, values, variances),
+        2 => put_values_by(rows, CoefficientCount(2), c, covariance, values, variances),
+        3 => put_values_by(rows, CoefficientCount(3), c, covariance, values, variances),
+        4 => put_values_by(rows, CoefficientCount(4), c, covariance, values, variances),
+        5 => put_values_by(rows, CoefficientCount(5), c, covariance, values, variances),
+        6 => put_values_by(rows, CoefficientCount(6), c, covariance, values, variances),
+        7 => put_values_by(rows, CoefficientCount(7), c, covariance, values, variances),
+        8 => put_values_by(rows, CoefficientCount(8), c, covariance, values, variances),
+        9 => put_values_by(rows, CoefficientCount(9), c, covariance, values, variances),
+        10 => put_values_by(rows, CoefficientCount(10), c, covariance, values, variances),
+        11 => put_values_by(rows, CoefficientCount(11), c, covariance, values, variances),
+        12 => put_values_by(rows, CoefficientCount(12), c, covariance, values, variances),
+        13 => put_values_by(rows, CoefficientCount(13), c, covariance, values, variances),
+        14 => put_values_by(rows, CoefficientCount(14), c, covariance, values, variances),
+        15 => put_values_by(rows, CoefficientCount(15), c, covariance, values, variances),
+        16 => put_values_by(rows, CoefficientCount(16), c, covariance, values, variances),
+        _ => put_values_by(rows, k, c, covariance, values, variances),
     }
 }
 

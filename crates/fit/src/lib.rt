@@ -32,8 +32,10 @@ fn residual(rows: Rows<'_>, k: CoefficientCount, c: &[f64; TERMS], i: usize) -> 
     rows.ys[i] - monomial::fitted_at(rows.basis, k, c, rows.xs[i], rows.zs[i])
 }
 
-// The first places of scratch become the sizes of the residuals. Answers whether every residual is finite.
-pub fn sizes(rows: Rows<'_>, k: CoefficientCount, c: &[f64; TERMS], scratch: &mut [f64]) -> bool
+// The first places of scratch become the sizes of the residuals. Answers whether every residual is finite. Inlined, so that a number of coefficients that is
+// written out gives a loop of straight code.
+#[inline(always)]
+fn sizes_by(rows: Rows<'_>, k: CoefficientCount, c: &[f64; TERMS], scratch: &mut [f64]) -> bool
     requires { (length rows.ys.now ≤ length scratch.old) × (k.0 ≤ max_terms) }
     ensures is { result ≡ all_of finite (residuals k.0 c.now (rows_read rows.entry)) }
     ensures written { scratch.new ≡ map abs_f (residuals k.0 c.now (rows_read rows.entry)) ++ drop (length rows.entry.ys.now) scratch.old }
@@ -46,6 +48,33 @@ pub fn sizes(rows: Rows<'_>, k: CoefficientCount, c: &[f64; TERMS], scratch: &mu
         scratch[i] = value::abs(r);
     }
     all
+}
+
+// The same, with each number of coefficients written out.
+pub fn sizes(rows: Rows<'_>, k: CoefficientCount, c: &[f64; TERMS], scratch: &mut [f64]) -> bool
+    requires { (length rows.ys.now ≤ length scratch.old) × (k.0 ≤ max_terms) }
+    ensures is { result ≡ all_of finite (residuals k.0 c.now (rows_read rows.entry)) }
+    ensures written { scratch.new ≡ map abs_f (residuals k.0 c.now (rows_read rows.entry)) ++ drop (length rows.entry.ys.now) scratch.old }
+{
+    match k.0 {
+        1 => sizes_by(rows, CoefficientCount(1), c, scratch),
+        2 => sizes_by(rows, CoefficientCount(2), c, scratch),
+        3 => sizes_by(rows, CoefficientCount(3), c, scratch),
+        4 => sizes_by(rows, CoefficientCount(4), c, scratch),
+        5 => sizes_by(rows, CoefficientCount(5), c, scratch),
+        6 => sizes_by(rows, CoefficientCount(6), c, scratch),
+        7 => sizes_by(rows, CoefficientCount(7), c, scratch),
+        8 => sizes_by(rows, CoefficientCount(8), c, scratch),
+        9 => sizes_by(rows, CoefficientCount(9), c, scratch),
+        10 => sizes_by(rows, CoefficientCount(10), c, scratch),
+        11 => sizes_by(rows, CoefficientCount(11), c, scratch),
+        12 => sizes_by(rows, CoefficientCount(12), c, scratch),
+        13 => sizes_by(rows, CoefficientCount(13), c, scratch),
+        14 => sizes_by(rows, CoefficientCount(14), c, scratch),
+        15 => sizes_by(rows, CoefficientCount(15), c, scratch),
+        16 => sizes_by(rows, CoefficientCount(16), c, scratch),
+        _ => sizes_by(rows, k, c, scratch),
+    }
 }
 
 // A solution from the sums: the pivots tested, and its coefficients if it is solved.

@@ -1,3 +1,4 @@
 pub mod Others
 pub mod Own
 pub mod Means
+pub mod Reaching

@@ -1,7 +1,6 @@
 -- The sums over the rows before a fold grow from fold to fold, and those from its end on are added to a copy of them: both in the corner of k rows
 -- and columns.
-use Rattle.std.proofs.Common.{◌≡◌, ℕ, ◌+◌, ◌<◌, ◌≤◌, List, length, take, drop, replicate, sym, ap, ◌∙◌, arith}
-use mathlib.Core.List.{◌++◌}
+use Rattle.std.proofs.Common.{◌≡◌, ℕ, ◌+◌, ◌<◌, ◌≤◌, List, length, take, drop, replicate, arith}
 use lib.Ieee.{Float}
 use Rattle.loops.specs.Fold.{fold}
 use Rattle.value.specs.Numbers.{zero_f}

@@ -1,16 +1,27 @@
 -- A fold's own part of the sizes in scratch, and its score.
-use Rattle.std.proofs.Common.{◌≡◌, ℕ, ◌-◌, ◌≤◌, List, map, length, take, drop, sym, ap, ◌∙◌, arith, length-drop, length-take}
-use Rattle.std.specs.Prelude.{Option}
+use Rattle.std.proofs.Common.{◌≡◌, refl, ℕ, ◌+◌, ◌-◌, ◌<◌, ◌≤◌, Bool, true, false, ◌&&◌, eqb, List, ◌++◌, map, length, take, drop, sym, ap, ◌∙◌, arith, length-append, length-drop, length-take, drop_at, drop-drop, eq-eqb, ne_eqb}
+use mathlib.Core.List.{append_assoc}
+use Rattle.std.proofs.lemmas.List.{drop-take}
+use Rattle.std.specs.Prelude.{Option, Some}
 use lib.Ieee.{Float}
-use Rattle.loops.specs.PlaceLaws.{part_take, map_part}
+use Rattle.loops.specs.Fold.{all_of}
+use Rattle.loops.specs.Within.{Within}
 use Rattle.value.specs.Absolute.{abs_f}
+use Rattle.value.specs.Finite.{finite}
+use Rattle.value.specs.Total.{total_f}
+use Rattle.statistics.specs.Losses.{losses}
+use Rattle.statistics.specs.LossLaws.{losses_sizes}
 use Rattle.monomial.specs.Rows.{Row, WeightedRow, rows_in}
 use Rattle.monomial.specs.Sums.{sums_of}
 use Rattle.monomial.specs.SumLaws.{length_sums}
 use Rattle.monomial.specs.Corner.{SameCorner}
+use Rattle.solve.specs.Solve.{solve}
+use Rattle.solve.specs.SolveLaws.{solve_at_most}
+use Rattle.score.specs.Score.{score_of}
 use Rattle.score.specs.declared.Criterion.{Criterion}
-use Rattle.fit.specs.Residuals.{residual, residuals}
-use Rattle.fit.specs.Solved.{scored_by}
+use Rattle.fit.specs.Residuals.{residuals}
+use Rattle.fit.specs.Solved.{is_solved, scored_by}
+use Rattle.fit.specs.SolvedLaws.{scored_is}
 use Rattle.fit.specs.Corner.{scored_corner}
 use Rattle.folds.specs.Folds.{start_of, end_of, own_of, others_of, fold_scored}
 
@@ -18,15 +29,6 @@ use Rattle.folds.specs.Folds.{start_of, end_of, own_of, others_of, fold_scored}
 pub length_own : (start end : ℕ) (rows : List Row) (s : List Float) → end ≤ length rows → end ≤ length s → length (own_of start end rows) ≡ length (take (end - start) (drop start s))
 unfolding own_of
 length_own start end rows s h g = simp (length-take, length-drop) (omega arith)
-
--- scratch is lent from start to end
-module _ (start end n : ℕ) (s : List Float) (h : start ≤ end) (g : end ≤ n) where
-  pub own_sizes : (k : ℕ) (c : List Float) (rows : List Row) → take n s ≡ map abs_f (residuals k c rows)
-      → take (end - start) (drop start s) ≡ map abs_f (residuals k c (own_of start end rows))
-  unfolding residuals own_of
-  own_sizes k c rows e =
-      sym (part_take start (end - start) n s (omega arith)) ∙ ap (λ r. take (end - start) (drop start r)) e
-      ∙ sym (ap (map abs_f) (map_part (residual k c) start (end - start) rows) ∙ map_part abs_f start (end - start) (map (residual k c) rows))
 
 -- what a fold says of k coefficients, from sums that are those over the others in the corner of m rows and columns
 pub fold_scored_lem : (criterion : Criterion) (rows : List WeightedRow) (plain : List Row) (n folds k m f start end : ℕ) (sums : List Float) (r : Option Float) → length rows ≡ n → rows_in rows ≡ plain
@@ -36,3 +38,56 @@ unfolding fold_scored
 fold_scored_lem criterion rows plain n folds k m f start end sums r l e a b u v g w h =
     rw (l, e, ← a, ← b)
     (h ∙ scored_corner m u sums (sums_of (others_of start end rows)) g (omega (arith, length_sums (others_of start end rows))) w criterion plain (own_of start end plain) k v)
+
+-- ---- scratch, of which a part was lent and came back as q
+
+drop_part : {A : Type 0} (n a k : ℕ) (m q : List A) → a + k ≤ n → n ≤ length m → length q ≡ k → drop n (take a m ++ (q ++ drop k (drop a m))) ≡ drop n m
+drop_part {A} n a k m q h l z =
+    let j = n - (a + k) in
+    let e : a + k + j ≡ n = omega arith in
+    let front : length (take a m ++ q) ≡ a + k = simp (length-append, length-take) (omega (arith, z)) in
+    let back : drop (a + k) (take a m ++ (q ++ drop k (drop a m))) ≡ drop (a + k) m =
+    ap (drop (a + k)) (sym (append_assoc (take a m) q (drop k (drop a m)))) ∙ drop_at (take a m ++ q) (drop k (drop a m)) (a + k) front ∙ drop-drop k a m in
+    ap (λ i. drop i (take a m ++ (q ++ drop k (drop a m)))) (sym e) ∙ sym (drop-drop j (a + k) (take a m ++ (q ++ drop k (drop a m)))) ∙ ap (drop j) back
+    ∙ drop-drop j (a + k) m ∙ ap (λ i. drop i m) e
+
+pub within_part : (n start end : ℕ) (s m q : List Float) → start ≤ end → end ≤ n → n ≤ length s → Within n s m → length q ≡ end - start
+    → Within n s (take start m ++ (q ++ drop (end - start) (drop start m)))
+within_part n start end s m q g h l w z =
+    record {
+      long = simp (length-append, length-take, length-drop) (omega (arith, z, w.long));
+      rest = drop_part n start (end - start) m q (omega arith) (omega (arith, w.long)) z ∙ w.rest;
+    }
+
+-- ---- whether a fold solves k coefficients
+
+module _ (sums : List Float) (rows : List Row) (k : ℕ) where
+  pub pivot_failed : (solve sums k).held < k → is_solved sums rows k ≡ false
+  unfolding is_solved
+  pivot_failed h = rw (ne_eqb (solve sums k).held k (λ q. omega arith)) refl
+
+  pub one_infinite : false ≡ all_of finite (residuals k (solve sums k).c rows) → is_solved sums rows k ≡ false
+  unfolding is_solved
+  one_infinite h = rw (← h) (go (eqb (solve sums k).held k))
+    where
+      go : (t : Bool) → (t && false) ≡ false
+      go true = refl
+      go false = refl
+
+  pub all_solved : k ≤ (solve sums k).held → true ≡ all_of finite (residuals k (solve sums k).c rows) → is_solved sums rows k ≡ true
+  unfolding is_solved
+  all_solved g h = rw (← h, eq-eqb (solve sums k).held k (omega (arith, g, solve_at_most sums k))) refl
+
+-- the score on the fold's own rows, where it solves them
+pub own_scored : (criterion : Criterion) (sums : List Float) (rows part : List Row) (k start end : ℕ) (s : List Float) (v : Float) → is_solved sums rows k ≡ true → part ≡ drop start (take end rows)
+    → start ≤ end → end ≤ length rows → end ≤ length s
+    → v ≡ score_of criterion (length (take (end - start) (drop start s))) k (total_f (losses (residuals k (solve sums k).c part))) → Some v ≡ scored_by criterion sums rows (own_of start end rows) k
+unfolding own_of
+own_scored criterion sums rows part k start end s v solved e h g l w =
+    let n = length (take (end - start) (drop start s)) in
+    let c = (solve sums k).c in
+    let own = take (end - start) (drop start rows) in
+    let whole : start + (end - start) ≡ end = omega arith in
+    let cut : part ≡ own = e ∙ ap (λ m. drop start (take m rows)) (sym whole) ∙ drop-take start (end - start) rows in
+    scored_is criterion sums rows own k solved n (map abs_f (residuals k c own)) v (length_own start end rows s g l) refl
+    (w ∙ ap (λ r. score_of criterion n k (total_f (losses (residuals k c r)))) cut ∙ sym (ap (λ ls. score_of criterion n k (total_f ls)) (losses_sizes (residuals k c own))))

@@ -2,3 +2,5 @@ pub mod Folds
 pub mod FoldLaws
 pub mod Tallies
 pub mod TallyLaws
+pub mod Reach
+pub mod ReachLaws

@@ -1,6 +1,8 @@
 // k-fold cross-validation: polyfit's `new_kfold_cross_validated`.
 #![tactic(auto)]
 
+mod reach;
+
 ghost use Rattle.std.specs.Prelude.{◌≡◌, ◌+◌, ◌<◌, ◌≤◌, length, take, drop};
 ghost use Rattle.basis.specs.Sizes.{highest_degree, max_terms, sum_places};
 ghost use Rattle.loops.specs.Within.{Within};
@@ -10,12 +12,18 @@ ghost use Rattle.monomial.specs.Reading.{rows_read, weighted_read};
 ghost use Rattle.monomial.specs.Sums.{add_rows, sums_of};
 ghost use Rattle.monomial.specs.Corner.{SameCorner};
 ghost use Rattle.choice.specs.Choice.{chosen_of};
+ghost use Rattle.value.specs.Total.{total_f};
+ghost use Rattle.statistics.specs.Losses.{losses};
+ghost use Rattle.score.specs.Score.{score_of};
+ghost use Rattle.fit.specs.Residuals.{residuals};
 ghost use Rattle.fit.specs.Solved.{scored_by};
+ghost use Rattle.folds.specs.Reach.{Reached};
 ghost use Rattle.folds.specs.Folds.{start_of, end_of, own_of, degree_scored, mean_of, validated_choice};
 ghost use Rattle.folds.specs.Tallies.{added, mean_at, Tallied};
 
 use basis::{Basis, CoefficientCount, Degree, SUMS, TERMS};
 use monomial::Rows;
+use reach::Reach;
 use score::Criterion;
 
 // Where fold f begins.
@@ -62,9 +70,26 @@ fn pass_fold(rows: Rows<'_>, folds: usize, f: usize, k: CoefficientCount, before
     monomial::add_corner(rows.part(start, end), k, before);
 }
 
+// The score of a curve on rows, whose sizes of residuals are left in scratch.
+fn score_rows(
+    rows: Rows<'_>,
+    k: CoefficientCount,
+    c: &[f64; TERMS],
+    criterion: Criterion,
+    scratch: &mut [f64],
+) -> f64
+    requires { (length rows.ys.now ≡ length scratch.old) × (k.0 ≤ max_terms) }
+    ensures scored { result ≡ score_of criterion (length scratch.old) k.0 (total_f (losses (residuals k.0 c.now (rows_read rows.entry)))) }
+    ensures long { length scratch.new ≡ length scratch.old }
+{
+    fit::sizes(rows, k, c, &mut *scratch);
+    fit::score_on(criterion, scratch, k)
+}
+
 // A degree solved from the sums, and scored on the rows from start to end.
 fn score_fold(
     rows: Rows<'_>,
+    reach: Reach,
     start: usize,
     end: usize,
     sums: &[f64],
@@ -72,14 +97,21 @@ fn score_fold(
     criterion: Criterion,
     scratch: &mut [f64],
 ) -> Option<f64>
-    requires { (length rows.ys.now ≤ length scratch.old) × (start ≤ end) × (end ≤ length rows.ys.now) × (sum_places ≤ length sums.now) × (degree.0 ≤ highest_degree) }
+    requires { (length rows.ys.now ≤ length scratch.old) × (start ≤ end) × (end ≤ length rows.ys.now) × (sum_places ≤ length sums.now) × (degree.0 ≤ highest_degree) × Reached rows reach }
     ensures scored { result ≡ scored_by criterion sums.now (rows_read rows.entry) (own_of start end (rows_read rows.entry)) (count_of Curve degree.0) }
     ensures within { Within (length rows.entry.ys.now) scratch.old scratch.new }
 {
     let k = degree.k(Basis::Curve);
-    let a = fit::attempt(rows, sums, k, &mut *scratch);
-    a.c?;
-    Some(fit::score_on(criterion, &scratch[start..end], k))
+    let solved = solve::solve(sums, k);
+    if solved.held < k.0 {
+        return None;
+    }
+    let c = solved.c;
+    if !reach::all_finite(rows, reach, k, &c, &mut *scratch) {
+        return None;
+    }
+    let own = rows.part(start, end);
+    Some(score_rows(own, k, &c, criterion, &mut scratch[start..end]))
 }
 
 // The scores of the folds that solved a degree: their total, and how many they are.
@@ -118,6 +150,7 @@ impl Tally {
 // One fold more, from the sums over the rows before it. Its own sums are folded once and serve every degree.
 fn add_fold(
     rows: Rows<'_>,
+    reach: Reach,
     folds: usize,
     f: usize,
     b: usize,
@@ -127,6 +160,7 @@ fn add_fold(
     tallies: &mut [Tally],
 )
     requires f_in_bounds { (length rows.ys.now ≤ length scratch.old) × (f < folds) × (b ≤ max_terms) }
+    requires in_reach { Reached rows reach }
     requires same_corner { SameCorner b before (sums_of (take (start_of (length rows.ys.now) folds f) (weighted_read rows))) }
     requires tallied_before { Tallied (degree_scored criterion (weighted_read rows) folds) f b tallies.old }
     ensures tallied { Tallied (degree_scored criterion (weighted_read rows.entry) folds) (f + 1) b tallies.new }
@@ -139,7 +173,16 @@ fn add_fold(
     // by index, the degree: of an `iter_mut` behind `enumerate` a proof knows no element
     for d in 0..b {
         let degree = Degree(d);
-        let s = score_fold(rows, start, end, &sums, degree, criterion, &mut *scratch);
+        let s = score_fold(
+            rows,
+            reach,
+            start,
+            end,
+            &sums,
+            degree,
+            criterion,
+            &mut *scratch,
+        );
         tallies[d] = tallies[d].add(s);
     }
 }
@@ -166,6 +209,7 @@ pub fn choose_by_folds(
     ensures within { Within (length rows.entry.ys.now) scratch.old scratch.new }
 {
     let b = bound.0 + 1;
+    let reach = Reach::of(rows);
     let mut before = [0.0; SUMS];
     let mut tallies = [Tally {
         total: 0.0,
@@ -174,6 +218,7 @@ pub fn choose_by_folds(
     for f in 0..folds {
         add_fold(
             rows,
+            reach,
             folds,
             f,
             b,

@@ -1,5 +1,5 @@
 -- Laws of Reports.antt.
-use Rattle.std.specs.Prelude.{ℕ, ◌≤◌, Ok, Err}
+use Rattle.std.specs.Prelude.{◌≤◌, Ok, Err}
 use Rattle.std.proofs.Common.{arith}
 use Rattle.reporting.specs.Reports.{ReportAnswer}
 use Rattle.season_report.specs.Reports.{passes}

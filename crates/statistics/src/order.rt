@@ -18,6 +18,9 @@ const FEW: usize = 512;
 // The copying pays above so many numbers.
 const MANY: usize = 2048;
 
+// So many are sampled, to know about where a place lies.
+const SAMPLE: usize = 31;
+
 // The bits of ||x| − d|.
 fn key(x: f64, d: f64) -> u64
     requires { Plain (abs_f (sub binary64 (abs_f x) d)) }
@@ -59,10 +62,12 @@ struct Pair {
     high: u64,
 }
 
-// How a range is cut: first at some number of the list, then by rank, and in half so that it shrinks soon whatever the numbers are.
+// How a range is cut: first at two numbers of a sample, above and below the place that is looked for, then by rank, and in half so that it shrinks soon
+// whatever the numbers are.
 #[derive(Clone, Copy)]
 enum Cut {
-    At(u64),
+    Both(Pair),
+    Low(u64),
     ByRank,
     InHalf,
 }
@@ -71,7 +76,8 @@ impl Cut {
     // The next one: in half after a cut that left more than about three quarters of those in the range, but not twice running.
     fn next(self, were: usize, left: usize) -> Cut {
         match self {
-            Cut::InHalf => Cut::ByRank,
+            Cut::Both(p) => Cut::Low(p.low),
+            Cut::Low(_) | Cut::InHalf => Cut::ByRank,
             _ if left / 3 > were / 4 => Cut::InHalf,
             _ => Cut::ByRank,
         }
@@ -117,7 +123,8 @@ impl Range {
         ensures { (self.lo ≤ result) × (result < self.hi) }
     {
         match how {
-            Cut::At(k) => self.within(k),
+            Cut::Both(p) => self.within(p.high),
+            Cut::Low(k) => self.within(k),
             Cut::ByRank if self.hi == INFINITY => self.within(self.lo + 0x20_0000_0000_0000),
             Cut::ByRank => self.within(self.by_rank(m)),
             Cut::InHalf => self.lo + (self.hi - self.lo) / 2,
@@ -187,21 +194,38 @@ impl Deviations<'_> {
         Pair { low, high }
     }
 
-    // The middle one of three: the bits of the first number, of the last, and of one between. A guess at those at a place in the middle.
-    fn sampled(&self) -> u64
-        requires { 0 < length self.now }
+    // The bits of the numbers at evenly spread places, in order: each goes before those that are greater.
+    fn sampled(&self) -> [u64; SAMPLE]
+        requires { SAMPLE ≤ length self.now }
+    {
+        let step = self.len() / SAMPLE;
+        let mut sample = [0; SAMPLE];
+        for i in 0..SAMPLE {
+            let k = self.key_at(i * step);
+            let mut j = i;
+            while 0 < j && k < sample[j - 1] {
+                sample[j] = sample[j - 1];
+                j -= 1;
+            }
+            sample[j] = k;
+        }
+        sample
+    }
+
+    // Where to cut first to look for place m: a little above it and a little below, by a sample. A guess; of few numbers, at the middle one.
+    fn first_cut(&self, m: usize) -> Cut
+        requires { m < length self.now }
     {
         let n = self.len();
-        let x = self.key_at(0);
-        let y = self.key_at(n / 2);
-        let z = self.key_at(n - 1);
-        if (x < y) == (y < z) {
-            y
-        } else if (x < y) == (z < x) {
-            x
-        } else {
-            z
+        if n < SAMPLE {
+            return Cut::Low(self.key_at(n / 2));
         }
+        let sample = self.sampled();
+        let rank = (m / (n / SAMPLE)).min(SAMPLE - 1);
+        Cut::Both(Pair {
+            low: sample[rank.saturating_sub(3)],
+            high: sample[(rank + 3).min(SAMPLE - 1)],
+        })
     }
 
     // Copies the numbers whose bits lie from lo to hi, and answers how many they are. Each number is written, and the next one over it where it does not lie
@@ -228,7 +252,7 @@ impl Deviations<'_> {
         ensures is { Narrowed self.now m few result.lo result.hi result.below }
         ensures plain { All Plain self.now }
     {
-        let mut how = Cut::At(self.sampled());
+        let mut how = self.first_cut(m);
         let mut gap = false;
         let mut r = Range {
             lo: 0,

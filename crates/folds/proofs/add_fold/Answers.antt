@@ -38,7 +38,7 @@ pub score_fold-s-requires : goal.score_fold-s-requires
 score_fold-s-requires c =
     let l = start_end (length c.args.rows.ys.now) c.args.folds c.args.f (search rules) in
     let g = end_below (length c.args.rows.ys.now) c.args.folds c.args.f (search rules) in
-    (omega (arith, c.loop-d.invariant.1.long, c.requires.f_in_bounds), omega (arith, l, c.start_of-start.ensures, c.end_of-end.ensures), omega (arith, g, c.end_of-end.ensures), omega (arith, c.fold_others-sums.ensures.long), search rules)
+    (omega (arith, c.loop-d.invariant.1.long, c.requires.f_in_bounds), omega (arith, l, c.start_of-start.ensures, c.end_of-end.ensures), omega (arith, g, c.end_of-end.ensures), omega (arith, c.fold_others-sums.ensures.long), search rules, c.requires.in_reach)
 
 pub add-requires : goal.add-requires
 add-requires c =

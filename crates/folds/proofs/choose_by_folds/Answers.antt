@@ -11,7 +11,7 @@ pub loop-f-init : goal.loop-f-init
 loop-f-init c = (search rules, within_itself _ _, tallied_none _ _ (search rules), λ h. begun _ _ _ _)
 
 pub add_fold-requires : goal.add_fold-requires
-add_fold-requires c = record { f_in_bounds = (omega (arith, c.loop-f.invariant.1.long, c.requires), search rules, search rules); same_corner = c.loop-f.invariant.3 c.loop-f-test.true; tallied_before = c.loop-f.invariant.2 }
+add_fold-requires c = record { f_in_bounds = (omega (arith, c.loop-f.invariant.1.long, c.requires), search rules, search rules); in_reach = c.of-reach.ensures; same_corner = c.loop-f.invariant.3 c.loop-f-test.true; tallied_before = c.loop-f.invariant.2 }
 
 pub pass_fold-requires : goal.pass_fold-requires
 pass_fold-requires c = record { f_in_bounds = (search rules, search rules); same_corner = c.loop-f.invariant.3 c.loop-f-test.true }

@@ -1,36 +1,60 @@
--- `folds::score_fold` meets its contract.
-use Rattle.std.proofs.Common.{ℕ, ap, ◌∙◌, arith, rules, length}
+-- `folds::score_fold` meets its contract: a pivot that fails, a residual that is not finite, and a score on the fold's own rows.
+use Rattle.std.proofs.Common.{ap, sym, ◌∙◌, arith, rules, length, length-take, length-drop}
 use Rattle.basis.specs.CountLaws.{curve_count}
+use Rattle.loops.specs.Fold.{all_of}
+use Rattle.value.specs.Finite.{finite}
 use Rattle.monomial.specs.Reading.{rows_read}
 use Rattle.monomial.specs.ReadingLaws.{length_rows_read}
-use Rattle.solve.specs.Solve.{solve}
+use Rattle.solve.specs.declared.Solved.{Solved}
+use Rattle.fit.specs.Residuals.{residuals}
 use Rattle.fit.specs.Solved.{scored_by}
-use Rattle.fit.specs.SolvedLaws.{solved_some, solved_none, scored_not, scored_is}
+use Rattle.fit.specs.SolvedLaws.{scored_not}
 use Rattle.folds.specs.Folds.{own_of}
-use Rattle.folds.proofs.Own.{length_own, own_sizes}
+use Rattle.folds.proofs.Own.{within_part, pivot_failed, one_infinite, all_solved, own_scored}
 use Rattle.folds.proofs.score_fold.Goals as goal
 
-pub attempt-a-requires : goal.attempt-a-requires
-attempt-a-requires c = (search rules, search rules, omega (arith, c.k-k.ensures, curve_count c.args.degree.0))
+pub solve-solved-requires : goal.solve-solved-requires
+solve-solved-requires c = (search rules, omega (arith, c.k-k.ensures, curve_count c.args.degree.0))
 
-pub returns-in_err-a : goal.returns-in_err-a
-returns-in_err-a c =
+pub returns-then-solved-k-clause-scored : goal.returns-then-solved-k-clause-scored
+returns-then-solved-k-clause-scored c =
     let rows = rows_read c.args.rows in
-    let e = ap (λ (m : ℕ). scored_by c.args.criterion c.args.sums.now rows (own_of c.args.start c.args.end rows) m) c.k-k.ensures in
-    record {
-      scored = c.from_residual.ensures ∙ scored_not c.args.criterion c.args.sums.now _ _ c.k-k.result.0 (solved_none _ _ _ c.attempt-a.ensures.coefficients c.in_err-a.was) ∙ e;
-      within = c.attempt-a.ensures.within;
-    }
+    let sums = c.args.sums.now in
+    scored_not c.args.criterion sums rows (own_of c.args.start c.args.end rows) c.k-k.result.0 (pivot_failed sums rows c.k-k.result.0 (rw c.solve-solved.ensures at c.if-solved-k.true))
+    ∙ ap (scored_by c.args.criterion sums rows (own_of c.args.start c.args.end rows)) c.k-k.ensures
+
+pub all_finite-requires : goal.all_finite-requires
+all_finite-requires c = (search rules, omega (arith, c.k-k.ensures, curve_count c.args.degree.0), c.requires.5)
+
+pub returns-then-not-all_finite-clause-scored : goal.returns-then-not-all_finite-clause-scored
+returns-then-not-all_finite-clause-scored c =
+    let rows = rows_read c.args.rows in
+    let sums = c.args.sums.now in
+    let k = c.k-k.result.0 in
+    let e = ap (λ (s : Solved). all_of finite (residuals k s.c rows)) c.solve-solved.ensures in
+    scored_not c.args.criterion sums rows (own_of c.args.start c.args.end rows) k (one_infinite sums rows k (sym c.if-not-all_finite.true ∙ c.all_finite.ensures.is ∙ e))
+    ∙ ap (scored_by c.args.criterion sums rows (own_of c.args.start c.args.end rows)) c.k-k.ensures
+
+pub score_rows-requires : goal.score_rows-requires
+score_rows-requires c =
+    (simp (length-take, length-drop) (omega (arith, c.part-own.ensures.long, c.all_finite.ensures.within.long, c.requires)), omega (arith, c.k-k.ensures, curve_count c.args.degree.0))
 
 pub returns : goal.returns
 returns c =
     let rows = rows_read c.args.rows in
-    let solved = (solved_some c.args.sums.now rows c.k-k.result.0 _ c.attempt-a.ensures.coefficients c.in_ok-a.was).0 in
-    let sized = length_rows_read c.args.rows in
-    let e = ap (λ (m : ℕ). scored_by c.args.criterion c.args.sums.now rows (own_of c.args.start c.args.end rows) m) c.k-k.ensures in
+    let sums = c.args.sums.now in
+    let k = c.k-k.result.0 in
+    let start = c.args.start in
+    let end = c.args.end in
+    let m = c.all_finite.new.scratch in
+    let kept = c.all_finite.ensures.within in
+    let e = ap (λ (s : Solved). all_of finite (residuals k s.c rows)) c.solve-solved.ensures in
+    let solved = all_solved sums rows k (rw c.solve-solved.ensures at c.if-solved-k.false) (sym c.if-not-all_finite.false ∙ c.all_finite.ensures.is ∙ e) in
+    let scored = rw c.solve-solved.ensures at c.score_rows.ensures.scored in
     record {
-      scored = scored_is c.args.criterion c.args.sums.now rows (own_of c.args.start c.args.end rows) c.k-k.result.0 solved _ _ _ (length_own c.args.start c.args.end rows c.attempt-a.new.scratch (omega (arith, sized, c.requires)) (omega (arith, c.requires)))
-          (own_sizes c.args.start c.args.end (length c.args.rows.ys.now) _ c.requires.1 c.requires.2 c.k-k.result.0 (solve c.args.sums.now c.k-k.result.0).c rows (c.attempt-a.ensures.sizes solved)) c.score_on.ensures
-          ∙ e;
-      within = c.attempt-a.ensures.within;
+      scored = own_scored c.args.criterion sums rows (rows_read c.part-own.result) k start end m c.score_rows.result solved c.part-own.ensures.rows c.requires.1
+          (omega (arith, length_rows_read c.args.rows, c.requires.2)) (omega (arith, kept.long, c.requires)) scored
+          ∙ ap (scored_by c.args.criterion sums rows (own_of start end rows)) c.k-k.ensures;
+      within = within_part (length c.args.rows.ys.now) start end c.args.scratch.now m c.score_rows.new.scratch c.requires.1 c.requires.2 c.requires.0 kept
+          (c.score_rows.ensures.long ∙ simp (length-take, length-drop) (omega (arith, kept.long, c.requires)));
     }

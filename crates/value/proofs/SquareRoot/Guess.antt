@@ -1,31 +1,10 @@
--- A guessed root held against the squares: what `distance` measures, and that the guess or a neighbour is then the closest.
-use Rattle.std.proofs.Common.{◌≡◌, ℕ, zero, suc, ◌+◌, ◌-◌, ◌*◌, ◌/◌, ◌%◌, ◌^◌, ◌<◌, ◌≤◌, Bool, true, false, cond, ◌&&◌, ltb, leb, sym, refl, ap, ◌∙◌, subst, add-one, add-zero, arith, ltb-false, ltb-true, le-ltb, lt-ltb, leb-false, leb-true}
+-- A guessed root held against the squares: the guess or a neighbour is the closest.
+use Rattle.std.proofs.Common.{◌≡◌, ℕ, zero, suc, ◌+◌, ◌-◌, ◌*◌, ◌^◌, ◌<◌, ◌≤◌, Bool, true, false, cond, ◌&&◌, ltb, leb, sym, refl, ap, ◌∙◌, add-one, add-zero, arith, ltb-false, ltb-true, le-ltb, lt-ltb, leb-false, leb-true}
 use Rattle.std.proofs.Math.Nat.{sub-zero}
 use Rattle.std.specs.Int.{from_bool}
-use Rattle.std.specs.Prelude.{Option, None, Some, SomeIff, IfSome}
 use Rattle.loops.specs.Cases.{either, and_first, and_second}
 use Rattle.value.specs.Root.{closest_root}
 use Rattle.value.proofs.SquareRoot.Numbers.{closest_root_is}
-
--- ---- r is a * 2 ^ 26 + q
-parts : (r : ℕ) → r ≡ r / 0x400_0000 * 0x400_0000 + r % 0x400_0000
-parts r = omega arith
-
--- what `checked_sub` gives is the difference
-pub difference : {P : Type 0} {v : ℕ} (o : Option ℕ) (Q : ℕ → Type 0) → SomeIff o P v → (P → Q v) → IfSome o Q
-difference None Q h k = tt
-difference (Some x) Q h k = subst Q (sym h.1) (k h.0)
-
--- over is m - a ^ 2, and rest is over * 2 ^ 26 + 2 ^ 30 - 2 * a * q
-measured : (m a q over rest : ℕ) → a * a + over ≡ m → rest + 2 * (a * q) ≡ over * 0x400_0000 + 0x4000_0000 → q * q ≤ rest * 0x400_0000
-    → (a * 0x400_0000 + q) * (a * 0x400_0000 + q) + (rest * 0x400_0000 - q * q) ≡ m * 2 ^ 52 + 2 ^ 56
-measured m a q over rest e f h = omega arith
-
-pub distance_is : (m r over rest : ℕ) → r / 0x400_0000 * (r / 0x400_0000) + over ≡ m → rest + 2 * (r / 0x400_0000 * (r % 0x400_0000)) ≡ over * 0x400_0000 + 0x4000_0000
-    → r % 0x400_0000 * (r % 0x400_0000) ≤ rest * 0x400_0000 → r * r + (rest * 0x400_0000 - r % 0x400_0000 * (r % 0x400_0000)) ≡ m * 2 ^ 52 + 2 ^ 56
-distance_is m r over rest e f h =
-    ap (λ (x : ℕ). x * x + (rest * 0x400_0000 - r % 0x400_0000 * (r % 0x400_0000))) (parts r)
-    ∙ measured m (r / 0x400_0000) (r % 0x400_0000) over rest e f h
 
 -- ---- the closest, by the squares: √n is above r - 1/2 and not above r + 1/2
 at_least : (n r : ℕ) → n < 4 ^ 53 → n ≤ r * r + r → r * r ≤ n → r ≡ closest_root n

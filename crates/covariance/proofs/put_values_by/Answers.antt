@@ -1,11 +1,11 @@
--- `covariance::put_values` meets its contract. The loop's invariant: the places passed are written.
+-- `covariance::put_values_by` meets its contract. The loop's invariant: the places passed are written.
 use mathlib.Core.Path.{◌≡◌, refl, ◌∙◌}
 use native.Mathlib.Omega.{arith}
 use borrow.Author.Rules.{rules}
 use lib.ListN.{length, length-set}
 use Rattle.loops.specs.Places.{each}
 use Rattle.covariance.proofs.Rows.{written, written_again}
-use Rattle.covariance.proofs.put_values.Goals as goal
+use Rattle.covariance.proofs.put_values_by.Goals as goal
 
 pub loop-i-init : goal.loop-i-init
 unfolding written each

@@ -1,4 +1,4 @@
--- `fit::sizes` meets its contract.
+-- `fit::sizes_by` meets its contract.
 use mathlib.Core.Path.{◌≡◌, refl, sym, ◌∙◌}
 use mathlib.Core.Bool.{true, ◌&&◌}
 use native.Mathlib.Omega.{arith}
@@ -15,7 +15,7 @@ use Rattle.monomial.specs.Rows.{Row, row_at, rows_at}
 use Rattle.monomial.specs.Reading.{rows_read}
 use Rattle.fit.specs.Residuals.{residual}
 use Rattle.fit.specs.ResidualLaws.{sizes_written, every_residual}
-use Rattle.fit.proofs.sizes.Goals as goal
+use Rattle.fit.proofs.sizes_by.Goals as goal
 
 pub loop-i-init : goal.loop-i-init
 unfolding each fold rows_at table

@@ -1,4 +1,4 @@
--- `covariance::put_values` meets its contract. The loop's invariant: the places passed are written.
+-- `covariance::put_values_by` meets its contract. The loop's invariant: the places passed are written.
 use mathlib.Core.Path.{◌≡◌}
 use Prim.Native.Nat.{◌-◌, ◌≤◌}
 use lib.Ieee.{nan}
@@ -7,7 +7,7 @@ use Rattle.monomial.specs.Terms.{terms_at}
 use Rattle.monomial.specs.Rows.{fitted}
 use Rattle.covariance.specs.Covariance.{prediction_variance}
 use Rattle.covariance.proofs.Rows.{written}
-use Rattle.covariance.proofs.put_values.Given as goal
+use Rattle.covariance.proofs.put_values_by.Given as goal
 
 abbrev pub invariant-loop-i : goal.invariant-loop-i
 invariant-loop-i l = (l.i ≤ length l.rows.ys.now)

@@ -1,4 +1,4 @@
--- `fit::sizes` meets its contract.
+-- `fit::sizes_by` meets its contract.
 use mathlib.Core.Path.{◌≡◌}
 use Prim.Native.Nat.{◌-◌, ◌≤◌}
 use lib.ListN.{length}
@@ -8,7 +8,7 @@ use Rattle.value.specs.Finite.{finite}
 use Rattle.value.specs.Absolute.{abs_f}
 use Rattle.monomial.specs.Rows.{Row, row_at, rows_at}
 use Rattle.fit.specs.Residuals.{residual}
-use Rattle.fit.proofs.sizes.Given as goal
+use Rattle.fit.proofs.sizes_by.Given as goal
 
 abbrev pub invariant-loop-i : goal.invariant-loop-i
 invariant-loop-i l = (l.i ≤ (length l.rows.ys.now)) × (length l.scratch ≡ length l.initial.scratch) × (l.scratch ≡ each (λ t _. abs_f (residual l.k.0 l.c (row_at l.rows.basis l.rows.xs.now l.rows.zs.now l.rows.ys.now t))) l.i l.initial.scratch)
