@@ -19,7 +19,7 @@ pub struct Reach {
     pub along: f64,
 }
 
-// The greatest size of numbers. Where one of them is not finite, it is infinite.
+// A bound on the sizes of numbers: the greatest, or infinity where one of them is not finite. That it is no greater is not promised: it would cost time alone.
 fn greatest(a: &[f64]) -> f64
     ensures { All (Bounds result) a.now }
 {

@@ -1,6 +1,6 @@
 -- A call on one stake: what it makes of that stake's book, and that it leaves every other.
 use mathlib.Core.Path.{◌≡◌, refl, ap, ◌∙◌}
-use mathlib.Core.List.{List, [], ◌∷◌, map}
+use mathlib.Core.List.{List, [], ◌∷◌}
 use Prim.Native.Nat.{ℕ, zero, suc, ◌≤◌, ◌<◌}
 use native.Mathlib.Omega.{arith}
 use lib.ListN.{length, length-set}
@@ -14,8 +14,8 @@ use Rattle.stakes.specs.PartLaws.{length_part}
 use Rattle.stakes.specs.Season.{SeasonState, stake_state, with_stake, Sized, stake_refusal, read_stake}
 use Rattle.stakes.specs.SeasonLaws.{stake_below, stake_taken, own_stake, other_stake}
 use Rattle.season.specs.Changes.{SeasonOut, left_alone, on_stake}
-use Rattle.seasons.specs.Calls.{StakeCall, alters, looks, names, of_stake, by_part, out_by, read_from, refused_told, season_next, season_reply}
-use Rattle.seasons.specs.Claims.{LeavesOthers, Strays}
+use Rattle.seasons.specs.Calls.{StakeChange, StakeCall, alters, looks, names, of_stake, by_part, out_by, read_from, refused_told, season_next, season_reply}
+use Rattle.seasons.specs.Claims.{LeavesOthers, Strays, changed_by}
 use Rattle.seasons.proofs.Lengths.{Long, long_by}
 
 -- a call on stake s of the season S, not refused, refused, and in either case
@@ -68,17 +68,17 @@ unfolding season_next
 leaves_others S s t (alters c) h ne = on_other s S (out_by c) (long_by c (stake_state s S)) t h ne
 leaves_others S s t (looks q) h ne = refl
 
--- and no list of calls on one stake does either, nor changes another
-pub calls_counted : (s : ℕ) (cs : List StakeCall) (S : SeasonState) → length (fold season_next S (map (names s) cs)).counts ≡ length S.counts
+-- and no list of changes of one stake does either, nor changes another
+pub calls_counted : (s : ℕ) (cs : List StakeChange) (S : SeasonState) → length (changed_by S s cs).counts ≡ length S.counts
 unfolding fold
 calls_counted s [] S = refl
-calls_counted s (c ∷ cs) S = calls_counted s cs (season_next S (names s c)) ∙ counts_kept S s c
+calls_counted s (c ∷ cs) S = calls_counted s cs (season_next S (names s (alters c))) ∙ counts_kept S s (alters c)
 
-pub calls_leave_others : (s t : ℕ) → t < stakes → (t ≡ s → ⊥) → (cs : List StakeCall) (S : SeasonState)
-    → stake_state t (fold season_next S (map (names s) cs)) ≡ stake_state t S
+pub calls_leave_others : (s t : ℕ) → t < stakes → (t ≡ s → ⊥) → (cs : List StakeChange) (S : SeasonState)
+    → stake_state t (changed_by S s cs) ≡ stake_state t S
 unfolding fold
 calls_leave_others s t h ne [] S = refl
-calls_leave_others s t h ne (c ∷ cs) S = calls_leave_others s t h ne cs (season_next S (names s c)) ∙ leaves_others S s t c h ne
+calls_leave_others s t h ne (c ∷ cs) S = calls_leave_others s t h ne cs (season_next S (names s (alters c))) ∙ leaves_others S s t (alters c) h ne
 
 above_31 : (s n : ℕ) → stakes ≤ s → stake_refusal s n ≡ 18
 unfolding stake_refusal first_of

@@ -27,9 +27,9 @@ use Rattle.stakes.specs.PartLaws.{length_over, over_own, over_other}
 use Rattle.stakes.specs.Season.{SeasonState, stake_state, stake_refusal, read_stake}
 use Rattle.season_report.specs.ReportLaws.{passes_most}
 use Rattle.season_report.specs.Reports.{parts_of, over_parts, stake_report_out, passes, Reported, report_turn, unreported, season_report, report_from}
-use Rattle.seasons.specs.Calls.{names, report_at, reports_of, passed_of, season_next}
+use Rattle.seasons.specs.Calls.{report_at, reports_of, passed_of}
 use Rattle.seasons.specs.CallLaws.{report_is}
-use Rattle.seasons.specs.Claims.{rest, seen_of, EachReports, OneCorrected}
+use Rattle.seasons.specs.Claims.{rest, seen_of, EachReports, changed_by, OneCorrected}
 use Rattle.seasons.proofs.Stakes.{calls_counted, calls_leave_others}
 use Rattle.seasons.proofs.Written.{Fits, stake_fits, rest_over}
 
@@ -232,7 +232,7 @@ module _ (settings : Settings) (S T : SeasonState) (w : Outputs) (t : ℕ) (h : 
 
 pub one_corrected : OneCorrected
 one_corrected settings S w s cs t h ne =
-    let T = fold season_next S (map (names s) cs) in
+    let T = changed_by S s cs in
     let n : length T.counts ≡ length S.counts = calls_counted s cs S in
     let b : stake_state t T ≡ stake_state t S = calls_leave_others s t h ne cs S in
     record { answer = same_answer settings S T w t h n b; written = same_written settings S T w t h n b }

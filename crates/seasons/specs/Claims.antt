@@ -29,7 +29,7 @@ abbrev pub LeavesOthers : Type 0
 LeavesOthers =
     (S : SeasonState) (s t : ℕ) (c : StakeCall) → t < stakes → (t ≡ s → ⊥) → stake_state t (season_next S (names s c)) ≡ stake_state t S
 
--- ---- a refused call changes nothing, whether the season's own tests refuse it or the book's
+-- ---- a refused call leaves the counts, the columns and the sums, whether the season's own tests refuse it or the book's
 
 abbrev pub RefusedLeaves : Type 0
 RefusedLeaves = (S : SeasonState) (c : SeasonCall) (r : Refusal) → season_reply S c ≡ of_stake (said (Err r)) → season_next S c ≡ S
@@ -144,17 +144,20 @@ WholeStakes =
 
 -- ---- the user's case
 
--- the second of two season reports on the same lent memory, with calls on stake s between them
-abbrev pub report_after : Settings → SeasonState → Outputs → ℕ → List StakeCall → Reported
-report_after settings S w s cs = season_report settings (fold season_next S (map (names s) cs)) (season_report settings S w).lent
+-- the second of two season reports on the same lent memory, with changes of stake s between them
+abbrev pub changed_by : SeasonState → ℕ → List StakeChange → SeasonState
+changed_by S s cs = fold season_next S (map (λ c. names s (alters c)) cs)
+
+abbrev pub report_after : Settings → SeasonState → Outputs → ℕ → List StakeChange → Reported
+report_after settings S w s cs = season_report settings (changed_by S s cs) (season_report settings S w).lent
 
 -- Correct one stake, and nothing else, between two season reports with the same settings and lent memory, and the other 31 reports keep their bits, refused or
 -- not: the answer, and every written place of the stake's parts. NaNs are one value.
-pub record KeepsBits (settings : Settings) (S : SeasonState) (w : Outputs) (s : ℕ) (cs : List StakeCall) (t : ℕ) : Type 0 where
+pub record KeepsBits (settings : Settings) (S : SeasonState) (w : Outputs) (s : ℕ) (cs : List StakeChange) (t : ℕ) : Type 0 where
   pub answer : (d : ReportAnswer) → get_or (report_after settings S w s cs).reports t d ≡ get_or (season_report settings S w).reports t d
   pub written : parts_of t (report_after settings S w s cs).lent ≡ parts_of t (season_report settings S w).lent
 
--- corrections, one or more, are such calls, and so are all others that name the stake
+-- corrections, one or more, are such changes, and so is every other call that changes the stake, refused or not
 abbrev pub OneCorrected : Type 0
 OneCorrected =
-    (settings : Settings) (S : SeasonState) (w : Outputs) (s : ℕ) (cs : List StakeCall) (t : ℕ) → t < stakes → (t ≡ s → ⊥) → KeepsBits settings S w s cs t
+    (settings : Settings) (S : SeasonState) (w : Outputs) (s : ℕ) (cs : List StakeChange) (t : ℕ) → t < stakes → (t ≡ s → ⊥) → KeepsBits settings S w s cs t

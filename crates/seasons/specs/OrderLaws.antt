@@ -1,4 +1,5 @@
--- The tests of a call on a stake stand in the checking order, 18 before all others, and the call's number is that of the first of them that holds.
+-- The tests of a call on a stake stand in the checking order, 18 before all others. A change is refused by the first of them that holds, as the book's own call is by
+-- the first of its own.
 -- `stakes/specs/RefusalLaws.antt` has this of openings, adds, corrections, withdrawals, frames and lines.
 use Rattle.std.specs.Prelude.{◌≡◌, refl, Bool, true, false, cond, ◌||◌, ℕ, ltb, leb, length, Float}
 use mathlib.Core.List.{List, ◌∷◌}
