@@ -1,5 +1,5 @@
 // Order statistics with no sort and no write: what stands at a place of the numbers in order is found by counting bit patterns.
-ghost use Rattle.std.specs.Prelude.{◌≡◌, ◌<◌, ◌≤◌, ◌&&◌, length, take, nat_le, to_bits};
+ghost use Rattle.std.specs.Prelude.{◌≡◌, ◌/◌, ◌<◌, ◌≤◌, ◌&&◌, length, take, nat_le, to_bits};
 ghost use Rattle.std.specs.Float.{binary64};
 ghost use Rattle.std.specs.Float.Ieee.{sub};
 ghost use Rattle.loops.specs.All.{All};
@@ -62,23 +62,25 @@ struct Pair {
     high: u64,
 }
 
-// How a range is cut: first at two numbers of a sample, above and below the place that is looked for, then by rank, and in half so that it shrinks soon
-// whatever the numbers are.
+// How a range is cut: first at two numbers of a sample, above and below the place that is looked for, then by rank. Where that parts few numbers off, as it does of
+// numbers that lie close about one of them, it is cut by another sample; and in half, so that it shrinks soon whatever the numbers are.
 #[derive(Clone, Copy)]
 enum Cut {
     Both(Pair),
     Low(u64),
     ByRank,
+    BySample,
     InHalf,
 }
 
 impl Cut {
-    // The next one: in half after a cut that left more than about three quarters of those in the range, but not twice running.
+    // The next one: of another kind after one that left more than about three quarters of those in the range.
     fn next(self, were: usize, left: usize) -> Cut {
+        let poor = left / 3 > were / 4;
         match self {
             Cut::Both(p) => Cut::Low(p.low),
-            Cut::Low(_) | Cut::InHalf => Cut::ByRank,
-            _ if left / 3 > were / 4 => Cut::InHalf,
+            Cut::ByRank if poor => Cut::BySample,
+            Cut::BySample if poor => Cut::InHalf,
             _ => Cut::ByRank,
         }
     }
@@ -127,8 +129,29 @@ impl Range {
             Cut::Low(k) => self.within(k),
             Cut::ByRank if self.hi == INFINITY => self.within(self.lo + 0x20_0000_0000_0000),
             Cut::ByRank => self.within(self.by_rank(m)),
-            Cut::InHalf => self.lo + (self.hi - self.lo) / 2,
+            Cut::BySample | Cut::InHalf => self.lo + (self.hi - self.lo) / 2,
         }
+    }
+
+    // Where place m would be by those of a sample, in order, that lie in the range; in half where none does.
+    fn by_sample(self, sample: [u64; SAMPLE], m: usize) -> u64
+        requires { (self.lo < self.hi) × (self.hi ≤ INFINITY) }
+        ensures { (self.lo ≤ result) × (result < self.hi) }
+    {
+        let mut first = 0;
+        while first < SAMPLE && sample[first] < self.lo {
+            first += 1;
+        }
+        let mut last = first;
+        while last < SAMPLE && sample[last] <= self.hi {
+            last += 1;
+        }
+        if first == last {
+            return self.cut(Cut::InHalf, m);
+        }
+        let all = self.upto.saturating_sub(self.below).max(1);
+        let place = m.saturating_sub(self.below).saturating_mul(last - first) / all;
+        self.within(sample[first.saturating_add(place).min(SAMPLE - 1)])
     }
 }
 
@@ -194,14 +217,14 @@ impl Deviations<'_> {
         Pair { low, high }
     }
 
-    // The bits of the numbers at evenly spread places, in order: each goes before those that are greater.
-    fn sampled(&self) -> [u64; SAMPLE]
-        requires { SAMPLE ≤ length self.now }
+    // The bits of the numbers at evenly spread places, the first at `from`, in order: each goes before those that are greater.
+    fn sampled(&self, from: usize) -> [u64; SAMPLE]
+        requires { (SAMPLE ≤ length self.now) × (from < length self.now / SAMPLE) }
     {
         let step = self.len() / SAMPLE;
         let mut sample = [0; SAMPLE];
         for i in 0..SAMPLE {
-            let k = self.key_at(i * step);
+            let k = self.key_at(i * step + from);
             let mut j = i;
             while 0 < j && k < sample[j - 1] {
                 sample[j] = sample[j - 1];
@@ -220,12 +243,24 @@ impl Deviations<'_> {
         if n < SAMPLE {
             return Cut::Low(self.key_at(n / 2));
         }
-        let sample = self.sampled();
+        let sample = self.sampled(0);
         let rank = (m / (n / SAMPLE)).min(SAMPLE - 1);
         Cut::Both(Pair {
             low: sample[rank.saturating_sub(3)],
             high: sample[(rank + 3).min(SAMPLE - 1)],
         })
+    }
+
+    // Where the range is cut to look for place m. A sample has other places than the one before, since the range has another end.
+    fn cut(&self, r: Range, how: Cut, m: usize) -> u64
+        requires { (r.lo < r.hi) × (r.hi ≤ INFINITY) }
+        ensures { (r.lo ≤ result) × (result < r.hi) }
+    {
+        let n = self.len();
+        match how {
+            Cut::BySample if SAMPLE <= n => { r.by_sample(self.sampled(r.upto % (n / SAMPLE)), m) }
+            _ => r.cut(how, m),
+        }
     }
 
     // Copies the numbers whose bits lie from lo to hi, and answers how many they are. Each number is written, and the next one over it where it does not lie
@@ -267,7 +302,7 @@ impl Deviations<'_> {
                 r.hi = e.low;
                 gap = false;
             } else {
-                let mid = r.cut(how, m);
+                let mid = self.cut(r, how, m);
                 let found = self.count_upto(mid);
                 let were = r.upto - r.below;
                 gap = (found == r.below) | (found == r.upto);
