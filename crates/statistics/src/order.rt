@@ -138,19 +138,15 @@ impl Range {
         requires { (self.lo < self.hi) × (self.hi ≤ INFINITY) }
         ensures { (self.lo ≤ result) × (result < self.hi) }
     {
-        let mut first = 0;
-        while first < SAMPLE && sample[first] < self.lo {
-            first += 1;
-        }
-        let mut last = first;
-        while last < SAMPLE && sample[last] <= self.hi {
-            last += 1;
-        }
-        if first == last {
+        let first = sample.partition_point(|k| *k < self.lo);
+        let many = sample
+            .partition_point(|k| *k <= self.hi)
+            .saturating_sub(first);
+        if many == 0 {
             return self.cut(Cut::InHalf, m);
         }
         let all = self.upto.saturating_sub(self.below).max(1);
-        let place = m.saturating_sub(self.below).saturating_mul(last - first) / all;
+        let place = m.saturating_sub(self.below).saturating_mul(many) / all;
         self.within(sample[first.saturating_add(place).min(SAMPLE - 1)])
     }
 }
@@ -217,7 +213,7 @@ impl Deviations<'_> {
         Pair { low, high }
     }
 
-    // The bits of the numbers at evenly spread places, the first at `from`, in order: each goes before those that are greater.
+    // The bits of the numbers at evenly spread places, the first at `from`, in order: so few are put in order by insertion.
     fn sampled(&self, from: usize) -> [u64; SAMPLE]
         requires { (SAMPLE ≤ length self.now) × (from < length self.now / SAMPLE) }
     {
