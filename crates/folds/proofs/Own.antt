@@ -1,10 +1,10 @@
 -- A fold's own part of the sizes in scratch, and its score.
-use Rattle.std.proofs.Common.{◌≡◌, refl, ℕ, ◌+◌, ◌-◌, ◌<◌, ◌≤◌, Bool, true, false, ◌&&◌, eqb, List, ◌++◌, map, length, take, drop, sym, ap, ◌∙◌, arith, length-append, length-drop, length-take, drop_at, drop-drop, eq-eqb, ne_eqb}
-use mathlib.Core.List.{append_assoc}
+use Rattle.std.proofs.Common.{◌≡◌, refl, ℕ, ◌+◌, ◌-◌, ◌<◌, ◌≤◌, Bool, true, false, ◌&&◌, eqb, List, ◌++◌, map, length, take, drop, sym, ap, ◌∙◌, arith, length-append, length-drop, length-take, drop-drop, eq-eqb, ne_eqb}
 use Rattle.std.proofs.lemmas.List.{drop-take}
 use Rattle.std.specs.Prelude.{Option, Some}
 use lib.Ieee.{Float}
 use Rattle.loops.specs.Fold.{all_of}
+use Rattle.loops.specs.PlaceLaws.{laid_past}
 use Rattle.loops.specs.Within.{Within}
 use Rattle.value.specs.Absolute.{abs_f}
 use Rattle.value.specs.Finite.{finite}
@@ -41,22 +41,14 @@ fold_scored_lem criterion rows plain n folds k m f start end sums r l e a b u v 
 
 -- ---- scratch, of which a part was lent and came back as q
 
-drop_part : {A : Type 0} (n a k : ℕ) (m q : List A) → a + k ≤ n → n ≤ length m → length q ≡ k → drop n (take a m ++ (q ++ drop k (drop a m))) ≡ drop n m
-drop_part {A} n a k m q h l z =
-    let j = n - (a + k) in
-    let e : a + k + j ≡ n = omega arith in
-    let front : length (take a m ++ q) ≡ a + k = simp (length-append, length-take) (omega (arith, z)) in
-    let back : drop (a + k) (take a m ++ (q ++ drop k (drop a m))) ≡ drop (a + k) m =
-    ap (drop (a + k)) (sym (append_assoc (take a m) q (drop k (drop a m)))) ∙ drop_at (take a m ++ q) (drop k (drop a m)) (a + k) front ∙ drop-drop k a m in
-    ap (λ i. drop i (take a m ++ (q ++ drop k (drop a m)))) (sym e) ∙ sym (drop-drop j (a + k) (take a m ++ (q ++ drop k (drop a m)))) ∙ ap (drop j) back
-    ∙ drop-drop j (a + k) m ∙ ap (λ i. drop i m) e
-
 pub within_part : (n start end : ℕ) (s m q : List Float) → start ≤ end → end ≤ n → n ≤ length s → Within n s m → length q ≡ end - start
     → Within n s (take start m ++ (q ++ drop (end - start) (drop start m)))
 within_part n start end s m q g h l w z =
     record {
       long = simp (length-append, length-take, length-drop) (omega (arith, z, w.long));
-      rest = drop_part n start (end - start) m q (omega arith) (omega (arith, w.long)) z ∙ w.rest;
+      rest =
+          ap (λ (t : List Float). drop n (take start m ++ (q ++ t))) (drop-drop (end - start) start m)
+          ∙ laid_past start (end - start) q m (omega (arith, w.long)) z n (omega arith) ∙ w.rest;
     }
 
 -- ---- whether a fold solves k coefficients

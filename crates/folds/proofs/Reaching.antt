@@ -1,23 +1,12 @@
 -- The greatest size of numbers, one number more.
-use Rattle.std.proofs.Common.{◌≡◌, ℕ, zero, suc, ◌+◌, ◌<◌, true, false, List, [], ◌∷◌, length, take, get_or, sym, refl, subst, add-one, not-suc-le-zero, le_of_suc-le-suc}
+use Rattle.std.proofs.Common.{◌≡◌, ℕ, ◌+◌, ◌<◌, true, false, List, length, take, get_or, sym, refl, subst}
 use lib.Ieee.{Float, nan, inf, lt, le}
 use Rattle.loops.specs.All.{All}
+use Rattle.loops.specs.AllLaws.{all_more, all_weaker}
 use Rattle.value.specs.Absolute.{abs_f}
 use Rattle.value.specs.AbsoluteLaws.{abs_abs}
 use Rattle.folds.specs.Reach.{Bounds}
 use Rattle.folds.specs.ReachLaws.{held, grown, size_bounds, nothing_bounds}
-
-all_suc : {A : Type 0} (P : A → Type 0) (l : List A) (i : ℕ) (d : A) → All P (take i l) → P (get_or l i d) → i < length l → All P (take (suc i) l)
-all_suc P [] i d a p h = absurd (not-suc-le-zero h)
-all_suc P (x ∷ xs) zero d a p h = (p, tt)
-all_suc P (x ∷ xs) (suc i) d a p h = (a.0, all_suc P xs i d a.1 p (le_of_suc-le-suc h))
-
-all_more : {A : Type 0} (P : A → Type 0) (l : List A) (i : ℕ) (d : A) → All P (take i l) → P (get_or l i d) → i < length l → All P (take (i + 1) l)
-all_more P l i d a p h = subst (λ n. All P (take n l)) (sym (add-one i)) (all_suc P l i d a p h)
-
-all_weaker : {A : Type 0} (P Q : A → Type 0) (l : List A) → ((x : A) → P x → Q x) → All P l → All Q l
-all_weaker P Q [] g a = tt
-all_weaker P Q (x ∷ xs) g a = (g x a.0, all_weaker P Q xs g a.1)
 
 -- after i numbers
 pub record Greatest (l : List Float) (i : ℕ) (most : Float) : Type 0 where

@@ -1,6 +1,6 @@
 -- Laws of Reach.antt.
 use Rattle.std.specs.Prelude.{◌≡◌, Bool, true, false, cond, ◌&&◌, ◌||◌, List, ◌∷◌, map, ℕ, zero, suc, ◌+◌, ◌-◌, ◌*◌, ◌/◌, ◌%◌, ◌^◌, ◌≤◌, ◌<◌, ◌==◌, T, length, get_or, refl, ltb, eqb, Float}
-use Rattle.std.proofs.Common.{sym, ap, ◌∙◌, arith, add-one, mul-pos, mul-le-mul, mul-le-mul_right, ltb-true, eqb-true}
+use Rattle.std.proofs.Common.{sym, ap, ◌∙◌, arith, add-one, mul-pos, mul-le-mul, mul-le-mul_right, le_refl, ltb-true, eqb-true}
 use native.Mathlib.Nat.{le_of_mul-le-mul_right}
 use Rattle.std.specs.Bool.{beq}
 use Rattle.std.specs.Float.{nan, inf, fin, Format, binary64}
@@ -218,14 +218,11 @@ sub_bounds f x y a b u v = add_bounds f x (neg y) a b u (λ h. neg_under y b (v 
 
 -- ---- the same number, a size, and a bound that grows
 
-le_self : (n : ℕ) → n ≤ n
-le_self n = omega arith
-
 pub size_bounds : (x : Float) → Bounds (abs_f x) x
 unfolding abs_f finite
 size_bounds nan h = never h
 size_bounds (inf s) h = never h
-size_bounds (fin s m e) h = le_self (m * up e * down e)
+size_bounds (fin s m e) h = le_refl (m * up e * down e)
 
 zero_bounds : Bounds zero_f zero_f
 unfolding of_bits abs_f

@@ -1,8 +1,8 @@
 -- Laws of Fold.antt.
-use Rattle.std.specs.Prelude.{◌≡◌, refl, Bool, true, false, ◌&&◌, List, [], ◌∷◌, ◌++◌, map, ℕ, ◌+◌, ◌<◌, length, get_or, take}
+use Rattle.std.specs.Prelude.{◌≡◌, refl, Bool, true, false, ◌&&◌, List, [], ◌∷◌, ◌++◌, map, ℕ, ◌+◌, ◌*◌, ◌<◌, length, get_or, take}
 use Rattle.std.specs.List as list
 use Rattle.std.specs.List.{list_all}
-use Rattle.std.proofs.Common.{sym, ap, ◌∙◌, add-one, take-suc}
+use Rattle.std.proofs.Common.{sym, ap, ◌∙◌, add-one, arith, take-suc}
 use Rattle.std.proofs.lemmas.Bool.{false≢true}
 use Rattle.std.proofs.lemmas.List.{map-append}
 use Rattle.loops.specs.Places.{table}
@@ -30,12 +30,25 @@ fold_again f b l d i h = ap (λ k. fold f b (take k l)) (add-one i) ∙ ap (λ m
 pub fold_table : {A B : Type 0} (g : B → A → B) (b : B) (f : ℕ → A) (i : ℕ) → fold g b (table f (i + 1)) ≡ g (fold g b (table f i)) (f i)
 fold_table g b f i = ap (λ m. fold g b m) (table_again f i) ∙ fold_snoc g b (table f i) (f i)
 
+-- one turn of a loop that takes two places
+pub fold_two : {A B : Type 0} (g : B → A → B) (b : B) (f : ℕ → A) (p : ℕ) → fold g b (table f (2 * (p + 1))) ≡ g (g (fold g b (table f (2 * p))) (f (2 * p))) (f (2 * p + 1))
+fold_two g b f p =
+    let e : 2 * (p + 1) ≡ 2 * p + 1 + 1 = omega arith in
+    rw (e, fold_table g b f (2 * p + 1), fold_table g b f (2 * p))
+
 -- one turn of a loop that folds what a function makes of a list
 pub fold_map_again : {A B C : Type 0} (g : C → B → C) (b : C) (f : A → B) (l : List A) (d : A) (i : ℕ) → i < length l
     → fold g b (map f (take (i + 1) l)) ≡ g (fold g b (map f (take i l))) (f (get_or l i d))
 fold_map_again g b f l d i h =
     ap (λ m. fold g b (map f m)) (ap (λ k. take k l) (add-one i) ∙ take-suc l i d h) ∙ ap (λ m. fold g b m) (map-append f (take i l) (get_or l i d ∷ []))
     ∙ fold_snoc g b (map f (take i l)) (f (get_or l i d))
+
+-- one that takes two places
+pub fold_map_two : {A B C : Type 0} (g : C → B → C) (b : C) (f : A → B) (l : List A) (d : A) (p : ℕ) → 2 * p + 1 < length l
+    → fold g b (map f (take (2 * (p + 1)) l)) ≡ g (g (fold g b (map f (take (2 * p) l))) (f (get_or l (2 * p) d))) (f (get_or l (2 * p + 1) d))
+fold_map_two g b f l d p h =
+    let e : 2 * (p + 1) ≡ 2 * p + 1 + 1 = omega arith in
+    rw (e, fold_map_again g b f l d (2 * p + 1) h, fold_map_again g b f l d (2 * p) (omega arith))
 
 -- a fold over what a function makes of a list
 pub fold_map : {A B C : Type 0} (f : C → B → C) (g : A → B) (v : C) (l : List A) → fold f v (map g l) ≡ fold (λ u a. f u (g a)) v l

@@ -1,9 +1,10 @@
 -- Laws of Loop.antt.
 use Rattle.std.proofs.Math.Path.{◌≡◌}
-use Rattle.std.specs.Prelude.{refl, Bool, ◌⊎◌, leb, Option, None, Some}
-use Rattle.std.proofs.Common.{sym, ap, ◌∙◌, inl, inr, leb-true, leb-false}
+use Rattle.std.specs.Prelude.{refl, Bool, ◌⊎◌, leb, eqb, Option, None, Some}
+use Rattle.std.proofs.Common.{sym, ap, ◌∙◌, inl, inr, leb-true, leb-false, eqb-true}
+use Rattle.std.proofs.lemmas.Bool.{eqb-false}
 use Rattle.std.proofs.Math.Bool.{true, false}
-use Prim.Native.Nat.{ℕ, zero, suc, ◌+◌, ◌-◌, ◌≤◌, ◌<◌, min}
+use Prim.Native.Nat.{ℕ, zero, suc, ◌+◌, ◌-◌, ◌≤◌, ◌<◌}
 use native.Mathlib.Omega.{arith}
 use Rattle.loops.specs.Cases.{never}
 use Rattle.loops.specs.Loop.{turns, from, tries, while, seeks, seek, First, Together, Longer}
@@ -156,6 +157,30 @@ seek_same f g b h = by_cases (seek g 0 b) refl
                 rw z (seek_found f d b w.within (h d w.within ∙ w.holds))
             found_at i (suc n) e =
                 sym (seek_again f i b (omega (arith, w.within)) (h i (omega (arith, w.within)) ∙ w.lowest i (omega arith))) ∙ found_at (i + 1) n (omega arith)
+
+-- a loop of which one turn changes its state, and no other
+module _ {S : Type 0} (step : ℕ → S → S) (j : ℕ) (still : (c : ℕ) (t : S) → (c ≡ j → ⊥) → step c t ≡ t) where
+  turns_none : (i n : ℕ) (s : S) → j < i → turns step i n s ≡ s
+  unfolding turns
+  turns_none i zero s h = refl
+  turns_none i (suc n) s h = ap (turns step (i + 1) n) (still i s (λ e. absurd (omega arith))) ∙ turns_none (i + 1) n s (omega arith)
+
+  turns_only : (i n : ℕ) (s : S) → i ≤ j → j < i + n → turns step i n s ≡ step j s
+  unfolding turns
+  turns_only i zero s h l = absurd (omega arith)
+  turns_only i (suc n) s h l =
+      by (eqb i j) refl (λ q. turns_only (i + 1) n s (let r : i ≡ j → ⊥ = q in by_less i j h r) (omega arith))
+    where
+      by_less : (i j : ℕ) → i ≤ j → (i ≡ j → ⊥) → i + 1 ≤ j
+      by_less i j h r = omega arith
+
+      by : (t : Bool) → eqb i j ≡ t → ((i ≡ j → ⊥) → turns step (i + 1) n s ≡ step j s) → turns step (i + 1) n (step i s) ≡ step j s
+      by true e f = turns_none (i + 1) n (step i s) (let q = eqb-true i j e in omega arith) ∙ ap (λ c. step c s) (eqb-true i j e)
+      by false e f = let q = eqb-false i j e in ap (turns step (i + 1) n) (still i s q) ∙ f q
+
+  pub from_only : (i b : ℕ) (s : S) → i ≤ j → j < b → from step i b s ≡ step j s
+  unfolding from
+  from_only i b s h l = turns_only i (b - i) s h (omega arith)
 
 -- two loops whose turns keep a relation of their states
 turns_related : {S U : Type 0} (R : S → U → Type 0) (f : ℕ → S → S) (g : ℕ → U → U) (i n : ℕ) (s : S) (u : U)

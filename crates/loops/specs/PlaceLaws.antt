@@ -1,6 +1,8 @@
 -- Laws of Places.antt.
-use Rattle.std.specs.Prelude.{◌≡◌, refl, List, [], ◌∷◌, ◌++◌, map, ℕ, zero, suc, ◌+◌, ◌-◌, ◌≤◌, ◌<◌, length, get_or, set, take, drop, replicate}
-use Rattle.std.proofs.Common.{ap, ◌∙◌, append-nil, add-one, arith, length-drop, drop_of_length-le, take_all, drop-drop}
+use Rattle.std.specs.Prelude.{◌≡◌, refl, List, [], ◌∷◌, ◌++◌, map, ℕ, zero, suc, ◌+◌, ◌-◌, ◌*◌, ◌≤◌, ◌<◌, length, get_or, set, take, drop, replicate}
+use Rattle.std.proofs.Common.{sym, ap, ◌∙◌, append-nil, add-one, arith, length-drop, drop_of_length-le, take_all, drop-drop}
+use Rattle.std.proofs.Math.Seq.{drop-append-add}
+use Rattle.std.proofs.lemmas.List.{length-take-le}
 use Rattle.std.proofs.Math.Path.{fun_ext}
 use Rattle.loops.specs.Places.{each, table}
 
@@ -19,6 +21,19 @@ more f (suc n) (v ∷ vs) d h = ap (λ l. f 0 v ∷ l) (more (λ k. f (suc k)) n
 -- one turn of a loop that takes the places in order
 pub each_again : {A : Type 0} (f : ℕ → A → A) (n : ℕ) (s : List A) (d : A) → n < length s → set (each f n s) n (f n (get_or (each f n s) n d)) ≡ each f (n + 1) s
 each_again f n s d h = rw add-one (more f n s d h)
+
+-- every place through one function
+pub each_whole : {A : Type 0} (f : A → A) (s : List A) → each (λ _ v. f v) (length s) s ≡ map f s
+unfolding each
+each_whole f [] = refl
+each_whole f (v ∷ vs) = ap (λ l. f v ∷ l) (each_whole f vs)
+
+-- one turn of a loop that takes two places
+pub each_two : {A : Type 0} (f : ℕ → A) (p : ℕ) (s : List A) (d : A) → 2 * p + 1 < length s
+    → set (set (each (λ k _. f k) (2 * p) s) (2 * p) (f (2 * p))) (2 * p + 1) (f (2 * p + 1)) ≡ each (λ k _. f k) (2 * (p + 1)) s
+each_two f p s d h =
+    let e : 2 * p + 1 + 1 ≡ 2 * (p + 1) = omega arith in
+    rw (each_again (λ k _. f k) (2 * p) s d (omega arith), each_again (λ k _. f k) (2 * p + 1) s d h, e)
 
 -- a place that is not below n stands
 pub each_past : {A : Type 0} (f : ℕ → A → A) (n : ℕ) (s : List A) (k : ℕ) (d : A) → n ≤ k → get_or (each f n s) k d ≡ get_or s k d
@@ -202,3 +217,16 @@ map_part f zero (suc m) [] = refl
 map_part f zero (suc m) (x ∷ xs) = ap (λ s. f x ∷ s) (map_part f zero m xs)
 map_part f (suc a) (suc m) [] = refl
 map_part f (suc a) (suc m) (x ∷ xs) = map_part f a (suc m) xs
+
+-- a list with p in the place of the k places from a on: later places stand
+pub laid_past : {A : Type 0} (a k : ℕ) (p l : List A) → a + k ≤ length l → length p ≡ k → (c : ℕ) → a + k ≤ c → drop c (take a l ++ (p ++ drop (a + k) l)) ≡ drop c l
+laid_past a k p l fits long c h =
+    let laid = take a l ++ (p ++ drop (a + k) l) in
+    let front : length (take a l) ≡ a = length-take-le a l (omega arith) in
+    let e : c ≡ a + (k + (c - (a + k))) = omega arith in
+    let j = c - (a + k) in
+    let g : length (take a l) + (k + j) ≡ c = omega (arith, front) in
+    let f : length p + j ≡ k + j = omega arith in
+    let q : a + k + j ≡ c = omega arith in
+    sym (ap (λ z. drop z laid) g) ∙ drop-append-add (take a l) (p ++ drop (a + k) l) (k + j) ∙ sym (ap (λ z. drop z (p ++ drop (a + k) l)) f)
+    ∙ drop-append-add p (drop (a + k) l) j ∙ drop-drop j (a + k) l ∙ ap (λ z. drop z l) q

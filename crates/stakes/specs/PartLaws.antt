@@ -3,9 +3,10 @@ use Rattle.std.specs.Prelude.{◌≡◌, List, ◌++◌, ℕ, ◌+◌, ◌-◌, 
 use Rattle.std.proofs.Common.{sym, ◌∙◌, ⊎_elim, arith, mul-le-mul_right, div-mul-le_self, eq-or-lt_of_le, length-append, take_at, drop_at, drop-drop, take-take, take-add}
 use Rattle.std.proofs.Math.Path.{ap, ap₂}
 use Rattle.std.proofs.Math.ListN.{take, drop, length-drop, take-append-drop}
-use Rattle.std.proofs.Math.Seq.{length-take-le, drop-append-add}
+use Rattle.std.proofs.Math.Seq.{length-take-le}
 use Rattle.std.proofs.lemmas.List.{take-append-le}
 use Rattle.loops.specs.Cases.{either}
+use Rattle.loops.specs.PlaceLaws.{laid_past}
 use Rattle.lent.specs.Written.{over}
 use Rattle.stakes.specs.Parts.{stakes, Cut, size, part_of, with_part, over_part}
 
@@ -36,17 +37,6 @@ module _ {A : Type 0} (a k : ℕ) (p l : List A) (fits : a + k ≤ length l) (lo
 
   length_laid : length laid ≡ length l
   length_laid = simp (length-append, length-drop) (omega (arith, front))
-
-  -- later places stand
-  laid_past : (c : ℕ) → a + k ≤ c → drop c laid ≡ drop c l
-  laid_past c h =
-      let e : c ≡ a + (k + (c - (a + k))) = omega arith in
-      let j = c - (a + k) in
-      let g : length (take a l) + (k + j) ≡ c = omega (arith, front) in
-      let f : length p + j ≡ k + j = omega arith in
-      let q : a + k + j ≡ c = omega arith in
-      sym (ap (λ z. drop z laid) g) ∙ drop-append-add (take a l) (p ++ drop (a + k) l) (k + j)
-      ∙ sym (ap (λ z. drop z (p ++ drop (a + k) l)) f) ∙ drop-append-add p (drop (a + k) l) j ∙ drop-drop j (a + k) l ∙ ap (λ z. drop z l) q
 
   -- earlier places stand
   laid_before : (c : ℕ) → c ≤ a → take c laid ≡ take c l
