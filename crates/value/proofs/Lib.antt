@@ -1,3 +1,4 @@
 pub mod Positive
+pub mod Products
 pub mod SquareRoot
 pub mod Split

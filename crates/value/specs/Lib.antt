@@ -18,5 +18,7 @@ pub mod Moved
 pub mod LogarithmLaws
 pub mod Order
 pub mod Keys
+pub mod Lanes
+pub mod LaneLaws
 pub mod Total
 pub mod TotalLaws

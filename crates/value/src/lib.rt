@@ -4,6 +4,7 @@
 
 mod bits;
 mod logarithm;
+mod pairs;
 mod square_root;
 
 ghost use Rattle.std.specs.Prelude.{◌≡◌};
@@ -15,7 +16,8 @@ ghost use Rattle.value.specs.Power.{power_f};
 
 pub use bits::{from_bits, to_bits};
 pub use logarithm::ln;
-pub use square_root::sqrt;
+pub use pairs::{pair_abs, pair_powers};
+pub use square_root::{put_roots, sqrt};
 
 // Whether x is no NaN and no infinity.
 pub fn is_finite(x: f64) -> bool

@@ -1,11 +1,13 @@
 // The square root, from integer work on the bits: a whole-number root of 53 digits. It is guessed in doubles, and the guess is held against the squares;
 // where that settles nothing, the digits are found one a turn.
-ghost use Rattle.std.specs.Prelude.{◌≡◌, ◌+◌, ◌*◌, ◌^◌, ◌<◌, ◌≤◌, T, IfSome, from_bits};
+ghost use Rattle.std.specs.Prelude.{◌≡◌, ◌+◌, ◌*◌, ◌^◌, ◌<◌, ◌≤◌, T, IfSome, length, map, get_or, from_bits, to_bits};
+ghost use Rattle.loops.specs.All.{All};
 ghost use Rattle.std.specs.Float.{binary64};
 ghost use Rattle.std.specs.Float.Ieee.Positive.{positive};
 ghost use Rattle.value.specs.Root.{root_f, root_of, closest_root};
 
 use crate::bits::to_bits;
+use std::simd::prelude::*;
 
 // The root of m * 2^52, to the nearest whole number: 53 binary digits, one a turn. After n turns
 // `root * root + rest` is the whole part of m * 4^n / 2^54, and `next` is what is left below the point.
@@ -31,23 +33,40 @@ fn root_by_digits(m: u64) -> u64
     if root < rest { root + 1 } else { root }
 }
 
-// A guess at the root of m * 2^52: a parabola within one part in 190 of the root from 1 to 4, then three of Newton's steps, in doubles. Any guess would
-// do: it is tried below, and not trusted.
-fn guess(m: u64) -> u64
+// The double from 1 to 4 whose root has the digits of the root of m * 2^52.
+fn reduced(m: u64) -> f64
     requires { m < 2 ^ 54 }
-    ensures { (2 ^ 52 ≤ result) × (result < 2 ^ 53) }
 {
     let b = if m < 0x20_0000_0000_0000 {
         m + 0x3FE0_0000_0000_0000
     } else {
         m / 2 + 0x3FF0_0000_0000_0000
     };
-    let v = f64::from_bits(b);
-    let mut y = 0.51908 + v * (0.52537 - v * 0.039375);
-    y = (y + v / y) / 2.0;
-    y = (y + v / y) / 2.0;
-    y = (y + v / y) / 2.0;
+    f64::from_bits(b)
+}
+
+// The whole number of 53 digits that a double from 1 to 2 stands for, and one of 53 digits for any other.
+fn digits(y: f64) -> u64
+    ensures { (2 ^ 52 ≤ result) × (result < 2 ^ 53) }
+{
     to_bits(y) % 0x10_0000_0000_0000 + 0x10_0000_0000_0000
+}
+
+// Guesses at the roots of m * 2^52 and of another, side by side: a parabola within one part in 190 of the root from 1 to 4, then three of Newton's steps, in
+// doubles. Any guess would do: it is tried below, and not trusted.
+fn pair_guess(m: u64, later: u64) -> [u64; 2]
+    requires { (m < 2 ^ 54) × (later < 2 ^ 54) }
+    ensures first { (2 ^ 52 ≤ get_or result 0 0) × (get_or result 0 0 < 2 ^ 53) }
+    ensures second { (2 ^ 52 ≤ get_or result 1 0) × (get_or result 1 0 < 2 ^ 53) }
+{
+    let half = f64x2::splat(0.5);
+    let v = f64x2::from_array([reduced(m), reduced(later)]);
+    let mut y = f64x2::splat(0.51908) + v * (f64x2::splat(0.52537) - v * f64x2::splat(0.039375));
+    y = (y + v / y) * half;
+    y = (y + v / y) * half;
+    y = (y + v / y) * half;
+    let both = y.to_array();
+    [digits(both[0]), digits(both[1])]
 }
 
 // How far the square of r is from m * 2^52, counted from 2^56: above it where r is too small. None where it is so far that r can't be next to the root.
@@ -64,13 +83,12 @@ fn distance(m: u64, r: u64) -> Option<u64>
     Some((have - square) as u64)
 }
 
-// The root of m * 2^52, to the nearest whole number: a guess, or the next number above or below where the squares tell that this is nearer. A guess that
+// The root of m * 2^52, to the nearest whole number: a guess r, or the next number above or below where the squares tell that this is nearer. A guess that
 // is farther off is not used.
-fn closest_root(m: u64) -> u64
-    requires { m < 2 ^ 54 }
+fn closest_root(m: u64, r: u64) -> u64
+    requires { (m < 2 ^ 54) × (2 ^ 52 ≤ r) × (r < 2 ^ 53) }
     ensures { result ≡ closest_root (m * 2 ^ 52) }
 {
-    let r = guess(m);
     if let Some(d) = distance(m, r) {
         if (0x100_0000_0000_0002 < d + 3 * r) & (d <= 0x100_0000_0000_0002 + 3 * r) {
             return r + u64::from(0x100_0000_0000_0000 + r < d)
@@ -80,15 +98,23 @@ fn closest_root(m: u64) -> u64
     root_by_digits(m)
 }
 
-// The bits of the root of c * 2^j, counted in units of 2^-2148.
-fn scaled_root(c: u64, j: u64) -> u64
-    requires { (2 ^ 52 ≤ c) × (c < 2 ^ 53) × (52 ≤ j) × (j ≤ 4000) }
+// The m by which the root of c * 2^j is looked for: c, or twice it where j is odd.
+fn halved(c: u64, j: u64) -> u64
+    requires { c < 2 ^ 53 }
+    ensures { result < 2 ^ 54 }
+{
+    if j % 2 == 0 { c } else { c * 2 }
+}
+
+// The bits of the root of c * 2^j, counted in units of 2^-2148, by a guess r.
+fn scaled_root(c: u64, j: u64, r: u64) -> u64
+    requires { (2 ^ 52 ≤ c) × (c < 2 ^ 53) × (52 ≤ j) × (j ≤ 4000) × (2 ^ 52 ≤ r) × (r < 2 ^ 53) }
     ensures is { from_bits binary64 result ≡ root_of (c * 2 ^ j) }
     ensures small { result < 0x7FF0_0000_0000_0000 }
 {
     let k = j / 2 - 26;
     let m = if j % 2 == 0 { c } else { c * 2 };
-    k * 0x10_0000_0000_0000 + closest_root(m)
+    k * 0x10_0000_0000_0000 + closest_root(m, r)
 }
 
 // The same for a c below 2^52: it is shifted up to 53 digits.
@@ -98,7 +124,30 @@ fn small_root(c: u64) -> u64
     ensures small { result < 0x7FF0_0000_0000_0000 }
 {
     let s = c.leading_zeros() - 11;
-    scaled_root(c << s, 1074 - u64::from(s))
+    let j = 1074 - u64::from(s);
+    let m = halved(c << s, j);
+    scaled_root(c << s, j, pair_guess(m, m)[0])
+}
+
+// The m by which the root of a double with these bits is looked for, which is no subnormal.
+fn mantissa(b: u64) -> u64
+    ensures { result < 2 ^ 54 }
+{
+    halved(
+        b % 0x10_0000_0000_0000 + 0x10_0000_0000_0000,
+        b / 0x10_0000_0000_0000 + 1073,
+    )
+}
+
+// The root of a finite double above zero that is no subnormal, by a guess r.
+fn usual_root(v: f64, r: u64) -> f64
+    requires { T (positive v) × (2 ^ 52 ≤ to_bits binary64 v) × (2 ^ 52 ≤ r) × (r < 2 ^ 53) }
+    ensures { result ≡ root_f v }
+{
+    let b = v.to_bits();
+    let e = b / 0x10_0000_0000_0000;
+    let t = b % 0x10_0000_0000_0000;
+    f64::from_bits(scaled_root(t + 0x10_0000_0000_0000, e + 1073, r))
 }
 
 // The root of a finite double above zero.
@@ -107,12 +156,11 @@ fn positive_root(v: f64) -> f64
     ensures { result ≡ root_f v }
 {
     let b = v.to_bits();
-    let e = b / 0x10_0000_0000_0000;
-    let t = b % 0x10_0000_0000_0000;
-    if e == 0 {
-        return f64::from_bits(small_root(t));
+    if b < 0x10_0000_0000_0000 {
+        return f64::from_bits(small_root(b));
     }
-    f64::from_bits(scaled_root(t + 0x10_0000_0000_0000, e + 1073))
+    let m = mantissa(b);
+    usual_root(v, pair_guess(m, m)[0])
 }
 
 // NaN for a NaN or a value below zero, zeros and +infinity as they are, and else the nearest double.
@@ -129,4 +177,53 @@ pub fn sqrt(x: f64) -> f64
         return x;
     }
     f64::NAN
+}
+
+// The root of x by a guess r, where one is made of guesses.
+fn root_by(x: f64, r: u64) -> f64
+    requires { (2 ^ 52 ≤ r) × (r < 2 ^ 53) }
+    ensures { result ≡ root_f x }
+{
+    if (0.0 < x) & (x < f64::INFINITY) {
+        if 0x10_0000_0000_0000 <= x.to_bits() {
+            return usual_root(x, r);
+        }
+    }
+    sqrt(x)
+}
+
+// So many guesses are made before one of them is tried: a guess waits for three divisions, and the next one need not wait for it.
+const BLOCK: usize = 16;
+
+// Guesses at the roots of 16 numbers.
+fn guesses(v: &[f64]) -> [u64; BLOCK]
+    requires { length v.now ≡ 16 }
+    ensures { All (λ r. (2 ^ 52 ≤ r) × (r < 2 ^ 53)) result }
+{
+    let mut r = [0x10_0000_0000_0000; BLOCK];
+    for p in 0..BLOCK / 2 {
+        let two = pair_guess(mantissa(to_bits(v[2 * p])), mantissa(to_bits(v[2 * p + 1])));
+        r[2 * p] = two[0];
+        r[2 * p + 1] = two[1];
+    }
+    r
+}
+
+// Each number becomes its root.
+pub fn put_roots(v: &mut [f64])
+    ensures { v.new ≡ map root_f v.old }
+{
+    let n = v.len();
+    let blocks = n / BLOCK;
+    for b in 0..blocks {
+        let start = BLOCK * b;
+        let r = guesses(&v[start..start + BLOCK]);
+        for i in 0..BLOCK {
+            v[start + i] = root_by(v[start + i], r[i]);
+        }
+    }
+    // those past the last whole block
+    for i in BLOCK * blocks..n {
+        v[i] = sqrt(v[i]);
+    }
 }

@@ -1,9 +1,10 @@
 -- `value::positive_root` meets its contract.
-use Rattle.std.proofs.Common.{T, sym, ap, ◌∙◌, subst, arith}
+use Rattle.std.proofs.Common.{◌≡◌, ℕ, ◌*◌, ◌/◌, ◌%◌, ◌^◌, T, sym, ap, ◌∙◌, subst, arith}
+use lib.Ieee.{binary64, to_bits}
 use Rattle.value.specs.Nan.{bits_some}
-use Rattle.value.specs.Root.{root_f}
+use Rattle.value.specs.Root.{root_f, root_of}
 use Rattle.value.proofs.Positive.{positive_plain, plain_some}
-use Rattle.value.proofs.SquareRoot.Reading.{Pattern, pattern, small_value, large_value}
+use Rattle.value.proofs.SquareRoot.Reading.{Pattern, pattern, small_value}
 use Rattle.value.proofs.square_root.positive_root.Goals as goal
 use Rattle.value.proofs.square_root.positive_root.Goals.{Start}
 
@@ -19,21 +20,13 @@ small_root-requires c = let p = inside (goal.at.small_root-requires c).Start in 
 pub float_from_bits-result : goal.float_from_bits-result
 float_from_bits-result c = bits_some c.small_root.result (omega (arith, c.small_root.ensures.small))
 
-pub returns-then-e-eq0 : goal.returns-then-e-eq0
-returns-then-e-eq0 c =
-    let p = inside (goal.at.returns-then-e-eq0 c).Start in
-    c.small_root.ensures.is ∙ sym (small_value _ p.some c.if-e-eq0.true) ∙ ap root_f p.back
+pub returns-then-b-lt4503599627370496 : goal.returns-then-b-lt4503599627370496
+returns-then-b-lt4503599627370496 c =
+    let p = inside (goal.at.returns-then-b-lt4503599627370496 c).Start in
+    let b = to_bits binary64 c.args.v in
+    let none : b / 2 ^ 52 ≡ 0 = omega arith in
+    let whole : b ≡ b % 2 ^ 52 = omega arith in
+    c.small_root.ensures.is ∙ ap (λ (t : ℕ). root_of (t * 2 ^ 1074)) whole ∙ sym (small_value b p.some none) ∙ ap root_f p.back
 
-pub overflow_add-e : goal.overflow_add-e
-overflow_add-e c = let p = inside (goal.at.overflow_add-e c).Start in omega arith
-
-pub scaled_root-requires : goal.scaled_root-requires
-scaled_root-requires c = let p = inside (goal.at.scaled_root-requires c).Start in (omega arith, omega arith, omega arith, omega arith)
-
-pub float_from_bits-result-2 : goal.float_from_bits-result-2
-float_from_bits-result-2 c = bits_some c.scaled_root.result (omega (arith, c.scaled_root.ensures.small))
-
-pub returns : goal.returns
-returns c =
-    let p = inside (goal.at.returns c).Start in
-    c.scaled_root.ensures.is ∙ sym (large_value _ p.finite c.if-e-eq0.false) ∙ ap root_f p.back
+pub usual_root-requires : goal.usual_root-requires
+usual_root-requires c = (c.requires, omega arith, c.pair_guess.ensures.first.0, c.pair_guess.ensures.first.1)

@@ -7,10 +7,13 @@ use Rattle.value.proofs.square_root.small_root.Goals as goal
 pub overflow_sub-s : goal.overflow_sub-s
 overflow_sub-s c = omega (arith, shifted c.args.c c.requires.0 c.requires.1)
 
+pub halved-m-requires : goal.halved-m-requires
+halved-m-requires c = let h = shifted c.args.c c.requires.0 c.requires.1 in omega arith
+
 pub scaled_root-requires : goal.scaled_root-requires
-scaled_root-requires c = let h = shifted c.args.c c.requires.0 c.requires.1 in (omega arith, omega arith, omega arith, omega arith)
+scaled_root-requires c = let h = shifted c.args.c c.requires.0 c.requires.1 in (omega arith, omega arith, omega arith, omega arith, c.pair_guess.ensures.first.0, c.pair_guess.ensures.first.1)
 
 pub returns-clause-is : goal.returns-clause-is
 returns-clause-is c =
     let h = shifted c.args.c c.requires.0 c.requires.1 in
-    c.scaled_root.ensures.is ∙ rw c.from.ensures (ap root_of (shifted_back c.args.c _ (omega arith) h.full.1))
+    c.scaled_root.ensures.is ∙ rw c.from-j.ensures (ap root_of (shifted_back c.args.c _ (omega arith) h.full.1))

@@ -1,8 +1,0 @@
--- `value::guess` meets its contract.
-use Rattle.std.proofs.Common.{arith}
-use Rattle.value.specs.Nan.{bits_some}
-use Rattle.value.proofs.square_root.guess.Goals as goal
-use Rattle.value.proofs.square_root.guess.Goals.{then-m-lt9007199254740992, else-m-lt9007199254740992}
-
-pub float_from_bits-v : goal.float_from_bits-v
-float_from_bits-v c = elim c.if-m-lt9007199254740992.branch [ then-m-lt9007199254740992 w ↦ bits_some _ (omega arith) | else-m-lt9007199254740992 w ↦ bits_some _ (omega arith) ]
