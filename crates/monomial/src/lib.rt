@@ -1,6 +1,7 @@
 // The fitted value, and the 272 sums that a fit is solved from: A[i][j] at 16i + j, g[i] at 256 + i.
 #![tactic(auto)]
 
+mod pairs;
 mod reading;
 mod rows;
 
@@ -20,6 +21,7 @@ ghost use Rattle.monomial.specs.Corner.{CornerSet};
 ghost use Rattle.monomial.specs.Upper.{SameUpper, Symmetric};
 
 use basis::{Basis, CoefficientCount, SUMS, TERMS};
+pub use pairs::{pair_coefficients, pair_fitted};
 pub use rows::Rows;
 use samples::Columns;
 

@@ -1,17 +1,19 @@
 // What is read off the columns of the samples.
-ghost use Rattle.std.specs.Prelude.{◌≡◌, [], ◌-◌, ◌≤◌, ◌<◌, length, take, drop, get_or};
+ghost use Rattle.std.specs.Prelude.{◌≡◌, [], ◌+◌, ◌-◌, ◌≤◌, ◌<◌, length, take, drop, get_or};
 ghost use Rattle.std.specs.Float.{nan};
 ghost use Rattle.basis.specs.declared.Basis.TheVariants.{Curve, Surface};
 ghost use Rattle.samples.specs.Columns.{samples_of};
 ghost use Rattle.samples.specs.Held.{held};
+ghost use Rattle.value.specs.Lanes.{Paired, lane};
 ghost use Rattle.monomial.specs.Terms.{terms_at};
 ghost use Rattle.monomial.specs.Rows.{rows_of, weight_at, rows_at, weighted_rows_at};
 ghost use Rattle.monomial.specs.Reading.{rows_read, weighted_read};
 
 use crate::rows::Rows;
-use crate::terms_at;
+use crate::{pairs, terms_at};
 use basis::{Basis, TERMS};
 use samples::Columns;
+use std::simd::prelude::*;
 
 // The weights from a sample on, none past their end.
 fn weights_from(ws: &[f64], start: usize) -> &[f64]
@@ -89,6 +91,23 @@ impl<'a> Rows<'a> {
         ensures { result ≡ terms_at self.entry.basis (get_or self.entry.xs.now t nan) (get_or self.entry.zs.now t nan) }
     {
         terms_at(self.basis, self.xs[t], self.zs[t])
+    }
+
+    // The term values of samples t and t + 1, side by side.
+    #[inline(always)]
+    pub fn pair_terms(self, t: usize) -> [f64x2; TERMS]
+        requires { t + 1 < length self.ys.now }
+        ensures first { lane 0 result ≡ terms_at self.entry.basis (get_or self.entry.xs.now t nan) (get_or self.entry.zs.now t nan) }
+        ensures second { lane 1 result ≡ terms_at self.entry.basis (get_or self.entry.xs.now (t + 1) nan) (get_or self.entry.zs.now (t + 1) nan) }
+        ensures paired { Paired result }
+    {
+        pairs::pair_terms(
+            self.basis,
+            self.xs[t],
+            self.zs[t],
+            self.xs[t + 1],
+            self.zs[t + 1],
+        )
     }
 
     // The weight of sample t.
