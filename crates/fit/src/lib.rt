@@ -1,12 +1,13 @@
 // Residuals, the attempt at a degree, and the choice of one.
 #![tactic(auto)]
 
-ghost use Rattle.std.specs.Prelude.{◌≡◌, ◌++◌, map, ◌+◌, ◌≤◌, ◌<◌, length, drop};
+ghost use Rattle.std.specs.Prelude.{◌≡◌, [], ◌∷◌, ◌++◌, map, ◌+◌, ◌≤◌, ◌<◌, length, drop};
 ghost use Rattle.basis.specs.Sizes.{highest_degree, max_terms, sum_places};
 ghost use Rattle.loops.specs.Fold.{all_of};
 ghost use Rattle.loops.specs.Within.{Within};
 ghost use Rattle.value.specs.Absolute.{abs_f};
 ghost use Rattle.value.specs.Finite.{finite};
+ghost use Rattle.value.specs.Lanes.{Paired, lane};
 ghost use Rattle.value.specs.Total.{total_f};
 ghost use Rattle.statistics.specs.Losses.{losses};
 ghost use Rattle.basis.specs.Counts.{count_of};
@@ -23,6 +24,7 @@ use basis::{CoefficientCount, Degree, TERMS};
 use monomial::Rows;
 use score::Criterion;
 use solve::Solved;
+use std::simd::prelude::*;
 
 // y less the fitted value, of sample i.
 fn residual(rows: Rows<'_>, k: CoefficientCount, c: &[f64; TERMS], i: usize) -> f64
@@ -32,17 +34,39 @@ fn residual(rows: Rows<'_>, k: CoefficientCount, c: &[f64; TERMS], i: usize) -> 
     rows.ys[i] - monomial::fitted_at(rows.basis, k, c, rows.xs[i], rows.zs[i])
 }
 
-// The first places of scratch become the sizes of the residuals. Answers whether every residual is finite. Inlined, so that a number of coefficients that is
-// written out gives a loop of straight code.
+// The residuals of samples i and i + 1. The coefficients are in both places of their vectors.
+#[inline(always)]
+fn pair_residuals(rows: Rows<'_>, k: CoefficientCount, c: &[f64x2; TERMS], i: usize) -> [f64; 2]
+    requires { (k.0 ≤ max_terms) × Paired c.now × (i + 1 < length rows.ys.now) }
+    ensures { result ≡ residual_f k.0 (lane 0 c.now) (row_at rows.entry.basis rows.entry.xs.now rows.entry.zs.now rows.entry.ys.now i) ∷ residual_f k.0 (lane 1 c.now) (row_at rows.entry.basis rows.entry.xs.now rows.entry.zs.now rows.entry.ys.now (i + 1)) ∷ [] }
+{
+    let v = monomial::pair_fitted(k, c, &rows.pair_terms(i));
+    (f64x2::from_array([rows.ys[i], rows.ys[i + 1]]) - v).to_array()
+}
+
+// The first places of scratch become the sizes of the residuals. Answers whether every residual is finite. Two samples go side by side. Inlined, so that a
+// number of coefficients that is written out gives a loop of straight code.
 #[inline(always)]
 fn sizes_by(rows: Rows<'_>, k: CoefficientCount, c: &[f64; TERMS], scratch: &mut [f64]) -> bool
     requires { (length rows.ys.now ≤ length scratch.old) × (k.0 ≤ max_terms) }
     ensures is { result ≡ all_of finite (residuals k.0 c.now (rows_read rows.entry)) }
     ensures written { scratch.new ≡ map abs_f (residuals k.0 c.now (rows_read rows.entry)) ++ drop (length rows.entry.ys.now) scratch.old }
 {
+    let n = rows.len();
     let mut all = true;
     // by index: a row is read off several columns, and of an `iter_mut` behind a `zip` a proof knows no element
-    for i in 0..rows.len() {
+    let pairs = n / 2;
+    let both = monomial::pair_coefficients(c);
+    for p in 0..pairs {
+        let i = 2 * p;
+        let r = pair_residuals(rows, k, &both, i);
+        all = all & value::is_finite(r[0]) & value::is_finite(r[1]);
+        let s = value::pair_abs(r[0], r[1]);
+        scratch[i] = s[0];
+        scratch[i + 1] = s[1];
+    }
+    // the last of an odd number
+    for i in 2 * pairs..n {
         let r = residual(rows, k, c, i);
         all = all & value::is_finite(r);
         scratch[i] = value::abs(r);
