@@ -2,18 +2,21 @@
 // `prune_insignificant`.
 #![tactic(auto)]
 
+mod pairs;
+
 ghost use Rattle.std.specs.Prelude.{◌≡◌, ◌++◌, ◌≤◌, ◌<◌, length, get_or, drop};
 ghost use Rattle.std.specs.Float.{nan};
 ghost use Rattle.basis.specs.Sizes.{max_terms};
 ghost use Rattle.loops.specs.Places.{each, table};
 ghost use Rattle.value.specs.Absolute.{abs_f};
+ghost use Rattle.value.specs.Root.{root_f};
 ghost use Rattle.statistics.specs.Variances.{stddev_and_mean};
 ghost use Rattle.monomial.specs.Terms.{terms_at};
 ghost use Rattle.monomial.specs.Rows.{fitted};
 ghost use Rattle.monomial.specs.Reading.{rows_read};
 ghost use Rattle.covariance.specs.Covariance.{covariance_of, errors_of, column_of, prediction_variance};
 ghost use Rattle.covariance.specs.Marks.{ones};
-ghost use Rattle.covariance.specs.BandsFrom.{band_from, outlier_from};
+ghost use Rattle.covariance.specs.BandsFrom.{band_by, band_from, outlier_from};
 ghost use Rattle.covariance.specs.Bands.{widened, width_of, band_of, band_at, outlies as outlies_f, lowers_of, uppers_of, outliers_of};
 ghost use Rattle.covariance.specs.Spread.{DoesFor};
 ghost use Rattle.covariance.specs.Pruning.{tested as tested_f, prunes as prunes_f, pruned_bytes};
@@ -25,7 +28,8 @@ use statistics::Tolerance;
 // 2 to the power −52.
 const EPSILON: f64 = f64::from_bits(0x3CB0_0000_0000_0000);
 
-// The inverse × residual variance, place by place.
+// The inverse × residual variance, place by place. Inlined, so that it is made where it is read.
+#[inline(always)]
 pub fn covariance(inverse: &[f64; MATRIX], variance: f64) -> [f64; MATRIX]
     ensures { result ≡ covariance_of inverse.now variance }
 {
@@ -97,22 +101,30 @@ pub struct Spread {
     pub sd: f64,
 }
 
-// What a tolerance allows: what stands under the root, and the width.
-#[derive(Clone, Copy)]
-struct Allowance(f64, f64);
-
-// Tolerance variance adds the square of sd × p to the prediction variance, sd that of all y's, and no width.
-fn allowed(tolerance: Tolerance, sd: f64, value: f64, variance: f64) -> Allowance
-    ensures { (result.0 ≡ widened tolerance sd variance) × (result.1 ≡ width_of tolerance value) }
+// What stands under the root. Tolerance variance adds the square of sd × p to the prediction variance, sd that of all y's.
+fn widened(tolerance: Tolerance, sd: f64, variance: f64) -> f64
+    ensures { result ≡ widened tolerance sd variance }
 {
     match tolerance {
-        Tolerance::None => Allowance(variance, 0.0),
-        Tolerance::Absolute(a) => Allowance(variance, a),
+        Tolerance::None => variance,
+        Tolerance::Absolute(_) => variance,
         Tolerance::Variance(p) => {
             let w = sd * p;
-            Allowance(variance + w * w, 0.0)
+            variance + w * w
         }
-        Tolerance::Measurement(p) => Allowance(variance, value::abs(value) * p),
+        Tolerance::Measurement(_) => variance,
+    }
+}
+
+// The width about a value.
+fn width(tolerance: Tolerance, value: f64) -> f64
+    ensures { result ≡ width_of tolerance value }
+{
+    match tolerance {
+        Tolerance::None => 0.0,
+        Tolerance::Absolute(a) => a,
+        Tolerance::Variance(_) => 0.0,
+        Tolerance::Measurement(p) => value::abs(value) * p,
     }
 }
 
@@ -126,18 +138,25 @@ pub fn deviation_read(tolerance: Tolerance, ys: &[f64]) -> f64
     }
 }
 
-// The band about a value with its prediction variance.
-pub fn confidence_band(spread: Spread, value: f64, variance: f64) -> Band
-    ensures { result ≡ band_of spread.tolerance spread.z spread.sd value variance }
+// The band about a value with the root of its variance.
+fn band_by(spread: Spread, value: f64, root: f64) -> Band
+    ensures { result ≡ band_by spread.tolerance spread.z value root }
 {
-    let a = allowed(spread.tolerance, spread.sd, value, variance);
-    let e = spread.z * value::sqrt(a.0);
-    let w = a.1;
+    let e = spread.z * root;
+    let w = width(spread.tolerance, value);
     Band {
         value,
         lower: value - e - w,
         upper: value + e + w,
     }
+}
+
+// The band about a value with its prediction variance.
+pub fn confidence_band(spread: Spread, value: f64, variance: f64) -> Band
+    ensures { result ≡ band_of spread.tolerance spread.z spread.sd value variance }
+{
+    let v = widened(spread.tolerance, spread.sd, variance);
+    band_by(spread, value, value::sqrt(v))
 }
 
 // The band at x and z.
@@ -215,7 +234,7 @@ pub fn put_pruned(
     count
 }
 
-// Value and prediction variance of each row. Inlined, so that a number of coefficients that is written out gives a loop of straight code.
+// Value and prediction variance of each row, two rows side by side. Inlined, so that a number of coefficients that is written out gives a loop of straight code.
 #[inline(always)]
 fn put_values_by(
     rows: Rows<'_>,
@@ -229,7 +248,21 @@ fn put_values_by(
     ensures values_after { values.new ≡ each (λ i _. fitted k.0 c.now (terms_at rows.entry.basis (get_or rows.entry.xs.now i nan) (get_or rows.entry.zs.now i nan))) (length rows.entry.ys.now) values.old }
     ensures variances_after { variances.new ≡ each (λ i _. prediction_variance k.0 (terms_at rows.entry.basis (get_or rows.entry.xs.now i nan) (get_or rows.entry.zs.now i nan)) covariance.now) (length rows.entry.ys.now) variances.old }
 {
-    for i in 0..rows.len() {
+    let n = rows.len();
+    let pairs = n / 2;
+    let both = monomial::pair_coefficients(c);
+    for p in 0..pairs {
+        let i = 2 * p;
+        let terms = rows.pair_terms(i);
+        let v = monomial::pair_fitted(k, &both, &terms).to_array();
+        values[i] = v[0];
+        values[i + 1] = v[1];
+        let w = pairs::pair_prediction_variance(k, &terms, covariance).to_array();
+        variances[i] = w[0];
+        variances[i + 1] = w[1];
+    }
+    // the last of an odd number
+    for i in 2 * pairs..n {
         let terms = rows.terms(i);
         values[i] = monomial::fitted(k, c, &terms);
         variances[i] = prediction_variance(k, &terms, covariance);
@@ -270,8 +303,33 @@ fn put_values(
     }
 }
 
-// The band of each y, from the value and the prediction variance that stand there: they become lower and upper. Answers how many y's are outliers, and
-// marks them.
+// The first n prediction variances are widened.
+fn widen(spread: Spread, n: usize, variances: &mut [f64])
+    requires { n ≤ length variances.old }
+    ensures { variances.new ≡ each (λ _ v. widened spread.tolerance spread.sd v) n variances.old }
+{
+    match spread.tolerance {
+        Tolerance::None => {}
+        Tolerance::Absolute(_) => {}
+        Tolerance::Variance(_) => {
+            for i in 0..n {
+                variances[i] = widened(spread.tolerance, spread.sd, variances[i]);
+            }
+        }
+        Tolerance::Measurement(_) => {}
+    }
+}
+
+// The first n prediction variances become the roots that bands are made with.
+fn put_roots(spread: Spread, n: usize, variances: &mut [f64])
+    requires { n ≤ length variances.old }
+    ensures { variances.new ≡ each (λ _ v. root_f (widened spread.tolerance spread.sd v)) n variances.old }
+{
+    widen(spread, n, &mut *variances);
+    value::put_roots(&mut variances[..n]);
+}
+
+// The band of each y, from the value and the root that stand there: they become lower and upper. Answers how many y's are outliers, and marks them.
 fn put_edges(
     spread: Spread,
     ys: &[f64],
@@ -280,14 +338,14 @@ fn put_edges(
     outlier: &mut [u8],
 ) -> usize
     requires { (length ys.now ≤ length lower.old) × (length ys.now ≤ length upper.old) × (length ys.now ≤ length outlier.old) }
-    ensures value { result ≡ ones (table (outlier_from spread.tolerance spread.z spread.sd lower.old upper.old ys.now) (length ys.now)) }
-    ensures lower_after { lower.new ≡ each (λ i _. (band_from spread.tolerance spread.z spread.sd lower.old upper.old i).lower) (length ys.now) lower.old }
-    ensures upper_after { upper.new ≡ each (λ i _. (band_from spread.tolerance spread.z spread.sd lower.old upper.old i).upper) (length ys.now) upper.old }
-    ensures outlier_after { outlier.new ≡ each (λ i _. outlier_from spread.tolerance spread.z spread.sd lower.old upper.old ys.now i) (length ys.now) outlier.old }
+    ensures value { result ≡ ones (table (outlier_from spread.tolerance spread.z lower.old upper.old ys.now) (length ys.now)) }
+    ensures lower_after { lower.new ≡ each (λ i _. (band_from spread.tolerance spread.z lower.old upper.old i).lower) (length ys.now) lower.old }
+    ensures upper_after { upper.new ≡ each (λ i _. (band_from spread.tolerance spread.z lower.old upper.old i).upper) (length ys.now) upper.old }
+    ensures outlier_after { outlier.new ≡ each (λ i _. outlier_from spread.tolerance spread.z lower.old upper.old ys.now i) (length ys.now) outlier.old }
 {
     let mut count: usize = 0;
     for i in 0..ys.len() {
-        let band = confidence_band(spread, lower[i], upper[i]);
+        let band = band_by(spread, lower[i], upper[i]);
         let is_outlier = outlies(band, ys[i]);
         lower[i] = band.lower;
         upper[i] = band.upper;
@@ -297,7 +355,7 @@ fn put_edges(
     count
 }
 
-// Lower, upper and the outlier byte of each row. Answers how many are outliers. All values come before all roots: apart, the two loops are quicker.
+// Lower, upper and the outlier byte of each row. Answers how many are outliers. All values come before all roots: apart, the loops are quicker.
 pub fn put_bands(
     rows: Rows<'_>,
     k: CoefficientCount,
@@ -315,5 +373,6 @@ pub fn put_bands(
     ensures bytes { outlier.new ≡ outliers_of k.0 c.now covariance.now spread.tolerance spread.z spread.sd (rows_read rows.entry) ++ drop (length rows.entry.ys.now) outlier.old }
 {
     put_values(rows, k, c, covariance, &mut *lower, &mut *upper);
+    put_roots(spread, rows.ys.len(), &mut *upper);
     put_edges(spread, rows.ys, lower, upper, outlier)
 }

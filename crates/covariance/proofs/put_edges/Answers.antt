@@ -2,6 +2,7 @@
 -- of ones.
 use mathlib.Core.Path.{◌≡◌, refl, sym, ap, ap₂, ◌∙◌}
 use Prim.Native.Nat.{◌+◌}
+use native.Mathlib.Nat.{le_refl}
 use native.Mathlib.Omega.{arith}
 use borrow.Author.Rules.{rules}
 use lib.Ieee.{nan}
@@ -11,9 +12,8 @@ use Rattle.loops.specs.Places.{each, table}
 use Rattle.covariance.specs.declared.Band.{Band}
 use Rattle.covariance.specs.Marks.{ones}
 use Rattle.covariance.specs.MarkLaws.{mark_byte, mark_at_most, ones_again}
-use Rattle.covariance.specs.Bands.{band_of}
-use Rattle.covariance.specs.BandsFrom.{band_from, outlier_from}
-use Rattle.covariance.proofs.Rows.{written, written_again, written_past}
+use Rattle.covariance.specs.BandsFrom.{band_by, band_from, outlier_from}
+use Rattle.covariance.proofs.Rows.{written, written_again, written_later}
 use Rattle.covariance.proofs.put_edges.Goals as goal
 
 pub loop-i-init : goal.loop-i-init
@@ -28,8 +28,8 @@ unfolding band_from outlier_from
 loop-i-preserved c =
     let l = c.loop-i-test.true in
     let i = c.loop-i.i in
-    let band : c.confidence_band-band.result ≡ band_from c.args.spread.tolerance c.args.spread.z c.args.spread.sd c.args.lower.now c.args.upper.now i = c.confidence_band-band.ensures ∙ ap₂ (band_of c.args.spread.tolerance c.args.spread.z c.args.spread.sd) (written_past _ i _ _ nan c.loop-i.invariant.4) (written_past _ i _ _ nan c.loop-i.invariant.6) in
-    let at = outlier_from c.args.spread.tolerance c.args.spread.z c.args.spread.sd c.args.lower.now c.args.upper.now c.args.ys.now in
+    let band : c.band_by-band.result ≡ band_from c.args.spread.tolerance c.args.spread.z c.args.lower.now c.args.upper.now i = c.band_by-band.ensures ∙ ap₂ (band_by c.args.spread.tolerance c.args.spread.z) (written_later _ i i _ _ nan (le_refl i) c.loop-i.invariant.4) (written_later _ i i _ _ nan (le_refl i) c.loop-i.invariant.6) in
+    let at = outlier_from c.args.spread.tolerance c.args.spread.z c.args.lower.now c.args.upper.now c.args.ys.now in
     let o : c.from.result ≡ at i = c.from.ensures ∙ mark_byte _ ∙ rw (c.outlies-is_outlier.ensures, band) in
     let m : c.from-count.result ≡ at i = c.from-count.ensures ∙ mark_byte _ ∙ rw (c.outlies-is_outlier.ensures, band) in (
       search rules,
