@@ -10,7 +10,7 @@ use lib.Ieee.Fits.{round_is, sub-fits}
 use Rattle.std.proofs.lemmas.Float.{T_from_false}
 use Rattle.loops.specs.All.{All}
 use Rattle.loops.specs.AllLaws.{all_at}
-use Rattle.loops.specs.Cases.{choose, never, or_false}
+use Rattle.loops.specs.Cases.{by_test, choose, never, or_false}
 use Rattle.loops.specs.Fold.{fold}
 use Rattle.loops.specs.FoldLaws.{fold_map_again}
 use Rattle.loops.specs.PlaceLaws.{map_at}
@@ -89,7 +89,7 @@ plain_pattern (inf false) f n h = tt
 plain_pattern (fin true m e) f n h = absurd (omega (arith, sign_bits m e))
 plain_pattern (fin false m e) f n h = f
 
-bits_back : (b : ℕ) → b ≤ 0x7FF0_0000_0000_0000 → to_bits binary64 (of_bits binary64 b) ≡ b
+pub bits_back : (b : ℕ) → b ≤ 0x7FF0_0000_0000_0000 → to_bits binary64 (of_bits binary64 b) ≡ b
 bits_back b h = to_bits-of_bits binary64 b (omega arith) (subst (λ (t : Bool). T (not t)) (nan_bits_is binary64 b) (bits_some b h))
 
 pub bits_plain : (b : ℕ) → b ≤ 0x7FF0_0000_0000_0000 → Plain (of_bits binary64 b)
@@ -206,6 +206,20 @@ nan_each d p b (x ∷ xs) =
 pub nan_finite : (d : Float) → finite d ≡ true → (l : List Float) → any_nan (distances d l) ≡ any_nan l
 unfolding any_nan distances
 nan_finite d p l = nan_each d p false l
+
+-- numbers whose sizes have a finite median: none is a NaN, and none of the deviations from it
+nan_sizes : (l : List Float) (b : Bool) → fold (λ c x. c || is_nan x) b (map abs_f l) ≡ fold (λ c x. c || is_nan x) b l
+unfolding fold
+nan_sizes [] b = refl
+nan_sizes (x ∷ xs) b = ap (λ (t : Bool). fold (λ c x. c || is_nan x) (b || t) (map abs_f xs)) (same_nan x) ∙ nan_sizes xs (b || is_nan x)
+
+median_some : (l : List Float) → finite (median_of l) ≡ true → any_nan l ≡ false
+unfolding median_of finite
+median_some l h = by_test (any_nan l) (λ t. never (rw t at h)) (λ t. t)
+
+pub none_of_median : (l : List Float) (d : Float) → d ≡ median_of (map abs_f l) → finite d ≡ true → any_nan (distances d l) ≡ false
+unfolding any_nan
+none_of_median l d e h = nan_finite d h l ∙ sym (nan_sizes l false) ∙ median_some (map abs_f l) (ap finite (sym e) ∙ h)
 
 -- ---- a number less +0 is itself
 

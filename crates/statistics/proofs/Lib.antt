@@ -3,4 +3,5 @@ pub mod Roots
 pub mod Sorting
 pub mod Counts
 pub mod Deviations
+pub mod Pairs
 pub mod Kept

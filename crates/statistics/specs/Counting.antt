@@ -40,6 +40,15 @@ pub record Middles (l : List Float) (m low high : ℕ) : Type 0 where
   pub upper : AtPlace l m high
   pub lower : 0 < m → AtPlace l (m - 1) low
 
+-- A range from lo to hi that place m lies in: `below` are under lo, and `most` up to hi.
+pub record InRange (l : List Float) (m lo hi below most : ℕ) : Type 0 where
+  pub ordered : lo ≤ hi
+  pub small : hi ≤ 0x7FF0_0000_0000_0000
+  pub under_it : below ≡ count (under lo) l
+  pub least : below ≤ m
+  pub reached : m < most
+  pub upto_it : most ≡ count (upto hi) l
+
 -- A range from lo to hi that place m is looked for in, cut down: `below` are under lo, and they are m, or lo is hi, or no more than `few` lie in it.
 pub record Narrowed (l : List Float) (m few lo hi below : ℕ) : Type 0 where
   pub ordered : lo ≤ hi

@@ -1,7 +1,7 @@
 // polyfit's `statistics.rs`: scores, the bound on the degree, medians, losses and variances.
 #![tactic(auto)]
 
-ghost use Rattle.std.specs.Prelude.{◌≡◌, ◌<◌, ◌≤◌, map};
+ghost use Rattle.std.specs.Prelude.{◌≡◌, [], ◌∷◌, ◌<◌, ◌≤◌, map};
 ghost use Rattle.value.specs.Absolute.{abs_f};
 ghost use Rattle.value.specs.Total.{total_f};
 ghost use Rattle.statistics.specs.Scores.{z_score, table_score, t_score};
@@ -16,6 +16,7 @@ mod table;
 mod whole;
 
 use basis::{CoefficientCount, Degree};
+use std::simd::prelude::*;
 
 #[derive(Clone, Copy)]
 pub enum Confidence {
@@ -114,11 +115,16 @@ fn median_of_sizes(a: &[f64]) -> f64
     order::median_from(a, 0.0)
 }
 
-// The median absolute deviation of residuals. It takes their sizes, so that these may stand there too.
+// The median absolute deviation of residuals. It takes their sizes, so that these may stand there too. Of numbers with a finite median none is a NaN, and
+// none has a deviation from it that is one.
 pub fn median_absolute_deviation(a: &[f64]) -> f64
     ensures { result ≡ median_absolute_deviation a.now }
 {
-    order::median_from(a, median_of_sizes(a))
+    let d = median_of_sizes(a);
+    if value::is_finite(d) {
+        return order::median_of_some(a, d);
+    }
+    order::median_from(a, d)
 }
 
 // The Huber constant.
@@ -140,15 +146,32 @@ pub fn huber_loss(r: f64, constant: f64, mad: f64) -> f64
     delta * (s - 0.5 * delta)
 }
 
+// The Huber losses of two residuals, side by side. Both forms are worked out for each, and there is no branch.
+fn pair_losses(r: f64, later: f64, constant: f64, mad: f64) -> [f64; 2]
+    ensures { result ≡ huber_loss r constant mad ∷ huber_loss later constant mad ∷ [] }
+{
+    let half = f64x2::splat(0.5);
+    let delta = f64x2::splat(constant * mad);
+    let s = f64x2::from_array(value::pair_abs(r, later));
+    let square = half * s * s;
+    let line = delta * (s - half * delta);
+    s.simd_le(delta).select(square, line).to_array()
+}
+
 // The sum of the losses of residuals, or of their sizes.
 pub fn total_loss(a: &[f64]) -> f64
     ensures { result ≡ total_f (losses a.now) }
 {
     let mad = median_absolute_deviation(a);
     let constant = huber_const();
+    let n = a.len();
     let mut v = 0.0;
-    for r in a {
-        v += huber_loss(*r, constant, mad);
+    for p in 0..n / 2 {
+        let two = pair_losses(a[2 * p], a[2 * p + 1], constant, mad);
+        v = v + two[0] + two[1];
+    }
+    if n % 2 == 1 {
+        v += huber_loss(a[n - 1], constant, mad);
     }
     v
 }

@@ -1,22 +1,21 @@
 // Order statistics with no sort and no write: what stands at a place of the numbers in order is found by counting bit patterns.
-ghost use Rattle.std.specs.Prelude.{◌≡◌, ◌/◌, ◌<◌, ◌≤◌, ◌&&◌, length, take, nat_le, to_bits};
+ghost use Rattle.std.specs.Prelude.{◌≡◌, ◌-◌, ◌/◌, ◌<◌, ◌≤◌, ◌&&◌, length, map, take, nat_le, to_bits, [], ◌∷◌, false};
+ghost use Rattle.std.specs.Int.{from_bool};
 ghost use Rattle.std.specs.Float.{binary64};
 ghost use Rattle.std.specs.Float.Ieee.{sub};
 ghost use Rattle.loops.specs.All.{All};
 ghost use Rattle.value.specs.Absolute.{abs_f};
 ghost use Rattle.statistics.specs.Medians.{any_nan, midpoint as midpoint_f, median_of};
-ghost use Rattle.statistics.specs.Counting.{Plain, distances, count, upto, under, between, keep, Middles, Narrowed, nearer as nearer_f, farther as farther_f, least_from, greatest_under};
+ghost use Rattle.statistics.specs.Counting.{Plain, distances, count, upto, under, between, keep, Middles, InRange, Narrowed, nearer as nearer_f, farther as farther_f, least_from, greatest_under};
 
 use std::marker::Model;
+use std::simd::prelude::*;
 
 // The bits of +infinity: no number has greater ones.
 const INFINITY: u64 = 0x7FF0_0000_0000_0000;
 
-// So many are copied.
-const FEW: usize = 512;
-
-// The copying pays above so many numbers.
-const MANY: usize = 2048;
+// So many are copied, where there are more.
+const FEW: usize = 256;
 
 // So many are sampled, to know about where a place lies.
 const SAMPLE: usize = 31;
@@ -41,6 +40,26 @@ fn at_most(k: u64, b: u64) -> bool
     f64::from_bits(k) <= f64::from_bits(b)
 }
 
+// The deviations of x and y from d, side by side.
+fn both(x: f64, y: f64, d: f64) -> f64x2
+    requires { Plain (abs_f (sub binary64 (abs_f x) d)) × Plain (abs_f (sub binary64 (abs_f y) d)) }
+    ensures { result ≡ abs_f (sub binary64 (abs_f x) d) ∷ abs_f (sub binary64 (abs_f y) d) ∷ [] }
+{
+    let sign = u64x2::splat(0x8000_0000_0000_0000);
+    let sizes = f64x2::from_bits(f64x2::from_array([x, y]).to_bits() % sign);
+    let v = sizes - f64x2::splat(d);
+    f64x2::from_bits(v.to_bits() % sign)
+}
+
+// 1 for each number of v whose bits are at most b, and else 0.
+fn ones_upto(v: f64x2, b: u64) -> u64x2
+    requires { (length v ≡ 2) × (All Plain v) × (b ≤ INFINITY) }
+    ensures { result ≡ map (λ x. from_bool (upto b x)) v }
+{
+    v.simd_le(f64x2::splat(f64::from_bits(b)))
+        .select(u64x2::splat(1), u64x2::splat(0))
+}
+
 // Of k and v: k where it is b or above, and below v.
 fn nearer(b: u64, k: u64, v: u64) -> u64
     ensures { result ≡ nearer_f b k v }
@@ -62,12 +81,17 @@ struct Pair {
     high: u64,
 }
 
-// How a range is cut: first at two numbers of a sample, above and below the place that is looked for, then by rank. Where that parts few numbers off, as it does of
-// numbers that lie close about one of them, it is cut by another sample; and in half, so that it shrinks soon whatever the numbers are.
+// How many of a list there are up to each of two numbers.
+#[derive(Clone, Copy)]
+struct Counts {
+    low: usize,
+    high: usize,
+}
+
+// How a range is cut: by rank. Where that parts few numbers off, as it does of numbers that lie close about one of them, it is cut by another sample; and in
+// half, so that it shrinks soon whatever the numbers are.
 #[derive(Clone, Copy)]
 enum Cut {
-    Both(Pair),
-    Low(u64),
     ByRank,
     BySample,
     InHalf,
@@ -78,7 +102,6 @@ impl Cut {
     fn next(self, were: usize, left: usize) -> Cut {
         let poor = left / 3 > were / 4;
         match self {
-            Cut::Both(p) => Cut::Low(p.low),
             Cut::ByRank if poor => Cut::BySample,
             Cut::BySample if poor => Cut::InHalf,
             _ => Cut::ByRank,
@@ -125,8 +148,6 @@ impl Range {
         ensures { (self.lo ≤ result) × (result < self.hi) }
     {
         match how {
-            Cut::Both(p) => self.within(p.high),
-            Cut::Low(k) => self.within(k),
             Cut::ByRank if self.hi == INFINITY => self.within(self.lo + 0x20_0000_0000_0000),
             Cut::ByRank => self.within(self.by_rank(m)),
             Cut::BySample | Cut::InHalf => self.lo + (self.hi - self.lo) / 2,
@@ -186,14 +207,52 @@ impl Deviations<'_> {
         key(sizes[i], self.from)
     }
 
-    // How many have bits up to b.
+    // How many have bits up to b. Two are counted at once, each on its own, and a last one of an odd number after them.
     fn count_upto(&self, b: u64) -> usize
         requires { b ≤ INFINITY }
         ensures { result ≡ count (upto b) self.now }
     {
-        let mut found = 0;
-        for x in self.sizes {
-            found += usize::from(at_most(key(*x, self.from), b));
+        let sizes = self.sizes;
+        let n = sizes.len();
+        let pairs = n / 2;
+        let mut lanes = u64x2::splat(0);
+        for p in 0..pairs {
+            lanes += ones_upto(both(sizes[2 * p], sizes[2 * p + 1], self.from), b);
+        }
+        let both = lanes.to_array();
+        let mut found = (both[0] + both[1]) as usize;
+        if n % 2 == 1 {
+            found += usize::from(at_most(key(sizes[n - 1], self.from), b));
+        }
+        found
+    }
+
+    // How many have bits up to each of two, in one pass.
+    fn counts_upto(&self, cuts: Pair) -> Counts
+        requires { (cuts.low ≤ INFINITY) × (cuts.high ≤ INFINITY) }
+        ensures low { result.low ≡ count (upto cuts.low) self.now }
+        ensures high { result.high ≡ count (upto cuts.high) self.now }
+    {
+        let sizes = self.sizes;
+        let n = sizes.len();
+        let pairs = n / 2;
+        let mut lows = u64x2::splat(0);
+        let mut highs = u64x2::splat(0);
+        for p in 0..pairs {
+            let v = both(sizes[2 * p], sizes[2 * p + 1], self.from);
+            lows += ones_upto(v, cuts.low);
+            highs += ones_upto(v, cuts.high);
+        }
+        let low = lows.to_array();
+        let high = highs.to_array();
+        let mut found = Counts {
+            low: (low[0] + low[1]) as usize,
+            high: (high[0] + high[1]) as usize,
+        };
+        if n % 2 == 1 {
+            let k = key(sizes[n - 1], self.from);
+            found.low += usize::from(at_most(k, cuts.low));
+            found.high += usize::from(at_most(k, cuts.high));
         }
         found
     }
@@ -231,20 +290,72 @@ impl Deviations<'_> {
         sample
     }
 
-    // Where to cut first to look for place m: a little above it and a little below, by a sample. A guess; of few numbers, at the middle one.
-    fn first_cut(&self, m: usize) -> Cut
+    // Two numbers of a sample, a little below place m and a little above it: the range is cut first before the one and after the other. A guess; of few
+    // numbers, about the middle one.
+    fn first_cuts(&self, m: usize) -> Pair
         requires { m < length self.now }
+        ensures { (result.low ≤ INFINITY) × (result.high ≤ INFINITY) }
     {
         let n = self.len();
-        if n < SAMPLE {
-            return Cut::Low(self.key_at(n / 2));
+        let ends = if n < SAMPLE {
+            let k = self.key_at(n / 2);
+            Pair { low: k, high: k }
+        } else {
+            let sample = self.sampled(0);
+            let rank = (m / (n / SAMPLE)).min(SAMPLE - 1);
+            Pair {
+                low: sample[rank.saturating_sub(3)],
+                high: sample[(rank + 3).min(SAMPLE - 1)],
+            }
+        };
+        Pair {
+            low: ends.low.saturating_sub(1).min(INFINITY),
+            high: ends.high.min(INFINITY),
         }
-        let sample = self.sampled(0);
-        let rank = (m / (n / SAMPLE)).min(SAMPLE - 1);
-        Cut::Both(Pair {
-            low: sample[rank.saturating_sub(3)],
-            high: sample[(rank + 3).min(SAMPLE - 1)],
-        })
+    }
+
+    // A range where place m lies, cut at k, up to which `found` lie; where k is not in it, the range as it is.
+    fn parted(&self, r: Range, k: u64, found: usize, m: usize) -> Range
+        requires { InRange self.now m r.lo r.hi r.below r.upto × (found ≡ count (upto k) self.now) }
+        ensures is { InRange self.now m result.lo result.hi result.below result.upto }
+        ensures smaller { (r.lo ≤ k) → (k < r.hi) → result.hi - result.lo < r.hi - r.lo }
+    {
+        if (k < r.lo) | (r.hi <= k) {
+            return r;
+        }
+        if m < found {
+            Range {
+                lo: r.lo,
+                hi: k,
+                below: r.below,
+                upto: found,
+            }
+        } else {
+            Range {
+                lo: k + 1,
+                hi: r.hi,
+                below: found,
+                upto: r.upto,
+            }
+        }
+    }
+
+    // The range where place m lies after a first pass, which cuts it twice.
+    fn first_range(&self, m: usize) -> Range
+        requires { m < length self.now }
+        ensures is { InRange self.now m result.lo result.hi result.below result.upto }
+        ensures plain { All Plain self.now }
+    {
+        let whole = Range {
+            lo: 0,
+            hi: INFINITY,
+            below: 0,
+            upto: self.len(),
+        };
+        let cuts = self.first_cuts(m);
+        let found = self.counts_upto(cuts);
+        let r = self.parted(whole, cuts.high, found.high, m);
+        self.parted(r, cuts.low, found.low, m)
     }
 
     // Where the range is cut to look for place m. A sample has other places than the one before, since the range has another end.
@@ -262,7 +373,7 @@ impl Deviations<'_> {
     // Copies the numbers whose bits lie from lo to hi, and answers how many they are. Each number is written, and the next one over it where it does not lie
     // there, which needs no branch, and a place more.
     fn gather(&self, lo: u64, hi: u64, out: &mut [f64]) -> usize
-        requires { count (between lo hi) self.now < length out.old }
+        requires { (lo ≤ INFINITY) × (hi ≤ INFINITY) × (count (between lo hi) self.now < length out.old) }
         ensures value { result ≡ count (between lo hi) self.now }
         ensures out_after { take result out.new ≡ keep (between lo hi) self.now }
     {
@@ -270,7 +381,7 @@ impl Deviations<'_> {
         for x in self.sizes {
             let k = key(*x, self.from);
             out[c] = f64::from_bits(k);
-            c += usize::from((lo <= k) & (k <= hi));
+            c += usize::from(at_most(lo, k) & at_most(k, hi));
         }
         c
     }
@@ -283,14 +394,9 @@ impl Deviations<'_> {
         ensures is { Narrowed self.now m few result.lo result.hi result.below }
         ensures plain { All Plain self.now }
     {
-        let mut how = self.first_cut(m);
+        let mut how = Cut::ByRank;
         let mut gap = false;
-        let mut r = Range {
-            lo: 0,
-            hi: INFINITY,
-            below: 0,
-            upto: self.len(),
-        };
+        let mut r = self.first_range(m);
         while r.lo < r.hi && r.below != m && r.upto - r.below > few {
             if gap {
                 let e = self.edges(r.lo, r.hi + 1);
@@ -302,13 +408,7 @@ impl Deviations<'_> {
                 let found = self.count_upto(mid);
                 let were = r.upto - r.below;
                 gap = (found == r.below) | (found == r.upto);
-                if m < found {
-                    r.hi = mid;
-                    r.upto = found;
-                } else {
-                    r.lo = mid + 1;
-                    r.below = found;
-                }
+                r = self.parted(r, mid, found, m);
                 how = how.next(were, r.upto - r.below);
             }
         }
@@ -359,7 +459,7 @@ impl Deviations<'_> {
         requires { m < length self.now }
         ensures { Middles self.now m result.low result.high }
     {
-        if self.len() <= MANY {
+        if self.len() <= FEW {
             self.middles_of_few(m)
         } else {
             self.middles_of_many(m)
@@ -411,16 +511,14 @@ fn any_nan(a: &[f64], d: f64) -> bool
     makes_nan(a, d)
 }
 
-// The median of the deviations ||x| − d|.
-pub fn median_from(a: &[f64], d: f64) -> f64
+// The median of the deviations ||x| − d|, none of which is a NaN.
+pub fn median_of_some(a: &[f64], d: f64) -> f64
+    requires { any_nan (distances d a.now) ≡ false }
     ensures { result ≡ median_of (distances d a.now) }
 {
     let n = a.len();
     if n == 0 {
         return 0.0;
-    }
-    if any_nan(a, d) {
-        return f64::NAN;
     }
     let numbers = Deviations { sizes: a, from: d };
     let p = numbers.middles(n / 2);
@@ -429,4 +527,14 @@ pub fn median_from(a: &[f64], d: f64) -> f64
         return high;
     }
     midpoint(f64::from_bits(p.low), high)
+}
+
+// The same, of any.
+pub fn median_from(a: &[f64], d: f64) -> f64
+    ensures { result ≡ median_of (distances d a.now) }
+{
+    if any_nan(a, d) {
+        return f64::NAN;
+    }
+    median_of_some(a, d)
 }

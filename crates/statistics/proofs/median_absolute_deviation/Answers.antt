@@ -1,13 +1,22 @@
 -- `statistics::median_absolute_deviation` meets its contract.
-use Rattle.std.proofs.Common.{map, ap, ◌∙◌}
+use Rattle.std.proofs.Common.{◌≡◌, List, map, sym, ap, ◌∙◌}
 use lib.Ieee.{Float}
 use Rattle.value.specs.Absolute.{abs_f}
+use Rattle.statistics.specs.Counting.{distances}
 use Rattle.statistics.specs.Medians.{deviations, median_of, median_absolute_deviation}
-use Rattle.statistics.proofs.Deviations.{distances_are}
+use Rattle.statistics.proofs.Deviations.{distances_are, none_of_median}
 use Rattle.statistics.proofs.median_absolute_deviation.Goals as goal
 
-pub returns : goal.returns
+-- from the median of the sizes
+about : (d : Float) (a : List Float) → d ≡ median_of (map abs_f a) → median_of (distances d a) ≡ median_absolute_deviation a
 unfolding median_absolute_deviation
-returns c =
-    c.median_from.ensures ∙ ap median_of (distances_are c.median_of_sizes.result c.args.a.now)
-    ∙ ap (λ (m : Float). median_of (deviations m (map abs_f c.args.a.now))) c.median_of_sizes.ensures
+about d a e = ap median_of (distances_are d a) ∙ ap (λ (m : Float). median_of (deviations m (map abs_f a))) e
+
+pub median_of_some-requires : goal.median_of_some-requires
+median_of_some-requires c = none_of_median c.args.a.now _ c.median_of_sizes-d.ensures (sym c.is_finite.ensures ∙ c.if-is_finite.true)
+
+pub returns-then-is_finite : goal.returns-then-is_finite
+returns-then-is_finite c = c.median_of_some.ensures ∙ about _ _ c.median_of_sizes-d.ensures
+
+pub returns : goal.returns
+returns c = c.median_from.ensures ∙ about _ _ c.median_of_sizes-d.ensures

@@ -1,5 +1,5 @@
 -- `statistics::order::Deviations::gather` meets its contract. The invariant: the first c places are those kept so far.
-use Rattle.std.proofs.Common.{◌<◌, ◌&&◌, nat_le, length, refl, ap, arith, rules}
+use Rattle.std.proofs.Common.{◌<◌, ◌&&◌, length, refl, ap, arith, rules}
 use Rattle.statistics.specs.Counting.{distances, count, between, keep}
 use Rattle.statistics.proofs.Counts.{from_bool_most, count_turn}
 use Rattle.statistics.proofs.Deviations.{plain_at, bits_some}
@@ -25,10 +25,10 @@ pub loop-x-preserved : goal.loop-x-preserved
 loop-x-preserved c =
     let p = between c.args.lo c.args.hi in
     let h = c.loop-x-test.true in
-    let most = from_bool_most (nat_le c.args.lo c.key-k.result && nat_le c.key-k.result c.args.hi) in
+    let most = from_bool_most (c.at_most.result && c.at_most-in-loop-x.result) in
     let room : c.loop-x.c < length c.loop-x.out =
     omega (arith, c.loop-x.invariant.1, count_part p c.self.inside.from c.self.inside.sizes.now c.loop-x.x-index, ap (count p) c.self.view_is) in (
       omega arith,
-      rw (c.from-c.ensures, c.key-k.ensures.is, c.loop-x.invariant.1) (count_turn _ _ _ h p),
-      rw (c.from-c.ensures, c.key-k.ensures.is) (keep_turn p _ _ _ h (plain_at _ _ _ h c.self.invariant) _ _ room c.loop-x.invariant.2),
+      rw (c.from-c.ensures, c.at_most.ensures, c.at_most-in-loop-x.ensures, c.key-k.ensures.is, c.loop-x.invariant.1) (count_turn _ _ _ h p),
+      rw (c.from-c.ensures, c.at_most.ensures, c.at_most-in-loop-x.ensures, c.key-k.ensures.is) (keep_turn p _ _ _ h (plain_at _ _ _ h c.self.invariant) _ _ room c.loop-x.invariant.2),
     )

@@ -1,17 +1,7 @@
--- `statistics::order::Deviations::narrow` meets its contract. The invariant: the bits at place m lie in the range, whose counts are right.
-use Rattle.std.proofs.Common.{sym, ◌∙◌, arith}
-use Rattle.statistics.proofs.Counts.{under_zero, upto_all, ends_moved}
+-- `statistics::order::Deviations::narrow` meets its contract. The invariant: place m lies in the range, whose counts are right.
+use Rattle.std.proofs.Common.{arith}
+use Rattle.statistics.proofs.Counts.{ends_moved}
 use Rattle.statistics.proofs.order.Deviations.narrow.Goals as goal
-
-pub loop-r-init : goal.loop-r-init
-loop-r-init c = record {
-  ordered = omega arith;
-  small = omega arith;
-  below = sym (under_zero c.args.self.now);
-  most = omega arith;
-  reached = omega arith;
-  upto = c.len.ensures.is ∙ sym (upto_all c.args.self.now c.len.ensures.plain);
-}
 
 pub loop-r-smaller-then-gap : goal.loop-r-smaller-then-gap
 loop-r-smaller-then-gap c =
@@ -24,8 +14,8 @@ loop-r-preserved-then-gap c =
     record {
       ordered = omega arith;
       small = omega arith;
-      below = rw c.edges-e.ensures.high (omega arith);
-      most = omega arith;
+      under_it = rw c.edges-e.ensures.high (omega arith);
+      least = omega arith;
       reached = omega arith;
-      upto = rw c.edges-e.ensures.low (omega arith);
+      upto_it = rw c.edges-e.ensures.low (omega arith);
     }
