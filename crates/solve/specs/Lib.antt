@@ -4,5 +4,7 @@ pub mod SolveLaws
 pub mod Corner
 pub mod CornerLaws
 pub mod Laws
+pub mod Columns
+pub mod ColumnLaws
 pub mod Nested
 pub mod NestedLaws

@@ -2,6 +2,8 @@
 // They stand in for polyfit's SVD in `solve_matrix` and for its inverse.
 #![tactic(auto)]
 
+mod columns;
+
 ghost use Rattle.std.specs.Prelude.{◌≡◌, ◌++◌, ◌≤◌, ◌<◌, length, take, drop, replicate};
 ghost use Rattle.basis.specs.Sizes.{matrix_places, max_terms, sum_places};
 ghost use Rattle.value.specs.Numbers.{zero_f};
@@ -9,6 +11,7 @@ ghost use Rattle.solve.specs.Solve.{eliminate as eliminate_f, back, solve as sol
 ghost use Rattle.solve.specs.Nested.{stopped, elimination, solution_of};
 
 use basis::{CoefficientCount, MATRIX, TERMS};
+use columns::{column_in, eliminate_all, identity};
 
 // 2 to the power −48.
 const PIVOT_RATIO: f64 = f64::from_bits(0x3CF0_0000_0000_0000);
@@ -65,6 +68,7 @@ pub fn back_substitution(k: CoefficientCount, m: &[f64; MATRIX], b: &mut [f64; T
 }
 
 // The values, then +0.
+#[inline(always)]
 fn front<const N: usize>(s: &[f64]) -> [f64; N]
     requires { length s.now ≤ N }
     ensures { result ≡ s.now ++ drop (length s.now) (replicate N zero_f) }
@@ -97,7 +101,8 @@ pub struct Elimination {
     pub b: [f64; TERMS],
 }
 
-// Eliminates for k coefficients, from the corner of A and from g. It serves all smaller counts too.
+// Eliminates for k coefficients, from the corner of A and from g. It serves all smaller counts too. Inlined, so that M is made where it is read.
+#[inline(always)]
 pub fn eliminated(sums: &[f64], k: CoefficientCount) -> Elimination
     requires { (sum_places ≤ length sums.now) × (k.0 ≤ max_terms) }
     ensures { stopped result.held result.m result.b ≡ elimination sums.now k.0 }
@@ -112,6 +117,7 @@ pub fn eliminated(sums: &[f64], k: CoefficientCount) -> Elimination
 
 impl Elimination {
     // The k coefficients, from an elimination of at least as many.
+    #[inline(always)]
     pub fn solution(&self, k: CoefficientCount) -> Solved
         requires { k.0 ≤ max_terms }
         ensures { result ≡ solution_of k.0 (stopped self.now.held self.now.m self.now.b) }
@@ -156,7 +162,9 @@ pub struct Inverted {
     pub v: [f64; MATRIX],
 }
 
-// The inverse of the corner of A with 2⁻⁵² first added to each diagonal place, one unit column after the other.
+// The inverse of the corner of A with 2⁻⁵² first added to each diagonal place. Document 01 eliminates once per unit column; what decides a pivot is the
+// same each time. Inlined, so that V is made where it is read.
+#[inline(always)]
 pub fn inverse(sums: &[f64], k: CoefficientCount) -> Inverted
     requires { (matrix_places ≤ length sums.now) × (k.0 ≤ max_terms) }
     ensures { result ≡ inverse_f sums.now k.0 }
@@ -164,14 +172,14 @@ pub fn inverse(sums: &[f64], k: CoefficientCount) -> Inverted
     let n = k.0;
     let mut l = front(&sums[..MATRIX]);
     ridge(k, &mut l);
+    let mut m = l;
+    let mut units = identity(k);
     let mut v = [0.0; MATRIX];
+    if eliminate_all(&l, k, &mut m, &mut units) < n {
+        return Inverted { columns: 0, v };
+    }
     for j in 0..n {
-        let mut m = l;
-        let mut b = [0.0; TERMS];
-        b[j] = 1.0;
-        if eliminate(&l, k, &mut m, &mut b) < n {
-            return Inverted { columns: j, v };
-        }
+        let mut b = column_in(&units, j);
         back_substitution(k, &m, &mut b);
         put_column(k, j, &b, &mut v);
     }

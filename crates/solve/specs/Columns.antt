@@ -1,0 +1,9 @@
+-- The columns of a matrix, for right sides that lie beside each other. Definitions only.
+use Rattle.std.specs.Prelude.{List, ℕ, Float}
+use Rattle.basis.specs.Sizes.{max_terms}
+use Rattle.loops.specs.Places.{table}
+use Rattle.solve.specs.Solve.{cell}
+
+-- the 16 places of column j
+unfoldable pub column_in : List Float → ℕ → List Float
+column_in v j = table (λ r. cell v r j) max_terms

@@ -1,0 +1,65 @@
+// Right sides that lie beside each other, as columns of a matrix.
+ghost use Rattle.std.specs.Prelude.{◌≡◌, ℕ, ◌≤◌, ◌<◌, length};
+ghost use Rattle.basis.specs.Sizes.{matrix_places, max_terms};
+ghost use Rattle.solve.specs.Solve.{eliminate as eliminate_f, unit};
+ghost use Rattle.solve.specs.Columns.{column_in};
+
+use crate::PIVOT_RATIO;
+use basis::{CoefficientCount, MATRIX, TERMS};
+
+// Eliminates as `eliminate` does, with all k columns of v beside the corner: one elimination of m serves them all. The product of a factor and a place is
+// taken off in each column where the elimination of that column alone takes it off.
+pub fn eliminate_all(
+    start: &[f64],
+    k: CoefficientCount,
+    m: &mut [f64; MATRIX],
+    v: &mut [f64; MATRIX],
+) -> usize
+    requires { (matrix_places ≤ length start.now) × (k.0 ≤ max_terms) }
+    ensures { (j : ℕ) → j < k.0 → record { at = result; state = record { m = m.new; b = column_in v.new j } } ≡ eliminate_f start.now k.0 (record { m = m.old; b = column_in v.old j }) }
+{
+    let n = k.0;
+    let mut held = n;
+    'pivots: for p in 0..n {
+        let pp = 16 * p + p;
+        let least = PIVOT_RATIO * start[pp];
+        if !(m[pp] > least) {
+            held = p;
+            break 'pivots;
+        }
+        'rows: for r in p + 1..n {
+            let f = m[16 * r + p] / m[pp];
+            'columns: for c in p + 1..n {
+                m[16 * r + c] -= f * m[16 * p + c];
+            }
+            'beside: for c in 0..n {
+                v[16 * r + c] -= f * v[16 * p + c];
+            }
+        }
+    }
+    held
+}
+
+// The k by k identity, +0 in every other place.
+pub fn identity(k: CoefficientCount) -> [f64; MATRIX]
+    requires { k.0 ≤ max_terms }
+    ensures { (j : ℕ) → j < k.0 → column_in result j ≡ unit j }
+{
+    let mut v = [0.0; MATRIX];
+    for i in 0..k.0 {
+        v[16 * i + i] = 1.0;
+    }
+    v
+}
+
+// Column j of v.
+pub fn column_in(v: &[f64; MATRIX], j: usize) -> [f64; TERMS]
+    requires { j < max_terms }
+    ensures { result ≡ column_in v.now j }
+{
+    let mut b = [0.0; TERMS];
+    for r in 0..TERMS {
+        b[r] = v[16 * r + j];
+    }
+    b
+}
