@@ -6,7 +6,6 @@ mod reach;
 ghost use Rattle.std.specs.Prelude.{◌≡◌, ◌+◌, ◌<◌, ◌≤◌, length, take, drop};
 ghost use Rattle.basis.specs.Sizes.{highest_degree, max_terms, sum_places};
 ghost use Rattle.loops.specs.Within.{Within};
-ghost use Rattle.basis.specs.Counts.{count_of};
 ghost use Rattle.basis.specs.declared.Basis.TheVariants.{Curve};
 ghost use Rattle.monomial.specs.Reading.{rows_read, weighted_read};
 ghost use Rattle.monomial.specs.Sums.{add_rows, sums_of};
@@ -14,6 +13,7 @@ ghost use Rattle.monomial.specs.Corner.{SameCorner};
 ghost use Rattle.choice.specs.Choice.{chosen_of};
 ghost use Rattle.value.specs.Total.{total_f};
 ghost use Rattle.statistics.specs.Losses.{losses};
+ghost use Rattle.solve.specs.Solve.{solve as solve_f};
 ghost use Rattle.score.specs.Score.{score_of};
 ghost use Rattle.fit.specs.Residuals.{residuals};
 ghost use Rattle.fit.specs.Solved.{scored_by};
@@ -25,6 +25,7 @@ use basis::{Basis, CoefficientCount, Degree, SUMS, TERMS};
 use monomial::Rows;
 use reach::Reach;
 use score::Criterion;
+use solve::Solved;
 
 // Where fold f begins.
 fn start_of(n: usize, folds: usize, f: usize) -> usize
@@ -86,23 +87,22 @@ fn score_rows(
     fit::score_on(criterion, scratch, k)
 }
 
-// A degree solved from the sums, and scored on the rows from start to end.
+// The k coefficients that were solved from the sums, scored on the rows from start to end.
 fn score_fold(
     rows: Rows<'_>,
     reach: Reach,
     start: usize,
     end: usize,
     sums: &[f64],
-    degree: Degree,
+    k: CoefficientCount,
+    solved: Solved,
     criterion: Criterion,
     scratch: &mut [f64],
 ) -> Option<f64>
-    requires { (length rows.ys.now ≤ length scratch.old) × (start ≤ end) × (end ≤ length rows.ys.now) × (sum_places ≤ length sums.now) × (degree.0 ≤ highest_degree) × Reached rows reach }
-    ensures scored { result ≡ scored_by criterion sums.now (rows_read rows.entry) (own_of start end (rows_read rows.entry)) (count_of Curve degree.0) }
+    requires { (length rows.ys.now ≤ length scratch.old) × (start ≤ end) × (end ≤ length rows.ys.now) × (k.0 ≤ max_terms) × (solved ≡ solve_f sums.now k.0) × Reached rows reach }
+    ensures scored { result ≡ scored_by criterion sums.now (rows_read rows.entry) (own_of start end (rows_read rows.entry)) k.0 }
     ensures within { Within (length rows.entry.ys.now) scratch.old scratch.new }
 {
-    let k = degree.k(Basis::Curve);
-    let solved = solve::solve(sums, k);
     if solved.held < k.0 {
         return None;
     }
@@ -147,7 +147,7 @@ impl Tally {
     }
 }
 
-// One fold more, from the sums over the rows before it. Its own sums are folded once and serve every degree.
+// One fold more, from the sums over the rows before it. Its own sums are folded and eliminated once, for every degree.
 fn add_fold(
     rows: Rows<'_>,
     reach: Reach,
@@ -169,17 +169,21 @@ fn add_fold(
     let n = rows.ys.len();
     let start = start_of(n, folds, f);
     let end = end_of(n, folds, f);
-    let sums = fold_others(rows, end, CoefficientCount(b), before);
+    let most = CoefficientCount(b);
+    let sums = fold_others(rows, end, most, before);
+    let e = solve::eliminated(&sums, most);
     // by index, the degree: of an `iter_mut` behind `enumerate` a proof knows no element
     for d in 0..b {
-        let degree = Degree(d);
+        let k = Degree(d).k(Basis::Curve);
+        let solved = e.solution(k);
         let s = score_fold(
             rows,
             reach,
             start,
             end,
             &sums,
-            degree,
+            k,
+            solved,
             criterion,
             &mut *scratch,
         );
