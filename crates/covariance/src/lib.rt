@@ -28,8 +28,7 @@ use statistics::Tolerance;
 // 2 to the power −52.
 const EPSILON: f64 = f64::from_bits(0x3CB0_0000_0000_0000);
 
-// The inverse × residual variance, place by place. Inlined, so that it is made where it is read.
-#[inline(always)]
+// The inverse × residual variance, place by place.
 pub fn covariance(inverse: &[f64; MATRIX], variance: f64) -> [f64; MATRIX]
     ensures { result ≡ covariance_of inverse.now variance }
 {

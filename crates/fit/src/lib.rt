@@ -34,7 +34,7 @@ fn residual(rows: Rows<'_>, k: CoefficientCount, c: &[f64; TERMS], i: usize) -> 
     rows.ys[i] - monomial::fitted_at(rows.basis, k, c, rows.xs[i], rows.zs[i])
 }
 
-// The residuals of samples i and i + 1. The coefficients are in both places of their vectors.
+// The residuals of samples i and i + 1, each by the coefficients in its places of the vectors.
 #[inline(always)]
 fn pair_residuals(rows: Rows<'_>, k: CoefficientCount, c: &[f64x2; TERMS], i: usize) -> [f64; 2]
     requires { (k.0 ≤ max_terms) × Paired c.now × (i + 1 < length rows.ys.now) }

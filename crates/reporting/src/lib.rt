@@ -110,9 +110,7 @@ pub struct Chosen {
     pub found: Result<Found, Refusal>,
 }
 
-// Chooses among the degrees 0 to the last one, solves the chosen one again and measures it. Of scratch, only the first n places change. Inlined, so that what it
-// found is not copied.
-#[inline(always)]
+// Chooses among the degrees 0 to the last one, solves the chosen one again and measures it. Of scratch, only the first n places change.
 pub fn choose(
     rows: Rows<'_>,
     last: Degree,

@@ -40,7 +40,7 @@ pub fn eliminate_all(
     held
 }
 
-// The k by k identity, +0 in every other place.
+// The first k unit columns.
 pub fn identity(k: CoefficientCount) -> [f64; MATRIX]
     requires { k.0 ≤ max_terms }
     ensures { (j : ℕ) → j < k.0 → column_in result j ≡ unit j }

@@ -68,7 +68,6 @@ pub fn back_substitution(k: CoefficientCount, m: &[f64; MATRIX], b: &mut [f64; T
 }
 
 // The values, then +0.
-#[inline(always)]
 fn front<const N: usize>(s: &[f64]) -> [f64; N]
     requires { length s.now ≤ N }
     ensures { result ≡ s.now ++ drop (length s.now) (replicate N zero_f) }
@@ -101,8 +100,7 @@ pub struct Elimination {
     pub b: [f64; TERMS],
 }
 
-// Eliminates for k coefficients, from the corner of A and from g. It serves all smaller counts too. Inlined, so that M is made where it is read.
-#[inline(always)]
+// Eliminates for k coefficients, from the corner of A and from g. It serves all smaller counts too.
 pub fn eliminated(sums: &[f64], k: CoefficientCount) -> Elimination
     requires { (sum_places ≤ length sums.now) × (k.0 ≤ max_terms) }
     ensures { stopped result.held result.m result.b ≡ elimination sums.now k.0 }
@@ -117,7 +115,6 @@ pub fn eliminated(sums: &[f64], k: CoefficientCount) -> Elimination
 
 impl Elimination {
     // The k coefficients, from an elimination of at least as many.
-    #[inline(always)]
     pub fn solution(&self, k: CoefficientCount) -> Solved
         requires { k.0 ≤ max_terms }
         ensures { result ≡ solution_of k.0 (stopped self.now.held self.now.m self.now.b) }
@@ -154,8 +151,8 @@ fn put_column(k: CoefficientCount, j: usize, b: &[f64; TERMS], v: &mut [f64; MAT
     }
 }
 
-// How many columns of the inverse are made, all k unless a pivot fails, and the inverse; +0 in every other place. A number and no `Option`, since the columns that are made
-// before a pivot fails are promised too.
+// How many columns of the inverse are made, all k or none where a pivot fails, and the inverse; +0 in every other place. A number and no `Option`, as document 01
+// makes one column after the other.
 #[derive(Clone, Copy)]
 pub struct Inverted {
     pub columns: usize,
@@ -163,8 +160,7 @@ pub struct Inverted {
 }
 
 // The inverse of the corner of A with 2⁻⁵² first added to each diagonal place. Document 01 eliminates once per unit column; what decides a pivot is the
-// same each time. Inlined, so that V is made where it is read.
-#[inline(always)]
+// same each time.
 pub fn inverse(sums: &[f64], k: CoefficientCount) -> Inverted
     requires { (matrix_places ≤ length sums.now) × (k.0 ≤ max_terms) }
     ensures { result ≡ inverse_f sums.now k.0 }
