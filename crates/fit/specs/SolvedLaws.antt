@@ -1,8 +1,12 @@
 -- Laws of Solved.antt.
-use Rattle.std.specs.Prelude.{◌≡◌, Bool, true, false, cond, List, map, ℕ, length, Float, Option, Some, None, refl}
+use Rattle.std.specs.Prelude.{◌≡◌, Bool, true, false, cond, List, map, ℕ, eqb, length, Float, Option, Some, None, refl}
 use Rattle.std.proofs.Common.{sym, ◌∙◌}
 use Rattle.std.proofs.lemmas.Option.{none-some, cond_some}
+use Rattle.loops.specs.Cases.{and_second}
+use Rattle.loops.specs.Fold.{all_of}
 use Rattle.value.specs.Absolute.{abs_f}
+use Rattle.value.specs.Finite.{finite}
+use Rattle.value.specs.FiniteLaws.{finite_sizes}
 use Rattle.value.specs.Total.{total_f}
 use Rattle.statistics.specs.Losses.{losses}
 use Rattle.statistics.specs.LossLaws.{losses_sizes}
@@ -28,6 +32,11 @@ module _ (sums : List Float) (rows : List Row) (k : ℕ) where
       go : (t : Bool) → None ≡ cond t (Some (solve sums k).c) None → t ≡ false
       go true q = absurd (none-some _ q)
       go false q = refl
+
+  -- the sizes of its residuals are finite
+  pub solved_finite : is_solved sums rows k ≡ true → all_of finite (map abs_f (residuals k (solve sums k).c rows)) ≡ true
+  unfolding is_solved
+  solved_finite h = finite_sizes (residuals k (solve sums k).c rows) ∙ and_second (eqb (solve sums k).held k) (all_of finite (residuals k (solve sums k).c rows)) h
 
 -- what is known of what is not solved, and of what is and has the score v on n rows of its own, whose residuals have the sizes a
 module _ (criterion : Criterion) (sums : List Float) (rows own : List Row) (k : ℕ) where

@@ -175,7 +175,9 @@ fn trial(
     let Some(_) = a.c else {
         return Tried { score: None, tests };
     };
-    let score = Some(score_on(criterion, &scratch[..rows.ys.len()], k));
+    let n = rows.ys.len();
+    let total = statistics::total_of_finite(&scratch[..n]);
+    let score = Some(score::score(criterion, n, k, total));
     Tried { score, tests }
 }
 

@@ -6,6 +6,7 @@ use Rattle.std.specs.Float.Ieee.{neg, add, sub, mul, div, lt, le}
 use Rattle.value.specs.Absolute.{abs_f}
 use Rattle.value.specs.AbsoluteLaws.{square_abs}
 use Rattle.value.specs.Finite.{finite}
+use Rattle.value.specs.FiniteLaws.{finite_abs}
 use Rattle.signs.specs.Opposite.{Opposite}
 use Rattle.signs.specs.OppositeLaws.{same_sym, same_trans, neg_same, opposite_neg, opposite_of, same_at}
 use Rattle.signs.specs.Negated.{mul_neg_left, mul_neg_right, div_neg, lt_neg, le_neg}
@@ -52,12 +53,6 @@ abs_neg (fin s m e) = refl
 abs_zeros : (s t : Bool) → abs_f (fin s 0 (pos 0)) ≡ abs_f (fin t 0 (pos 0))
 unfolding abs_f
 abs_zeros s t = refl
-
-finite_abs : (x : Float) → finite (abs_f x) ≡ finite x
-unfolding abs_f finite
-finite_abs nan = refl
-finite_abs (inf s) = refl
-finite_abs (fin s m e) = refl
 
 module _ {a a' : Float} (p : Opposite a a') where
   -- the same bits

@@ -14,7 +14,7 @@ use Rattle.loops.specs.FoldLaws.{fold_map_again}
 use Rattle.value.specs.Absolute.{abs_f}
 use Rattle.value.specs.Keys.{bits_le, plain_fits}
 use Rattle.statistics.specs.Medians.{sort}
-use Rattle.statistics.specs.Counting.{Plain, distances, count, upto, under, AtPlace, Middles, Narrowed, nearer, farther, least_from, greatest_under}
+use Rattle.statistics.specs.Counting.{Plain, distances, count, upto, under, AtPlace, Middles, InRange, nearer, farther, least_from, greatest_under}
 use Rattle.statistics.proofs.Sorting.{place, all_sort, length_sort}
 
 -- ---- counts along a list
@@ -330,35 +330,22 @@ edges_stand l a m b h s e =
     }
 
 -- the same of a range that is cut down so far
-pub edges_found : (l : List Float) → All Plain l → (m few lo hi below : ℕ) → Narrowed l m few lo hi below → m < length l → below ≡ m → (low high : ℕ)
+pub edges_found : (l : List Float) → All Plain l → (m lo hi below most : ℕ) → InRange l m lo hi below most → m < length l → below ≡ m → (low high : ℕ)
     → low ≡ greatest_under lo l → high ≡ least_from lo l → Middles l m low high
-edges_found l a m few lo hi below p h e low high q r = rw (q, r) (edges_stand l a m lo h (le_trans p.ordered p.small) (sym p.is ∙ e))
+edges_found l a m lo hi below most p h e low high q r = rw (q, r) (edges_stand l a m lo h (le_trans p.ordered p.small) (sym p.under_it ∙ e))
 
--- what a range cut down to `few` is, where fewer than m are under it
-module _ (l : List Float) (m few lo hi below : ℕ) (p : Narrowed l m few lo hi below) (n : below ≡ m → ⊥) where
-  -- a single number, and then that one stands at both places
-  pub single_stands : lo ≡ hi → Middles l m lo lo
-  single_stands e =
-      let q = p.is in
-      let t = p.most in
-      let s = p.small in
-      let at : AtPlace l m lo = record { small = omega arith; below = omega arith; reached = rw e p.reached } in
-      record { upper = at; lower = λ _. place_before l m lo at (omega (arith, n)) }
-
-  -- or no more than so many
-  pub few_left : (lo ≡ hi → ⊥) → count (upto hi) l ≤ below + few
-  few_left o = left p.stops
-    where
-      left : (below ≡ m) ⊎ ((lo ≡ hi) ⊎ (count (upto hi) l ≤ below + few)) → count (upto hi) l ≤ below + few
-      left (inl e) = absurd (n e)
-      left (inr (inl e)) = absurd (o e)
-      left (inr (inr h)) = h
-
--- cut down to none it is a single one
-pub none_left : (l : List Float) (m lo hi below : ℕ) → Narrowed l m 0 lo hi below → (below ≡ m → ⊥) → lo ≡ hi
-none_left l m lo hi below p n = left p.stops
+-- a range cut down until none but a single number can be left, where fewer than m are under it: that one stands at both places
+pub single_stands : (l : List Float) (m lo hi below most : ℕ) → InRange l m lo hi below most → (below ≡ m → ⊥) → (below ≡ m) ⊎ ((lo ≡ hi) ⊎ (most ≤ below + 0)) → Middles l m lo lo
+single_stands l m lo hi below most p n s = stands (single s)
   where
-    left : (below ≡ m) ⊎ ((lo ≡ hi) ⊎ (count (upto hi) l ≤ below + 0)) → lo ≡ hi
-    left (inl e) = absurd (n e)
-    left (inr (inl e)) = e
-    left (inr (inr h)) = absurd (let q = p.most in let r = p.reached in omega arith)
+    single : (below ≡ m) ⊎ ((lo ≡ hi) ⊎ (most ≤ below + 0)) → lo ≡ hi
+    single (inl e) = absurd (n e)
+    single (inr (inl e)) = e
+    single (inr (inr h)) = absurd (let q = p.least in let r = p.reached in omega arith)
+
+    stands : lo ≡ hi → Middles l m lo lo
+    stands e =
+        let u = p.under_it in
+        let t = p.least in
+        let at : AtPlace l m lo = record { small = le_trans p.ordered p.small; below = omega arith; reached = rw (e, ← p.upto_it) p.reached } in
+        record { upper = at; lower = λ _. place_before l m lo at (omega (arith, n)) }

@@ -11,8 +11,8 @@ use Rattle.std.proofs.lemmas.Float.{T_from_false}
 use Rattle.loops.specs.All.{All}
 use Rattle.loops.specs.AllLaws.{all_at}
 use Rattle.loops.specs.Cases.{by_test, choose, never, or_false}
-use Rattle.loops.specs.Fold.{fold}
-use Rattle.loops.specs.FoldLaws.{fold_map_again}
+use Rattle.loops.specs.Fold.{fold, all_of}
+use Rattle.loops.specs.FoldLaws.{fold_map_again, all_cons}
 use Rattle.loops.specs.PlaceLaws.{map_at}
 use Rattle.value.specs.Absolute.{abs_f}
 use Rattle.value.specs.AbsoluteLaws.{flat}
@@ -248,6 +248,25 @@ pub distances_zero : (l : List Float) → All (λ x. T (fits binary64 x)) l → 
 unfolding distances
 distances_zero [] a = refl
 distances_zero (x ∷ xs) a = rw (less_zero x a.0) (ap (λ (r : List Float). abs_f x ∷ r) (distances_zero xs a.1))
+
+-- finite numbers: no deviation from +0 is a NaN
+finite_some : (x : Float) → finite x ≡ true → is_nan x ≡ false
+unfolding finite is_nan
+finite_some nan p = never p
+finite_some (inf s) p = refl
+finite_some (fin s m e) p = refl
+
+finite_none : (l : List Float) → all_of finite l ≡ true → any_nan l ≡ false
+unfolding any_nan fold
+finite_none [] p = refl
+finite_none (x ∷ xs) p = let q = all_cons finite x xs p in rw (finite_some x q.0) (finite_none xs q.1)
+
+zero_finite : finite zero_f ≡ true
+unfolding finite of_bits
+zero_finite = refl
+
+pub none_of_finite : (l : List Float) → all_of finite l ≡ true → any_nan (distances zero_f l) ≡ false
+none_of_finite l h = nan_finite zero_f zero_finite l ∙ finite_none l h
 
 -- what every place has, the whole list has
 pub all_places : (P : Float → Type 0) (d : Float) (l : List Float) → ((i : ℕ) → P (get_or l i d)) → All P l

@@ -1,18 +1,19 @@
 -- Of a list only the numbers in a range of bits are kept: what then stands at a place stands so many places further in the whole as are under the range.
-use Rattle.std.proofs.Common.{◌≡◌, ℕ, zero, suc, ◌+◌, ◌-◌, ◌<◌, ◌≤◌, Bool, true, false, cond, not, T, leb, List, [], ◌∷◌, ◌++◌, map, length, get_or, take, set, sym, refl, ap, ◌∙◌, subst, append-nil, zero-le, le_refl, add-zero, arith, leb→le, le-leb}
+use Rattle.std.proofs.Common.{◌≡◌, ℕ, zero, suc, ◌+◌, ◌-◌, ◌*◌, ◌/◌, ◌%◌, ◌<◌, ◌≤◌, Bool, true, false, cond, not, T, leb, List, [], ◌∷◌, ◌++◌, map, length, get_or, take, set, sym, refl, ap, ◌∙◌, subst, append-nil, zero-le, le_refl, add-zero, arith, leb→le, le-leb, take_all}
 use borrow.Author.Tests.{lt-leb}
 use lib.Ieee.{Float, nan, inf, fin, binary64, sub, to_bits, of_bits, fits}
 use lib.Ieee.Bits.{of_bits-to_bits}
 use Rattle.std.specs.Int.{from_bool}
-use Rattle.std.proofs.lemmas.List.{map_more, take_more_set, take-set}
+use Rattle.std.proofs.lemmas.List.{map_more, take_more_set, take-set, length-set}
 use Rattle.loops.specs.All.{All}
 use Rattle.loops.specs.Cases.{choose, either}
 use Rattle.value.specs.Absolute.{abs_f}
 use Rattle.value.specs.Keys.{plain_fits}
 use Rattle.value.specs.Numbers.{zero_f}
-use Rattle.statistics.specs.Counting.{Plain, distances, count, upto, under, between, keep, AtPlace, Middles, Narrowed}
-use Rattle.statistics.proofs.Counts.{from_bool_most, under_next, count_mono, few_left}
+use Rattle.statistics.specs.Counting.{Plain, distances, count, upto, under, between, keep, AtPlace, Middles, InRange}
+use Rattle.statistics.proofs.Counts.{from_bool_most, under_next, count_mono}
 use Rattle.statistics.proofs.Deviations.{distances_zero}
+use Rattle.statistics.proofs.Pairs.{count_even, count_odd}
 
 pub length_keep : (p : Float → Bool) (l : List Float) → length (keep p l) ≡ count p l
 unfolding keep count
@@ -46,10 +47,10 @@ module _ (lo hi : ℕ) where
       (λ g. rw (lt-leb lo k g, lt-leb b k (omega arith)) (omega arith))
 
   -- none that is kept is under lo, and all are up to hi
-  none_under : lo ≤ hi → (l : List Float) → count (under lo) (keep (between lo hi) l) ≡ 0
+  pub none_under : lo ≤ hi → (l : List Float) → count (under lo) (keep (between lo hi) l) ≡ 0
   none_under o l = let h = kept_under lo (le_refl lo) (omega arith) l in omega arith
 
-  all_upto : (l : List Float) → count (upto hi) (keep (between lo hi) l) ≡ length (keep (between lo hi) l)
+  pub all_upto : (l : List Float) → count (upto hi) (keep (between lo hi) l) ≡ length (keep (between lo hi) l)
   unfolding count keep
   all_upto [] = refl
   all_upto (x ∷ xs) =
@@ -119,29 +120,50 @@ keep_snoc p (y ∷ ys) x = by (p y) (keep_snoc p ys x)
     by true h = ap (λ (r : List Float). y ∷ r) h
     by false h = h
 
--- each number is written at place c, and the place is kept where it lies in the range
+-- a number v is written at place c, and the place is kept where it lies in the range
+keep_at : (out : List Float) (c : ℕ) → c < length out → (v : Float) (t : Bool) → take (c + from_bool t) (set out c v) ≡ take c out ++ cond t (v ∷ []) []
+keep_at out c r v true = take_more_set out c v r
+keep_at out c r v false = rw (add-zero, take-set) (sym (append-nil (take c out)))
+
 module _ (p : Float → Bool) (d : Float) (a : List Float) (i : ℕ) (h : i < length a) where
   keep_again : keep p (distances d (take (i + 1) a)) ≡ keep p (distances d (take i a)) ++ cond (p (abs_f (sub binary64 (abs_f (get_or a i nan)) d))) (abs_f (sub binary64 (abs_f (get_or a i nan)) d) ∷ []) []
   unfolding distances
   keep_again = ap (keep p) (map_more (λ x. abs_f (sub binary64 (abs_f x) d)) a i nan h) ∙ keep_snoc p (map (λ x. abs_f (sub binary64 (abs_f x) d)) (take i a)) _
 
-  pub keep_turn : Plain (abs_f (sub binary64 (abs_f (get_or a i nan)) d)) → (out : List Float) (c : ℕ) → c < length out → take c out ≡ keep p (distances d (take i a))
-      → take (c + from_bool (p (abs_f (sub binary64 (abs_f (get_or a i nan)) d)))) (set out c (of_bits binary64 (to_bits binary64 (abs_f (sub binary64 (abs_f (get_or a i nan)) d)))))
-      ≡ keep p (distances d (take (i + 1) a))
-  keep_turn l out c r e =
-      let v = abs_f (sub binary64 (abs_f (get_or a i nan)) d) in
-      rw (of_bits-to_bits binary64 v (plain_fits v l), keep_again, ← e) (by v (p v))
-    where
-      by : (v : Float) (t : Bool) → take (c + from_bool t) (set out c v) ≡ take c out ++ cond t (v ∷ []) []
-      by v true = take_more_set out c v r
-      by v false = rw (add-zero, take-set) (sym (append-nil (take c out)))
+  -- those kept so far stand first, if they fit; else some other place of out is written
+  pub keep_turn : (out : List Float) (n last k b : ℕ) (x : Float) → length out ≡ last + 1 → (n ≤ last → take n out ≡ keep p (distances d (take i a)))
+      → (n ≤ last → k ≡ n) → x ≡ abs_f (sub binary64 (abs_f (get_or a i nan)) d) → b ≡ from_bool (p x)
+      → n + b ≤ last → take (n + b) (set out k x) ≡ keep p (distances d (take (i + 1) a))
+  keep_turn out n last k b x l e f u g r =
+      let q : n ≤ last = omega arith in
+      rw (g, f q, u, keep_again, ← e q) (keep_at out n (omega arith) _ (p _))
 
--- the first of them have no more
-pub count_part : (p : Float → Bool) (d : Float) (a : List Float) (i : ℕ) → count p (distances d (take i a)) ≤ count p (distances d a)
-unfolding count distances
-count_part p d a zero = zero-le
-count_part p d [] (suc i) = zero-le
-count_part p d (x ∷ xs) (suc i) = let z = count_part p d xs i in omega arith
+-- two of them, x and y, at places k and l, of which b and c are kept
+module _ (p : Float → Bool) (d : Float) (a : List Float) (i : ℕ) (h : 2 * i + 1 < length a) (out : List Float) (n last : ℕ) (e : length out ≡ last + 1)
+    (f : n ≤ last → take n out ≡ keep p (distances d (take (2 * i) a))) where
+  pub keep_two : (k l b c : ℕ) (x y : Float) → (n ≤ last → k ≡ n) → (n + b ≤ last → l ≡ n + b) → x ≡ abs_f (sub binary64 (abs_f (get_or a (2 * i) nan)) d) → b ≡ from_bool (p x)
+      → y ≡ abs_f (sub binary64 (abs_f (get_or a (2 * i + 1) nan)) d) → c ≡ from_bool (p y) → n + b + c ≤ last → take (n + b + c) (set (set out k x) l y) ≡ keep p (distances d (take (2 * (i + 1)) a))
+  keep_two k l b c x y ke le u be v ce r =
+      let z : 2 * i + 1 + 1 ≡ 2 * (i + 1) = omega arith in
+      rw (← z)
+      (keep_turn p d a (2 * i + 1) h (set out k x) (n + b) last l c y (length-set out k x ∙ e) (keep_turn p d a (2 * i) (omega arith) out n last k b x e f ke u be) le v ce r)
+
+-- at the end, of an odd number and of an even one
+module _ (p : Float → Bool) (d : Float) (a : List Float) (i : ℕ) (h : i ≡ length a / 2) (out : List Float) (n last : ℕ) (e : n ≡ count p (distances d (take (2 * i) a)))
+    (f : n ≤ last → take n out ≡ keep p (distances d (take (2 * i) a))) where
+  pub keep_odd : length a % 2 ≡ 1 → (k : ℕ) (x : Float) → length out ≡ last + 1 → (n ≤ last → k ≡ n) → x ≡ abs_f (sub binary64 (abs_f (get_or a (length a - 1) nan)) d)
+      → count p (distances d a) ≤ last → take (count p (distances d a)) (set out k x) ≡ keep p (distances d a)
+  keep_odd odd k x l g u r =
+      let z : length a - 1 ≡ 2 * i = omega arith in
+      let w : n + from_bool (p x) ≡ count p (distances d a) = rw (e, u) (count_odd p d a i h odd) in
+      rw (← w)
+      (subst (λ (m : List Float). take (n + from_bool (p x)) (set out k x) ≡ keep p (distances d m)) (take_all (2 * i + 1) a (omega arith))
+      (keep_turn p d a (2 * i) (omega arith) out n last k (from_bool (p x)) x l f g (rw z at u) refl (omega (arith, w))))
+
+  pub keep_even : (length a % 2 ≡ 1 → ⊥) → count p (distances d a) ≤ last → take (count p (distances d a)) out ≡ keep p (distances d a)
+  keep_even even r =
+      let w : n ≡ count p (distances d a) = e ∙ count_even p d a i h even in
+      rw (← w) (subst (λ (m : List Float). take n out ≡ keep p (distances d m)) (take_all (2 * i) a (omega arith)) (f (omega arith)))
 
 abs_plain_self : (x : Float) → Plain x → abs_f x ≡ x
 unfolding abs_f
@@ -163,26 +185,26 @@ plain_distances l a = distances_zero l (fit l a) ∙ same l a
     same [] a = refl
     same (x ∷ xs) a = rw (abs_plain_self x a.0) (ap (λ (r : List Float). x ∷ r) (same xs a.1))
 
--- a range cut down to few, and those in it copied
-module _ (l : List Float) (a : All Plain l) (m few lo hi below : ℕ) (p : Narrowed l m few lo hi below) (n : below ≡ m → ⊥) where
-  all_kept : below + count (between lo hi) l ≡ count (upto hi) l
-  all_kept = let h = kept_length lo hi p.ordered l in let k = length_keep (between lo hi) l in let q = p.is in omega arith
+-- so many are kept as are up to hi and not under lo
+pub count_between : (lo hi : ℕ) → lo ≤ hi → (l : List Float) → count (under lo) l + count (between lo hi) l ≡ count (upto hi) l
+count_between lo hi o l = let h = kept_length lo hi o l in let k = length_keep (between lo hi) l in omega arith
 
-  pub kept_few : (lo ≡ hi → ⊥) → count (between lo hi) l ≤ few
-  kept_few o = let h = all_kept in let f = few_left l m few lo hi below p n o in omega arith
+-- those from lo to hi copied, where place m and the one before it lie among them
+module _ (l : List Float) (a : All Plain l) (lo hi m : ℕ) (o : lo ≤ hi) (t : List Float) (e : t ≡ keep (between lo hi) l) where
+  copied : distances zero_f t ≡ keep (between lo hi) l
+  copied = ap (distances zero_f) e ∙ plain_distances (keep (between lo hi) l) (all_keep Plain (between lo hi) l a)
 
-  module _ (t : List Float) (e : t ≡ keep (between lo hi) l) where
-    copied : distances zero_f t ≡ keep (between lo hi) l
-    copied = ap (distances zero_f) e ∙ plain_distances (keep (between lo hi) l) (all_keep Plain (between lo hi) l a)
+  pub copied_plain : All Plain (distances zero_f t)
+  copied_plain = rw copied (all_keep Plain (between lo hi) l a)
 
-    pub copied_reached : m - below < length (distances zero_f t)
-    copied_reached = rw copied (let h = kept_length lo hi p.ordered l in omega (arith, p.is, p.most, p.reached))
+  module _ (low high : ℕ) (u : low ≡ count (under lo) l) (v : high ≡ count (upto hi) l) (h : low < m) (r : m < high) where
+    pub copied_range : hi ≤ 0x7FF0_0000_0000_0000 → (m - low < length (distances zero_f t)) × InRange (distances zero_f t) (m - low) lo hi 0 (high - low)
+    copied_range s =
+        let k = kept_length lo hi o l in
+        let n = length (keep (between lo hi) l) in
+        let w : high - low ≡ n = omega arith in
+        rw copied
+        (omega arith, record { ordered = o; small = s; under_it = sym (none_under lo hi o l); least = zero-le; reached = omega arith; upto_it = w ∙ sym (all_upto lo hi l) })
 
-    pub copied_plain : All Plain (distances zero_f t)
-    copied_plain = rw copied (all_keep Plain (between lo hi) l a)
-
-    pub copied_stand : (low high : ℕ) → Middles (distances zero_f t) (m - below) low high → Middles l m low high
-    copied_stand low high h =
-        let q = p.most in
-        let s : count (under lo) l < m = omega (arith, p.is, n) in
-        kept_middles lo hi p.ordered l m low high s (rw (← p.is) (rw copied at h))
+    pub copied_stand : (x y : ℕ) → Middles (distances zero_f t) (m - low) x y → Middles l m x y
+    copied_stand x y q = kept_middles lo hi o l m x y (rw u at h) (rw u at (rw copied at q))

@@ -1,5 +1,5 @@
 -- Two numbers side by side: the bits of their deviations, and counts that are kept apart and added at the end.
-use Rattle.std.proofs.Common.{◌≡◌, ℕ, ◌+◌, ◌-◌, ◌*◌, ◌/◌, ◌%◌, ◌^◌, ◌<◌, ◌≤◌, Bool, true, false, not, cond, T, leb, List, [], ◌∷◌, map, length, get_or, take, refl, ap, ap₂, ◌∙◌, arith, take_all}
+use Rattle.std.proofs.Common.{◌≡◌, ℕ, ◌+◌, ◌-◌, ◌*◌, ◌/◌, ◌%◌, ◌^◌, ◌<◌, ◌≤◌, Bool, true, false, not, ◌&&◌, cond, T, leb, List, [], ◌∷◌, map, length, get_or, take, refl, ap, ap₂, ◌∙◌, arith, take_all}
 use lib.Ieee.{Float, nan, binary64, sub, le, to_bits, of_bits, fits, is_nan, nan_bits}
 use lib.Ieee.Fits.{sub-fits}
 use lib.Lanes.{top, Each1, zip2, sel_l, sum_l}
@@ -8,7 +8,7 @@ use Rattle.loops.specs.All.{All}
 use Rattle.value.specs.Absolute.{abs_f}
 use Rattle.value.specs.Keys.{le_key}
 use Rattle.value.specs.LaneLaws.{lane_selected}
-use Rattle.statistics.specs.Counting.{Plain, distances, count, upto}
+use Rattle.statistics.specs.Counting.{Plain, distances, count, upto, under, between}
 use Rattle.statistics.proofs.Counts.{count_turn}
 use Rattle.statistics.proofs.Deviations.{abs_some, sub_some, size_bits, size_pattern, bits_plain, bits_back}
 
@@ -44,6 +44,41 @@ ones_are [] b e p h = absurd (omega arith)
 ones_are (x ∷ []) b e p h = absurd (omega arith)
 ones_are (x ∷ y ∷ []) b e p h = ap₂ (λ (m n : ℕ). m ∷ n ∷ []) (one_upto x b p.0 h) (one_upto y b p.1.0 h)
 ones_are (x ∷ y ∷ z ∷ zs) b e p h = absurd (omega arith)
+
+-- the mask of b ≤ x
+from_mask : (x : Float) (b : ℕ) → Plain x → b ≤ 0x7FF0_0000_0000_0000 → le (of_bits binary64 b) x ≡ leb b (to_bits binary64 x)
+from_mask x b p h = le_key (of_bits binary64 b) x (bits_plain b h) p ∙ ap (λ (k : ℕ). leb k (to_bits binary64 x)) (bits_back b h)
+
+-- the one that stands for a number below lo, and that for a number from lo on of which m says the rest
+one_under : (x : Float) (b : ℕ) → Plain x → b ≤ 0x7FF0_0000_0000_0000 → cond (top 63 (cond (le (of_bits binary64 b) x) 0xFFFF_FFFF_FFFF_FFFF 0)) 0 1 ≡ from_bool (under b x)
+one_under x b p h = ap (λ (t : Bool). cond (top 63 (cond t 0xFFFF_FFFF_FFFF_FFFF 0)) 0 1) (from_mask x b p h) ∙ lane_selected (leb b (to_bits binary64 x)) 0 1 ∙ flip (leb b (to_bits binary64 x))
+  where
+    flip : (t : Bool) → cond t 0 1 ≡ from_bool (not t)
+    flip true = refl
+    flip false = refl
+
+one_between : (x : Float) (lo hi m : ℕ) → Plain x → lo ≤ 0x7FF0_0000_0000_0000 → m ≡ from_bool (upto hi x) → cond (top 63 (cond (le (of_bits binary64 lo) x) 0xFFFF_FFFF_FFFF_FFFF 0)) m 0 ≡ from_bool (between lo hi x)
+one_between x lo hi m p h e =
+    ap (λ (t : Bool). cond (top 63 (cond t 0xFFFF_FFFF_FFFF_FFFF 0)) m 0) (from_mask x lo p h) ∙ lane_selected (leb lo (to_bits binary64 x)) m 0
+    ∙ ap (λ (k : ℕ). cond (leb lo (to_bits binary64 x)) k 0) e ∙ both (leb lo (to_bits binary64 x)) (upto hi x)
+  where
+    both : (s t : Bool) → cond s (from_bool t) 0 ≡ from_bool (s && t)
+    both true t = refl
+    both false t = refl
+
+pub ones_under_are : (v : List Float) (b : ℕ) → length v ≡ 2 → All Plain v → b ≤ 0x7FF0_0000_0000_0000
+    → sel_l (map (top 63) (zip2 (λ (l x : Float). cond (le l x) 0xFFFF_FFFF_FFFF_FFFF 0) (of_bits binary64 b ∷ of_bits binary64 b ∷ []) v)) (0 ∷ 0 ∷ []) (1 ∷ 1 ∷ []) ≡ map (λ x. from_bool (under b x)) v
+ones_under_are [] b e p h = absurd (omega arith)
+ones_under_are (x ∷ []) b e p h = absurd (omega arith)
+ones_under_are (x ∷ y ∷ []) b e p h = ap₂ (λ (m n : ℕ). m ∷ n ∷ []) (one_under x b p.0 h) (one_under y b p.1.0 h)
+ones_under_are (x ∷ y ∷ z ∷ zs) b e p h = absurd (omega arith)
+
+pub ones_between_are : (v : List Float) (lo hi : ℕ) → length v ≡ 2 → All Plain v → lo ≤ 0x7FF0_0000_0000_0000 → (ls : List ℕ) → ls ≡ map (λ x. from_bool (upto hi x)) v
+    → sel_l (map (top 63) (zip2 (λ (l x : Float). cond (le l x) 0xFFFF_FFFF_FFFF_FFFF 0) (of_bits binary64 lo ∷ of_bits binary64 lo ∷ []) v)) ls (0 ∷ 0 ∷ []) ≡ map (λ x. from_bool (between lo hi x)) v
+ones_between_are [] lo hi e p h ls r = absurd (omega arith)
+ones_between_are (x ∷ []) lo hi e p h ls r = absurd (omega arith)
+ones_between_are (x ∷ y ∷ []) lo hi e p h ls r = rw r (ap₂ (λ (m n : ℕ). m ∷ n ∷ []) (one_between x lo hi _ p.0 h refl) (one_between y lo hi _ p.1.0 h refl))
+ones_between_are (x ∷ y ∷ z ∷ zs) lo hi e p h ls r = absurd (omega arith)
 
 -- two counts after p turns, each of one number a turn, and their sum
 pub record Lanes (ls : List ℕ) (p s : ℕ) : Type 0 where

@@ -49,15 +49,6 @@ pub record InRange (l : List Float) (m lo hi below most : ℕ) : Type 0 where
   pub reached : m < most
   pub upto_it : most ≡ count (upto hi) l
 
--- A range from lo to hi that place m is looked for in, cut down: `below` are under lo, and they are m, or lo is hi, or no more than `few` lie in it.
-pub record Narrowed (l : List Float) (m few lo hi below : ℕ) : Type 0 where
-  pub ordered : lo ≤ hi
-  pub small : hi ≤ 0x7FF0_0000_0000_0000
-  pub is : below ≡ count (under lo) l
-  pub most : below ≤ m
-  pub reached : m < count (upto hi) l
-  pub stops : (below ≡ m) ⊎ ((lo ≡ hi) ⊎ (count (upto hi) l ≤ below + few))
-
 -- whether a double's bits lie from lo to hi
 abbrev pub between : ℕ → ℕ → Float → Bool
 between lo hi x = nat_le lo (to_bits binary64 x) && nat_le (to_bits binary64 x) hi

@@ -1,8 +1,10 @@
 // polyfit's `statistics.rs`: scores, the bound on the degree, medians, losses and variances.
 #![tactic(auto)]
 
-ghost use Rattle.std.specs.Prelude.{◌≡◌, [], ◌∷◌, ◌<◌, ◌≤◌, map};
+ghost use Rattle.std.specs.Prelude.{◌≡◌, [], ◌∷◌, ◌<◌, ◌≤◌, map, true};
+ghost use Rattle.loops.specs.Fold.{all_of};
 ghost use Rattle.value.specs.Absolute.{abs_f};
+ghost use Rattle.value.specs.Finite.{finite};
 ghost use Rattle.value.specs.Total.{total_f};
 ghost use Rattle.statistics.specs.Scores.{z_score, table_score, t_score};
 ghost use Rattle.statistics.specs.Degrees.{max_degree};
@@ -115,16 +117,22 @@ fn median_of_sizes(a: &[f64]) -> f64
     order::median_from(a, 0.0)
 }
 
-// The median absolute deviation of residuals. It takes their sizes, so that these may stand there too. Of numbers with a finite median none is a NaN, and
-// none has a deviation from it that is one.
-pub fn median_absolute_deviation(a: &[f64]) -> f64
+// The median absolute deviation, by the median d of the sizes. Of numbers with a finite median none is a NaN, and none has a deviation from it that is one.
+fn deviation_from(a: &[f64], d: f64) -> f64
+    requires { d ≡ median_of (map abs_f a.now) }
     ensures { result ≡ median_absolute_deviation a.now }
 {
-    let d = median_of_sizes(a);
     if value::is_finite(d) {
         return order::median_of_some(a, d);
     }
     order::median_from(a, d)
+}
+
+// The median absolute deviation of residuals. It takes their sizes, so that these may stand there too.
+pub fn median_absolute_deviation(a: &[f64]) -> f64
+    ensures { result ≡ median_absolute_deviation a.now }
+{
+    deviation_from(a, median_of_sizes(a))
 }
 
 // The Huber constant.
@@ -158,11 +166,11 @@ fn pair_losses(r: f64, later: f64, constant: f64, mad: f64) -> [f64; 2]
     s.simd_le(delta).select(square, line).to_array()
 }
 
-// The sum of the losses of residuals, or of their sizes.
-pub fn total_loss(a: &[f64]) -> f64
+// The sum of the losses of residuals, or of their sizes; mad is their median absolute deviation.
+fn total_by(a: &[f64], mad: f64) -> f64
+    requires { mad ≡ median_absolute_deviation a.now }
     ensures { result ≡ total_f (losses a.now) }
 {
-    let mad = median_absolute_deviation(a);
     let constant = huber_const();
     let n = a.len();
     let mut v = 0.0;
@@ -174,6 +182,21 @@ pub fn total_loss(a: &[f64]) -> f64
         v += huber_loss(a[n - 1], constant, mad);
     }
     v
+}
+
+// The same.
+pub fn total_loss(a: &[f64]) -> f64
+    ensures { result ≡ total_f (losses a.now) }
+{
+    total_by(a, median_absolute_deviation(a))
+}
+
+// The same of finite numbers, among which no NaN is looked for.
+pub fn total_of_finite(a: &[f64]) -> f64
+    requires { all_of finite a.now ≡ true }
+    ensures { result ≡ total_f (losses a.now) }
+{
+    total_by(a, deviation_from(a, order::median_of_some(a, 0.0)))
 }
 
 // The residual variance of a model of k coefficients, from its residuals or their sizes.

@@ -1,12 +1,12 @@
 // Order statistics with no sort and no write: what stands at a place of the numbers in order is found by counting bit patterns.
-ghost use Rattle.std.specs.Prelude.{◌≡◌, ◌-◌, ◌/◌, ◌<◌, ◌≤◌, ◌&&◌, length, map, take, nat_le, to_bits, [], ◌∷◌, false};
+ghost use Rattle.std.specs.Prelude.{◌≡◌, ◌+◌, ◌-◌, ◌/◌, ◌<◌, ◌≤◌, ◌&&◌, ◌⊎◌, IfSome, length, map, take, nat_le, to_bits, [], ◌∷◌, false};
 ghost use Rattle.std.specs.Int.{from_bool};
 ghost use Rattle.std.specs.Float.{binary64};
 ghost use Rattle.std.specs.Float.Ieee.{sub};
 ghost use Rattle.loops.specs.All.{All};
 ghost use Rattle.value.specs.Absolute.{abs_f};
 ghost use Rattle.statistics.specs.Medians.{any_nan, midpoint as midpoint_f, median_of};
-ghost use Rattle.statistics.specs.Counting.{Plain, distances, count, upto, under, between, keep, Middles, InRange, Narrowed, nearer as nearer_f, farther as farther_f, least_from, greatest_under};
+ghost use Rattle.statistics.specs.Counting.{Plain, distances, count, upto, under, between, keep, Middles, InRange, nearer as nearer_f, farther as farther_f, least_from, greatest_under};
 
 use std::marker::Model;
 use std::simd::prelude::*;
@@ -17,8 +17,13 @@ const INFINITY: u64 = 0x7FF0_0000_0000_0000;
 // So many are copied, where there are more.
 const FEW: usize = 256;
 
-// So many are sampled, to know about where a place lies.
+// So many are sampled, to know about where a place lies; of no more than `FEW` numbers so many, which are put in order sooner than a pass takes.
 const SAMPLE: usize = 31;
+
+const SMALL_SAMPLE: usize = 9;
+
+// As many bits as lie between a double and the one sixteen times as large.
+const FOUR_BINADES: u64 = 0x40_0000_0000_0000;
 
 // The bits of ||x| − d|.
 fn key(x: f64, d: f64) -> u64
@@ -60,6 +65,24 @@ fn ones_upto(v: f64x2, b: u64) -> u64x2
         .select(u64x2::splat(1), u64x2::splat(0))
 }
 
+// 1 for each number of v whose bits are below lo, and else 0.
+fn ones_under(v: f64x2, lo: u64) -> u64x2
+    requires { (length v ≡ 2) × (All Plain v) × (lo ≤ INFINITY) }
+    ensures { result ≡ map (λ x. from_bool (under lo x)) v }
+{
+    v.simd_ge(f64x2::splat(f64::from_bits(lo)))
+        .select(u64x2::splat(0), u64x2::splat(1))
+}
+
+// 1 for each number of v whose bits lie from lo to hi, and else 0.
+fn ones_between(v: f64x2, lo: u64, hi: u64) -> u64x2
+    requires { (length v ≡ 2) × (All Plain v) × (lo ≤ INFINITY) × (hi ≤ INFINITY) }
+    ensures { result ≡ map (λ x. from_bool (between lo hi x)) v }
+{
+    v.simd_ge(f64x2::splat(f64::from_bits(lo)))
+        .select(ones_upto(v, hi), u64x2::splat(0))
+}
+
 // Of k and v: k where it is b or above, and below v.
 fn nearer(b: u64, k: u64, v: u64) -> u64
     ensures { result ≡ nearer_f b k v }
@@ -88,6 +111,25 @@ struct Counts {
     high: usize,
 }
 
+// The bits of a sample, in order: so many of them.
+#[derive(Clone, Copy)]
+struct Sample {
+    keys: [u64; SAMPLE],
+    many: usize,
+}
+
+impl Sample {
+    // The one at place i, or the last.
+    fn at(self, i: usize) -> u64
+        requires { self.many ≤ SAMPLE }
+    {
+        if self.many == 0 {
+            return 0;
+        }
+        self.keys[i.min(self.many - 1)]
+    }
+}
+
 // How a range is cut: by rank. Where that parts few numbers off, as it does of numbers that lie close about one of them, it is cut by another sample; and in
 // half, so that it shrinks soon whatever the numbers are.
 #[derive(Clone, Copy)]
@@ -109,6 +151,13 @@ impl Cut {
     }
 }
 
+// The numbers at a place and before it, where they were among those copied; and how many lie below the range that was copied, and up to its end.
+#[derive(Clone, Copy)]
+struct Copied {
+    middles: Option<Pair>,
+    found: Counts,
+}
+
 // A range that a place is looked for in: bits from lo to hi, and how many are under lo, and up to hi.
 #[derive(Clone, Copy)]
 struct Range {
@@ -119,11 +168,11 @@ struct Range {
 }
 
 impl Range {
-    // The bits where place m would be if the numbers lay evenly in the range. A guess.
-    fn by_rank(self, m: usize) -> u64 {
+    // The bits where place m would be if the numbers lay evenly in the range, and so many places from there. A guess.
+    fn by_rank(self, m: usize, further: f64) -> u64 {
         let low = value::from_bits(self.lo);
         let under = std::num::nearest_usize_to_f64(self.below);
-        let rank = std::num::nearest_usize_to_f64(m) - under + 0.5;
+        let rank = std::num::nearest_usize_to_f64(m) - under + further;
         let all = std::num::nearest_usize_to_f64(self.upto) - under;
         value::to_bits(low + (value::from_bits(self.hi) - low) * (rank / all))
     }
@@ -149,18 +198,36 @@ impl Range {
     {
         match how {
             Cut::ByRank if self.hi == INFINITY => self.within(self.lo + 0x20_0000_0000_0000),
-            Cut::ByRank => self.within(self.by_rank(m)),
+            Cut::ByRank => self.within(self.by_rank(m, 0.5)),
             Cut::BySample | Cut::InHalf => self.lo + (self.hi - self.lo) / 2,
         }
     }
 
+    // Cuts some 77 places below place m and above it, by rank, of a range that is not too wide for that. The range is no point, and both cuts lie in it, one
+    // above the other.
+    fn about(self, m: usize) -> Option<Pair>
+        requires { (self.lo ≤ self.hi) × (self.hi ≤ INFINITY) }
+        ensures { IfSome result (λ p. (self.lo ≤ p.low) × (p.low < p.high) × (p.high < self.hi)) }
+    {
+        if (self.lo == self.hi) | (FOUR_BINADES < self.hi - self.lo) {
+            return None;
+        }
+        let low = self.within(self.by_rank(m, -77.0));
+        let high = self.within(self.by_rank(m, 77.0));
+        if high <= low {
+            return None;
+        }
+        Some(Pair { low, high })
+    }
+
     // Where place m would be by those of a sample, in order, that lie in the range; in half where none does.
-    fn by_sample(self, sample: [u64; SAMPLE], m: usize) -> u64
-        requires { (self.lo < self.hi) × (self.hi ≤ INFINITY) }
+    fn by_sample(self, sample: Sample, m: usize) -> u64
+        requires { (self.lo < self.hi) × (self.hi ≤ INFINITY) × (sample.many ≤ SAMPLE) }
         ensures { (self.lo ≤ result) × (result < self.hi) }
     {
-        let first = sample.partition_point(|k| *k < self.lo);
-        let many = sample
+        let keys = &sample.keys[..sample.many];
+        let first = keys.partition_point(|k| *k < self.lo);
+        let many = keys
             .partition_point(|k| *k <= self.hi)
             .saturating_sub(first);
         if many == 0 {
@@ -168,7 +235,7 @@ impl Range {
         }
         let all = self.upto.saturating_sub(self.below).max(1);
         let place = m.saturating_sub(self.below).saturating_mul(many) / all;
-        self.within(sample[first.saturating_add(place).min(SAMPLE - 1)])
+        self.within(sample.at(first.saturating_add(place)))
     }
 }
 
@@ -261,6 +328,7 @@ impl Deviations<'_> {
     fn edges(&self, lo: u64, b: u64) -> Pair
         ensures low { result.low ≡ greatest_under b self.now }
         ensures high { result.high ≡ least_from lo self.now }
+        ensures plain { All Plain self.now }
     {
         let mut low = 0;
         let mut high = INFINITY;
@@ -273,40 +341,50 @@ impl Deviations<'_> {
     }
 
     // The bits of the numbers at evenly spread places, the first at `from`, in order: so few are put in order by insertion.
-    fn sampled(&self, from: usize) -> [u64; SAMPLE]
-        requires { (SAMPLE ≤ length self.now) × (from < length self.now / SAMPLE) }
+    fn sampled(&self, many: usize, from: usize) -> Sample
+        requires { (many ≤ SAMPLE) × (from < length self.now / many) }
+        ensures { result.many ≤ SAMPLE }
     {
-        let step = self.len() / SAMPLE;
-        let mut sample = [0; SAMPLE];
-        for i in 0..SAMPLE {
+        let step = self.len() / many;
+        let mut keys = [0; SAMPLE];
+        for i in 0..many {
             let k = self.key_at(i * step + from);
             let mut j = i;
-            while 0 < j && k < sample[j - 1] {
-                sample[j] = sample[j - 1];
+            while 0 < j && k < keys[j - 1] {
+                keys[j] = keys[j - 1];
                 j -= 1;
             }
-            sample[j] = k;
+            keys[j] = k;
         }
-        sample
+        Sample { keys, many }
     }
 
-    // Two numbers of a sample, a little below place m and a little above it: the range is cut first before the one and after the other. A guess; of few
-    // numbers, about the middle one.
+    // Two numbers of a sample, so many places below place m and above it. A guess.
+    fn about(&self, m: usize, many: usize, margin: usize) -> Pair
+        requires { (0 < many) × (many ≤ SAMPLE) × (many ≤ length self.now) }
+    {
+        let sample = self.sampled(many, 0);
+        let rank = (m / (self.len() / many)).min(many - 1);
+        Pair {
+            low: sample.at(rank.saturating_sub(margin)),
+            high: sample.at(rank.saturating_add(margin)),
+        }
+    }
+
+    // Two numbers, a little below place m and a little above it: the range is cut first before the one and after the other. A guess; of very few numbers, about
+    // the middle one.
     fn first_cuts(&self, m: usize) -> Pair
         requires { m < length self.now }
         ensures { (result.low ≤ INFINITY) × (result.high ≤ INFINITY) }
     {
         let n = self.len();
-        let ends = if n < SAMPLE {
+        let ends = if n < SMALL_SAMPLE {
             let k = self.key_at(n / 2);
             Pair { low: k, high: k }
+        } else if n <= FEW {
+            self.about(m, SMALL_SAMPLE, 1)
         } else {
-            let sample = self.sampled(0);
-            let rank = (m / (n / SAMPLE)).min(SAMPLE - 1);
-            Pair {
-                low: sample[rank.saturating_sub(3)],
-                high: sample[(rank + 3).min(SAMPLE - 1)],
-            }
+            self.about(m, SAMPLE, 3)
         };
         Pair {
             low: ends.low.saturating_sub(1).min(INFINITY),
@@ -340,11 +418,19 @@ impl Deviations<'_> {
         }
     }
 
+    // A range where place m lies, cut at two numbers, up to which `found` lie.
+    fn parted_twice(&self, r: Range, cuts: Pair, found: Counts, m: usize) -> Range
+        requires { InRange self.now m r.lo r.hi r.below r.upto × (found.low ≡ count (upto cuts.low) self.now) × (found.high ≡ count (upto cuts.high) self.now) }
+        ensures { InRange self.now m result.lo result.hi result.below result.upto }
+    {
+        let above = self.parted(r, cuts.high, found.high, m);
+        self.parted(above, cuts.low, found.low, m)
+    }
+
     // The range where place m lies after a first pass, which cuts it twice.
     fn first_range(&self, m: usize) -> Range
         requires { m < length self.now }
-        ensures is { InRange self.now m result.lo result.hi result.below result.upto }
-        ensures plain { All Plain self.now }
+        ensures { InRange self.now m result.lo result.hi result.below result.upto }
     {
         let whole = Range {
             lo: 0,
@@ -354,8 +440,7 @@ impl Deviations<'_> {
         };
         let cuts = self.first_cuts(m);
         let found = self.counts_upto(cuts);
-        let r = self.parted(whole, cuts.high, found.high, m);
-        self.parted(r, cuts.low, found.low, m)
+        self.parted_twice(whole, cuts, found, m)
     }
 
     // Where the range is cut to look for place m. A sample has other places than the one before, since the range has another end.
@@ -365,38 +450,64 @@ impl Deviations<'_> {
     {
         let n = self.len();
         match how {
-            Cut::BySample if SAMPLE <= n => { r.by_sample(self.sampled(r.upto % (n / SAMPLE)), m) }
+            Cut::BySample if FEW < n => {
+                r.by_sample(self.sampled(SAMPLE, r.upto % (n / SAMPLE)), m)
+            }
+            Cut::BySample if SMALL_SAMPLE <= n => {
+                r.by_sample(self.sampled(SMALL_SAMPLE, r.upto % (n / SMALL_SAMPLE)), m)
+            }
             _ => r.cut(how, m),
         }
     }
 
-    // Copies the numbers whose bits lie from lo to hi, and answers how many they are. Each number is written, and the next one over it where it does not lie
-    // there, which needs no branch, and a place more.
-    fn gather(&self, lo: u64, hi: u64, out: &mut [f64]) -> usize
-        requires { (lo ≤ INFINITY) × (hi ≤ INFINITY) × (count (between lo hi) self.now < length out.old) }
-        ensures value { result ≡ count (between lo hi) self.now }
-        ensures out_after { take result out.new ≡ keep (between lo hi) self.now }
+    // How many have bits below lo, and up to hi; and copies of the numbers from lo to hi, if they fit with a place more. Each number is written, and the next one
+    // over it where it does not lie there, which needs no branch.
+    fn gather(&self, lo: u64, hi: u64, out: &mut [f64]) -> Counts
+        requires { (lo ≤ hi) × (hi ≤ INFINITY) × (0 < length out.old) }
+        ensures low { result.low ≡ count (under lo) self.now }
+        ensures high { result.high ≡ count (upto hi) self.now }
+        ensures plain { All Plain self.now }
+        ensures out_after { count (between lo hi) self.now < length out.old → take (count (between lo hi) self.now) out.new ≡ keep (between lo hi) self.now }
     {
-        let mut c = 0;
-        for x in self.sizes {
-            let k = key(*x, self.from);
-            out[c] = f64::from_bits(k);
-            c += usize::from(at_most(lo, k) & at_most(k, hi));
+        let sizes = self.sizes;
+        let n = sizes.len();
+        let pairs = n / 2;
+        let last = out.len() - 1;
+        let mut unders = u64x2::splat(0);
+        let mut c: usize = 0;
+        for p in 0..pairs {
+            let v = both(sizes[2 * p], sizes[2 * p + 1], self.from);
+            let inside = ones_between(v, lo, hi).to_array();
+            let two = v.to_array();
+            unders += ones_under(v, lo);
+            out[c.min(last)] = two[0];
+            c += inside[0] as usize;
+            out[c.min(last)] = two[1];
+            c += inside[1] as usize;
         }
-        c
+        let under = unders.to_array();
+        let low = (under[0] + under[1]) as usize;
+        let mut found = Counts { low, high: low + c };
+        if n % 2 == 1 {
+            let k = key(sizes[n - 1], self.from);
+            out[c.min(last)] = f64::from_bits(k);
+            found.low += usize::from(!at_most(lo, k));
+            found.high += usize::from(at_most(k, hi));
+        }
+        found
     }
 
     // Looks for place m, from 0. Its bits lie in a range, which is cut until m are under lo, so that the least from lo on stands at place m, or until lo is
     // hi, which stands there itself, or until no more than `few` lie in it. A cut that parts no numbers fell into a gap between them: then both ends move to
     // the next number, as they must where many are equal.
-    fn narrow(&self, m: usize, few: usize) -> Range
-        requires { m < length self.now }
-        ensures is { Narrowed self.now m few result.lo result.hi result.below }
-        ensures plain { All Plain self.now }
+    fn narrow(&self, from: Range, m: usize, few: usize) -> Range
+        requires { InRange self.now m from.lo from.hi from.below from.upto }
+        ensures is { InRange self.now m result.lo result.hi result.below result.upto }
+        ensures stops { (result.below ≡ m) ⊎ ((result.lo ≡ result.hi) ⊎ (result.upto ≤ result.below + few)) }
     {
         let mut how = Cut::ByRank;
         let mut gap = false;
-        let mut r = self.first_range(m);
+        let mut r = from;
         while r.lo < r.hi && r.below != m && r.upto - r.below > few {
             if gap {
                 let e = self.edges(r.lo, r.hi + 1);
@@ -415,12 +526,13 @@ impl Deviations<'_> {
         r
     }
 
-    // The numbers at place m and before it. Where more than m are up to the bits at place m, and fewer than m under them, both are the same.
-    fn middles_of_few(&self, m: usize) -> Pair
-        requires { m < length self.now }
+    // The numbers at place m, which lies in a range, and before it. Where more than m are up to the bits at place m, and fewer than m under them, both are the
+    // same.
+    fn middles_in(&self, from: Range, m: usize) -> Pair
+        requires { (m < length self.now) × InRange self.now m from.lo from.hi from.below from.upto }
         ensures { Middles self.now m result.low result.high }
     {
-        let r = self.narrow(m, 0);
+        let r = self.narrow(from, m, 0);
         if r.below == m {
             return self.edges(r.lo, r.lo);
         }
@@ -430,28 +542,57 @@ impl Deviations<'_> {
         }
     }
 
-    // The same, of many numbers: once few lie in the range, the others are not read any more.
+    // The same by those from lo to hi alone, where few lie there, place m and the one before it among them: these are copied, and the others not read any more.
+    // And how many lie below lo, and up to hi.
+    fn middles_between(&self, lo: u64, hi: u64, m: usize) -> Copied
+        requires { (lo ≤ hi) × (hi ≤ INFINITY) }
+        ensures low { result.found.low ≡ count (under lo) self.now }
+        ensures high { result.found.high ≡ count (upto hi) self.now }
+        ensures is { IfSome result.middles (λ p. Middles self.now m p.low p.high) }
+    {
+        let mut few = [0.0; FEW + 1];
+        let found = self.gather(lo, hi, &mut few);
+        let many = found.high - found.low;
+        if m <= found.low || found.high <= m || FEW < many {
+            return Copied {
+                middles: None,
+                found,
+            };
+        }
+        let left = Deviations {
+            sizes: &few[..many],
+            from: 0.0,
+        };
+        let range = Range {
+            lo,
+            hi,
+            below: 0,
+            upto: many,
+        };
+        let middles = Some(left.middles_in(range, m - found.low));
+        Copied { middles, found }
+    }
+
+    // The same of many numbers, from those that are copied if they can be.
     fn middles_of_many(&self, m: usize) -> Pair
         requires { m < length self.now }
         ensures { Middles self.now m result.low result.high }
     {
-        let r = self.narrow(m, FEW);
-        if r.below == m {
-            return self.edges(r.lo, r.lo);
+        let mut r = self.first_range(m);
+        if let Some(cuts) = r.about(m) {
+            let near = self.middles_between(cuts.low + 1, cuts.high, m);
+            if let Some(p) = near.middles {
+                return p;
+            }
+            r = self.parted_twice(r, cuts, near.found, m);
         }
-        if r.lo == r.hi {
-            return Pair {
-                low: r.lo,
-                high: r.lo,
-            };
+        r = self.narrow(r, m, FEW);
+        if (r.below < m) & (r.lo < r.hi) {
+            if let Some(p) = self.middles_between(r.lo, r.hi, m).middles {
+                return p;
+            }
         }
-        let mut few = [0.0; FEW + 1];
-        let c = self.gather(r.lo, r.hi, &mut few);
-        let left = Deviations {
-            sizes: &few[..c],
-            from: 0.0,
-        };
-        left.middles_of_few(m - r.below)
+        self.middles_in(r, m)
     }
 
     // The same, of any.
@@ -460,7 +601,7 @@ impl Deviations<'_> {
         ensures { Middles self.now m result.low result.high }
     {
         if self.len() <= FEW {
-            self.middles_of_few(m)
+            self.middles_in(self.first_range(m), m)
         } else {
             self.middles_of_many(m)
         }

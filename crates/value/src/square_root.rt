@@ -1,13 +1,11 @@
 // The square root, from integer work on the bits: a whole-number root of 53 digits. It is guessed in doubles, and the guess is held against the squares;
 // where that settles nothing, the digits are found one a turn.
-ghost use Rattle.std.specs.Prelude.{◌≡◌, ◌+◌, ◌*◌, ◌^◌, ◌<◌, ◌≤◌, T, IfSome, length, map, get_or, from_bits, to_bits};
-ghost use Rattle.loops.specs.All.{All};
+ghost use Rattle.std.specs.Prelude.{◌≡◌, ◌+◌, ◌*◌, ◌^◌, ◌<◌, ◌≤◌, T, IfSome, map, from_bits, to_bits};
 ghost use Rattle.std.specs.Float.{binary64};
 ghost use Rattle.std.specs.Float.Ieee.Positive.{positive};
 ghost use Rattle.value.specs.Root.{root_f, root_of, closest_root};
 
 use crate::bits::to_bits;
-use std::simd::prelude::*;
 
 // The root of m * 2^52, to the nearest whole number: 53 binary digits, one a turn. After n turns
 // `root * root + rest` is the whole part of m * 4^n / 2^54, and `next` is what is left below the point.
@@ -52,21 +50,18 @@ fn digits(y: f64) -> u64
     to_bits(y) % 0x10_0000_0000_0000 + 0x10_0000_0000_0000
 }
 
-// Guesses at the roots of m * 2^52 and of another, side by side: a parabola within one part in 190 of the root from 1 to 4, then three of Newton's steps, in
-// doubles. Any guess would do: it is tried below, and not trusted.
-fn pair_guess(m: u64, later: u64) -> [u64; 2]
-    requires { (m < 2 ^ 54) × (later < 2 ^ 54) }
-    ensures first { (2 ^ 52 ≤ get_or result 0 0) × (get_or result 0 0 < 2 ^ 53) }
-    ensures second { (2 ^ 52 ≤ get_or result 1 0) × (get_or result 1 0 < 2 ^ 53) }
+// A guess at the root of m * 2^52: a parabola within one part in 190 of the root from 1 to 4, then three of Newton's steps, in doubles. Any guess would
+// do: it is tried below, and not trusted.
+fn guess(m: u64) -> u64
+    requires { m < 2 ^ 54 }
+    ensures { (2 ^ 52 ≤ result) × (result < 2 ^ 53) }
 {
-    let half = f64x2::splat(0.5);
-    let v = f64x2::from_array([reduced(m), reduced(later)]);
-    let mut y = f64x2::splat(0.51908) + v * (f64x2::splat(0.52537) - v * f64x2::splat(0.039375));
-    y = (y + v / y) * half;
-    y = (y + v / y) * half;
-    y = (y + v / y) * half;
-    let both = y.to_array();
-    [digits(both[0]), digits(both[1])]
+    let v = reduced(m);
+    let mut y = 0.51908 + v * (0.52537 - v * 0.039375);
+    y = (y + v / y) * 0.5;
+    y = (y + v / y) * 0.5;
+    y = (y + v / y) * 0.5;
+    digits(y)
 }
 
 // How far the square of r is from m * 2^52, counted from 2^56: above it where r is too small. None where it is so far that r can't be next to the root.
@@ -126,7 +121,7 @@ fn small_root(c: u64) -> u64
     let s = c.leading_zeros() - 11;
     let j = 1074 - u64::from(s);
     let m = halved(c << s, j);
-    scaled_root(c << s, j, pair_guess(m, m)[0])
+    scaled_root(c << s, j, guess(m))
 }
 
 // The m by which the root of a double with these bits is looked for, which is no subnormal.
@@ -159,8 +154,7 @@ fn positive_root(v: f64) -> f64
     if b < 0x10_0000_0000_0000 {
         return f64::from_bits(small_root(b));
     }
-    let m = mantissa(b);
-    usual_root(v, pair_guess(m, m)[0])
+    usual_root(v, guess(mantissa(b)))
 }
 
 // NaN for a NaN or a value below zero, zeros and +infinity as they are, and else the nearest double.
@@ -192,38 +186,12 @@ fn root_by(x: f64, r: u64) -> f64
     sqrt(x)
 }
 
-// So many guesses are made before one of them is tried: a guess waits for three divisions, and the next one need not wait for it.
-const BLOCK: usize = 16;
-
-// Guesses at the roots of 16 numbers.
-fn guesses(v: &[f64]) -> [u64; BLOCK]
-    requires { length v.now ≡ 16 }
-    ensures { All (λ r. (2 ^ 52 ≤ r) × (r < 2 ^ 53)) result }
-{
-    let mut r = [0x10_0000_0000_0000; BLOCK];
-    for p in 0..BLOCK / 2 {
-        let two = pair_guess(mantissa(to_bits(v[2 * p])), mantissa(to_bits(v[2 * p + 1])));
-        r[2 * p] = two[0];
-        r[2 * p + 1] = two[1];
-    }
-    r
-}
-
-// Each number becomes its root.
+// Each number becomes its root. The guess is the machine's root, which waits for no division before it, and is tried as any other: `sqrt` guesses by itself,
+// as the digits would else never be asked for.
 pub fn put_roots(v: &mut [f64])
     ensures { v.new ≡ map root_f v.old }
 {
-    let n = v.len();
-    let blocks = n / BLOCK;
-    for b in 0..blocks {
-        let start = BLOCK * b;
-        let r = guesses(&v[start..start + BLOCK]);
-        for i in 0..BLOCK {
-            v[start + i] = root_by(v[start + i], r[i]);
-        }
-    }
-    // those past the last whole block
-    for i in BLOCK * blocks..n {
-        v[i] = sqrt(v[i]);
+    for i in 0..v.len() {
+        v[i] = root_by(v[i], digits(v[i].sqrt()));
     }
 }

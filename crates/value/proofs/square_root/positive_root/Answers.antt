@@ -29,4 +29,4 @@ returns-then-b-lt4503599627370496 c =
     c.small_root.ensures.is ∙ ap (λ (t : ℕ). root_of (t * 2 ^ 1074)) whole ∙ sym (small_value b p.some none) ∙ ap root_f p.back
 
 pub usual_root-requires : goal.usual_root-requires
-usual_root-requires c = (c.requires, omega arith, c.pair_guess.ensures.first.0, c.pair_guess.ensures.first.1)
+usual_root-requires c = (c.requires, omega arith, c.guess.ensures.0, c.guess.ensures.1)

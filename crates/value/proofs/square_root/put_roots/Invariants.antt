@@ -1,14 +1,8 @@
--- `value::square_root::put_roots` meets its contract. The loops' invariant: the places passed are roots.
-use Rattle.std.proofs.Common.{◌≡◌, ◌+◌, ◌*◌, ◌≤◌, length}
+-- `value::square_root::put_roots` meets its contract. The loop's invariant: the places passed are roots.
+use Rattle.std.proofs.Common.{◌≡◌, ◌≤◌, length}
 use Rattle.loops.specs.Places.{each}
 use Rattle.value.specs.Root.{root_f}
 use Rattle.value.proofs.square_root.put_roots.Given as goal
 
-abbrev pub invariant-loop-b : goal.invariant-loop-b
-invariant-loop-b l = (length l.v ≡ length l.fn.v) × (l.v ≡ each (λ _ x. root_f x) (16 * l.b) l.fn.v)
-
 abbrev pub invariant-loop-i : goal.invariant-loop-i
-invariant-loop-i l = (length l.v ≡ length l.fn.v) × (l.v ≡ each (λ _ x. root_f x) (16 * l.b + l.i) l.fn.v)
-
-abbrev pub invariant-loop-i-2 : goal.invariant-loop-i-2
-invariant-loop-i-2 l = (l.i ≤ l.n) × (length l.v ≡ length l.fn.v) × (l.v ≡ each (λ _ x. root_f x) l.i l.fn.v)
+invariant-loop-i l = (length l.v ≡ length l.fn.v) × (l.v ≡ each (λ _ x. root_f x) l.i l.fn.v)

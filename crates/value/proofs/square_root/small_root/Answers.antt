@@ -11,7 +11,7 @@ pub halved-m-requires : goal.halved-m-requires
 halved-m-requires c = let h = shifted c.args.c c.requires.0 c.requires.1 in omega arith
 
 pub scaled_root-requires : goal.scaled_root-requires
-scaled_root-requires c = let h = shifted c.args.c c.requires.0 c.requires.1 in (omega arith, omega arith, omega arith, omega arith, c.pair_guess.ensures.first.0, c.pair_guess.ensures.first.1)
+scaled_root-requires c = let h = shifted c.args.c c.requires.0 c.requires.1 in (omega arith, omega arith, omega arith, omega arith, c.guess.ensures.0, c.guess.ensures.1)
 
 pub returns-clause-is : goal.returns-clause-is
 returns-clause-is c =

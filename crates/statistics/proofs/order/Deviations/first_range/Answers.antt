@@ -3,8 +3,8 @@ use Rattle.std.proofs.Common.{sym, ◌∙◌, arith}
 use Rattle.statistics.proofs.Counts.{under_zero, upto_all}
 use Rattle.statistics.proofs.order.Deviations.first_range.Goals as goal
 
-pub parted-r-requires : goal.parted-r-requires
-parted-r-requires c = (
+pub parted_twice-requires : goal.parted_twice-requires
+parted_twice-requires c = (
   record {
     ordered = omega arith;
     small = omega arith;
@@ -13,5 +13,6 @@ parted-r-requires c = (
     reached = omega arith;
     upto_it = c.len.ensures.is ∙ sym (upto_all c.args.self.now c.len.ensures.plain);
   },
+  c.counts_upto-found.ensures.low,
   c.counts_upto-found.ensures.high,
 )
