@@ -28,16 +28,14 @@ use statistics::Tolerance;
 // 2 to the power −52.
 const EPSILON: f64 = f64::from_bits(0x3CB0_0000_0000_0000);
 
-// The inverse × residual variance, place by place.
-pub fn covariance(inverse: &[f64; MATRIX], variance: f64) -> [f64; MATRIX]
-    ensures { result ≡ covariance_of inverse.now variance }
+// The inverse becomes the covariance, inverse × residual variance, place by place.
+pub fn put_covariance(inverse: &mut [f64; MATRIX], variance: f64)
+    ensures { inverse.new ≡ covariance_of inverse.old variance }
 {
-    let mut v = [0.0; MATRIX];
     // by index: of what the closure of a `map` holds, here the variance, a proof knows nothing at a later place
     for t in 0..MATRIX {
-        v[t] = inverse[t] * variance;
+        inverse[t] = inverse[t] * variance;
     }
-    v
 }
 
 // The roots of the first k diagonal places, then +0. The loops here and below count: a place of the matrix is worked out from two indices, and several memories

@@ -23,7 +23,7 @@ ghost use Rattle.fit.specs.Promises.{Attempted};
 use basis::{CoefficientCount, Degree, TERMS};
 use monomial::Rows;
 use score::Criterion;
-use solve::Solved;
+use solve::{Elimination, Solved};
 use std::simd::prelude::*;
 
 // y less the fitted value, of sample i.
@@ -207,7 +207,8 @@ pub fn choose(
 {
     let b = bound.0 + 1;
     let most = bound.k(rows.basis);
-    let e = solve::eliminated(sums, most);
+    let mut e = Elimination::none();
+    solve::put_eliminated(sums, most, &mut e);
     let mut scores = [None; TERMS];
     let mut tests = 0;
     // by index, the degree: of an `iter_mut` behind `enumerate` a proof knows no element

@@ -1,5 +1,5 @@
 -- Laws of Reach.antt.
-use Rattle.std.specs.Prelude.{◌≡◌, Bool, true, false, cond, ◌&&◌, ◌||◌, List, ◌∷◌, map, ℕ, zero, suc, ◌+◌, ◌-◌, ◌*◌, ◌/◌, ◌%◌, ◌^◌, ◌≤◌, ◌<◌, ◌==◌, T, length, get_or, refl, ltb, eqb, Float}
+use Rattle.std.specs.Prelude.{◌≡◌, ℤ, Bool, true, false, cond, ◌&&◌, ◌||◌, List, ◌∷◌, map, ℕ, zero, suc, ◌+◌, ◌-◌, ◌*◌, ◌/◌, ◌%◌, ◌^◌, ◌≤◌, ◌<◌, ◌==◌, T, length, get_or, refl, ltb, eqb, Float}
 use Rattle.std.proofs.Common.{sym, ap, ◌∙◌, arith, add-one, mul-pos, mul-le-mul, mul-le-mul_right, le_refl, ltb-true, eqb-true}
 use native.Mathlib.Nat.{le_of_mul-le-mul_right}
 use Rattle.std.specs.Bool.{beq}
@@ -126,21 +126,29 @@ finite_right f (fin s m e) (inf t) h = go (eqb m 0) h
     go false h = h
 finite_right f (fin s m e) (fin t n d) h = refl
 
+-- what holds of two finite numbers under two that have no sign holds of any two under any
+both_under : (P : Float → Float → Float → Float → Type 0)
+    → ((s t : Bool) (m p n q : ℕ) (e k d l : ℤ) → Under (fin s m e) (fin false n d) → Under (fin t p k) (fin false q l) → P (fin s m e) (fin t p k) (fin false n d) (fin false q l))
+    → (x y a b : Float) → Under x a → Under y b → P x y a b
+both_under P g nan y a b u v = absurd u
+both_under P g (inf s) y a b u v = absurd u
+both_under P g (fin s m e) y nan b u v = absurd u
+both_under P g (fin s m e) y (inf t) b u v = absurd u
+both_under P g (fin s m e) y (fin true n d) b u v = absurd u
+both_under P g (fin s m e) nan (fin false n d) b u v = absurd v
+both_under P g (fin s m e) (inf t) (fin false n d) b u v = absurd v
+both_under P g (fin s m e) (fin t p k) (fin false n d) nan u v = absurd v
+both_under P g (fin s m e) (fin t p k) (fin false n d) (inf r) u v = absurd v
+both_under P g (fin s m e) (fin t p k) (fin false n d) (fin true q l) u v = absurd v
+both_under P g (fin s m e) (fin t p k) (fin false n d) (fin false q l) u v = g s t m p n q e k d l u v
+
 mul_under : (f : Format) (x y a b : Float) → Under x a → Under y b → finite (mul f a b) ≡ true → Under (mul f x y) (mul f a b)
 unfolding mul
-mul_under f nan y a b u v h = absurd u
-mul_under f (inf s) y a b u v h = absurd u
-mul_under f (fin s m e) y nan b u v h = absurd u
-mul_under f (fin s m e) y (inf t) b u v h = absurd u
-mul_under f (fin s m e) y (fin true n d) b u v h = absurd u
-mul_under f (fin s m e) nan (fin false n d) b u v h = absurd v
-mul_under f (fin s m e) (inf t) (fin false n d) b u v h = absurd v
-mul_under f (fin s m e) (fin t p k) (fin false n d) nan u v h = absurd v
-mul_under f (fin s m e) (fin t p k) (fin false n d) (inf r) u v h = absurd v
-mul_under f (fin s m e) (fin t p k) (fin false n d) (fin true q l) u v h = absurd v
-mul_under f (fin s m e) (fin t p k) (fin false n d) (fin false q l) u v h =
+mul_under f =
+    both_under (λ x y a b. finite (mul f a b) ≡ true → Under (mul f x y) (mul f a b))
+    (λ s t m p n q e k d l u v h.
     round_under f (unlike s t) (m * up e * (p * up k)) (down e * down k) (n * up d * (q * up l)) (down d * down l) (mul-pos (down_pos e) (down_pos k)) (mul-pos (down_pos d) (down_pos l))
-    (product (m * up e) (p * up k) (down d) (down l) (n * up d) (down e) (q * up l) (down k) u v) h
+    (product (m * up e) (p * up k) (down d) (down l) (n * up d) (down e) (q * up l) (down k) u v) h)
 
 pub mul_bounds : (f : Format) (x y a b : Float) → Bounds a x → Bounds b y → Bounds (mul f a b) (mul f x y)
 mul_bounds f x y a b u v h = mul_under f x y a b (u (finite_left f a b h)) (v (finite_right f a b h)) h
@@ -195,19 +203,11 @@ sum_under f s t a b c e d p q h g = go (beq s t) (ltb a b)
 
 add_under : (f : Format) (x y a b : Float) → Under x a → Under y b → finite (add f a b) ≡ true → Under (add f x y) (add f a b)
 unfolding add sum
-add_under f nan y a b u v h = absurd u
-add_under f (inf s) y a b u v h = absurd u
-add_under f (fin s m e) y nan b u v h = absurd u
-add_under f (fin s m e) y (inf t) b u v h = absurd u
-add_under f (fin s m e) y (fin true n d) b u v h = absurd u
-add_under f (fin s m e) nan (fin false n d) b u v h = absurd v
-add_under f (fin s m e) (inf t) (fin false n d) b u v h = absurd v
-add_under f (fin s m e) (fin t p k) (fin false n d) nan u v h = absurd v
-add_under f (fin s m e) (fin t p k) (fin false n d) (inf r) u v h = absurd v
-add_under f (fin s m e) (fin t p k) (fin false n d) (fin true q l) u v h = absurd v
-add_under f (fin s m e) (fin t p k) (fin false n d) (fin false q l) u v h =
+add_under f =
+    both_under (λ x y a b. finite (add f a b) ≡ true → Under (add f x y) (add f a b))
+    (λ s t m p n q e k d l u v h.
     sum_under f s t (m * up e * down k) (p * up k * down e) (down e * down k) (n * up d * down l + q * up l * down d) (down d * down l) (mul-pos (down_pos e) (down_pos k))
-    (mul-pos (down_pos d) (down_pos l)) (together (m * up e) (p * up k) (down d) (down l) (n * up d) (down e) (q * up l) (down k) u v) h
+    (mul-pos (down_pos d) (down_pos l)) (together (m * up e) (p * up k) (down d) (down l) (n * up d) (down e) (q * up l) (down k) u v) h)
 
 pub add_bounds : (f : Format) (x y a b : Float) → Bounds a x → Bounds b y → Bounds (add f a b) (add f x y)
 add_bounds f x y a b u v h = add_under f x y a b (u (finite_first f a b h)) (v (finite_second f a b h)) h

@@ -25,7 +25,7 @@ use basis::{Basis, CoefficientCount, Degree, SUMS, TERMS};
 use monomial::Rows;
 use reach::Reach;
 use score::Criterion;
-use solve::Solved;
+use solve::{Elimination, Solved};
 
 // Where fold f begins.
 fn start_of(n: usize, folds: usize, f: usize) -> usize
@@ -171,7 +171,8 @@ fn add_fold(
     let end = end_of(n, folds, f);
     let most = CoefficientCount(b);
     let sums = fold_others(rows, end, most, before);
-    let e = solve::eliminated(&sums, most);
+    let mut e = Elimination::none();
+    solve::put_eliminated(&sums, most, &mut e);
     // by index, the degree: of an `iter_mut` behind `enumerate` a proof knows no element
     for d in 0..b {
         let k = Degree(d).k(Basis::Curve);

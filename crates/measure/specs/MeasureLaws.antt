@@ -6,8 +6,7 @@ use Rattle.value.specs.Absolute.{abs_f}
 use Rattle.statistics.specs.Variances.{residual_variance}
 use Rattle.statistics.specs.VarianceLaws.{variance_sizes}
 use Rattle.monomial.specs.Rows.{Row}
-use Rattle.solve.specs.Solve.{solve, inverse}
-use Rattle.solve.specs.declared.Inverted.{Inverted}
+use Rattle.solve.specs.Solve.{Inverted, solve, inverse}
 use Rattle.fit.specs.Residuals.{residuals}
 use Rattle.fit.specs.Solved.{is_solved}
 use Rattle.covariance.specs.Covariance.{covariance_of}

@@ -7,7 +7,6 @@ use Rattle.loops.specs.Loop.{from, while, Stopped}
 use Rattle.loops.specs.Places.{each}
 use Rattle.value.specs.Numbers.{zero_f, one_f, epsilon}
 use Rattle.solve.specs.declared.Solved.{Solved}
-use Rattle.solve.specs.declared.Inverted.{Inverted}
 
 -- M and b. M[r][c] stands at 16r + c.
 pub record System : Type 0 where
@@ -110,6 +109,11 @@ inverse_column k m j v = let s = (unit_column k m j).state in put_column k j (ba
 -- once per unit column, up to the first at which a pivot fails
 unfoldable pub inverse_columns : ℕ → List Float → Stopped (List Float)
 inverse_columns k m = while (column_holds k m) (inverse_column k m) 0 k (replicate matrix_places zero_f)
+
+-- how many columns are made, and V
+pub record Inverted : Type 0 where
+  pub columns : ℕ
+  pub v : List Float
 
 -- Inverse: how many columns are made, all k unless a pivot fails, and V; +0 in every other place.
 unfoldable pub inverse : List Float → ℕ → Inverted

@@ -1,6 +1,7 @@
 // Right sides that lie beside each other, as columns of a matrix.
-ghost use Rattle.std.specs.Prelude.{◌≡◌, ℕ, ◌≤◌, ◌<◌, length};
+ghost use Rattle.std.specs.Prelude.{◌≡◌, ℕ, ◌≤◌, ◌<◌, length, replicate};
 ghost use Rattle.basis.specs.Sizes.{matrix_places, max_terms};
+ghost use Rattle.value.specs.Numbers.{zero_f};
 ghost use Rattle.solve.specs.Solve.{eliminate as eliminate_f, unit};
 ghost use Rattle.solve.specs.Columns.{column_in};
 
@@ -40,16 +41,14 @@ pub fn eliminate_all(
     held
 }
 
-// The first k unit columns.
-pub fn identity(k: CoefficientCount) -> [f64; MATRIX]
-    requires { k.0 ≤ max_terms }
-    ensures { (j : ℕ) → j < k.0 → column_in result j ≡ unit j }
+// The first k columns become unit columns.
+pub fn put_identity(k: CoefficientCount, v: &mut [f64; MATRIX])
+    requires { (k.0 ≤ max_terms) × (v.old ≡ replicate matrix_places zero_f) }
+    ensures { (j : ℕ) → j < k.0 → column_in v.new j ≡ unit j }
 {
-    let mut v = [0.0; MATRIX];
     for i in 0..k.0 {
         v[16 * i + i] = 1.0;
     }
-    v
 }
 
 // Column j of v.

@@ -11,7 +11,7 @@ ghost use Rattle.solve.specs.Solve.{eliminate as eliminate_f, back, solve as sol
 ghost use Rattle.solve.specs.Nested.{stopped, elimination, solution_of};
 
 use basis::{CoefficientCount, MATRIX, TERMS};
-use columns::{column_in, eliminate_all, identity};
+use columns::{column_in, eliminate_all, put_identity};
 
 // 2 to the power −48.
 const PIVOT_RATIO: f64 = f64::from_bits(0x3CF0_0000_0000_0000);
@@ -67,14 +67,12 @@ pub fn back_substitution(k: CoefficientCount, m: &[f64; MATRIX], b: &mut [f64; T
     }
 }
 
-// The values, then +0.
-fn front<const N: usize>(s: &[f64]) -> [f64; N]
-    requires { length s.now ≤ N }
-    ensures { result ≡ s.now ++ drop (length s.now) (replicate N zero_f) }
+// The first places of a become the values.
+fn put_front(s: &[f64], a: &mut [f64])
+    requires { length s.now ≤ length a.old }
+    ensures { a.new ≡ s.now ++ drop (length s.now) a.old }
 {
-    let mut a = [0.0; N];
     a[..s.len()].copy_from_slice(s);
-    a
 }
 
 // How many pivots held, and the k coefficients if all did; +0 in every other place. The number is no flag: the pivot tests are counted by it.
@@ -89,7 +87,9 @@ pub fn solve(sums: &[f64], k: CoefficientCount) -> Solved
     requires { (sum_places ≤ length sums.now) × (k.0 ≤ max_terms) }
     ensures { result ≡ solve_f sums.now k.0 }
 {
-    eliminated(sums, k).solution(k)
+    let mut e = Elimination::none();
+    put_eliminated(sums, k, &mut e);
+    e.solution(k)
 }
 
 // An elimination: how many pivots held, and M and b then.
@@ -100,32 +100,43 @@ pub struct Elimination {
     pub b: [f64; TERMS],
 }
 
-// Eliminates for k coefficients, from the corner of A and from g. It serves all smaller counts too.
-pub fn eliminated(sums: &[f64], k: CoefficientCount) -> Elimination
-    requires { (sum_places ≤ length sums.now) × (k.0 ≤ max_terms) }
-    ensures { stopped result.held result.m result.b ≡ elimination sums.now k.0 }
+// Eliminates for k coefficients, from the corner of A and from g. It serves all smaller counts too. It is made where it stands, since an array that is answered
+// is copied.
+pub fn put_eliminated(sums: &[f64], k: CoefficientCount, e: &mut Elimination)
+    requires { (sum_places ≤ length sums.now) × (k.0 ≤ max_terms) × (e.old.m ≡ replicate matrix_places zero_f) × (e.old.b ≡ replicate max_terms zero_f) }
+    ensures { stopped e.new.held e.new.m e.new.b ≡ elimination sums.now k.0 }
 {
     let n = k.0;
     // No step for k coefficients reads past the first k rows.
-    let mut m = front(&sums[..16 * n]);
-    let mut b = front(&sums[MATRIX..][..n]);
-    let held = eliminate(sums, k, &mut m, &mut b);
-    Elimination { held, m, b }
+    put_front(&sums[..16 * n], &mut e.m);
+    put_front(&sums[MATRIX..][..n], &mut e.b);
+    e.held = eliminate(sums, k, &mut e.m, &mut e.b);
 }
 
 impl Elimination {
+    // What an elimination is made in.
+    #[inline(always)]
+    pub fn none() -> Elimination
+        ensures m_is { result.m ≡ replicate matrix_places zero_f }
+        ensures b_is { result.b ≡ replicate max_terms zero_f }
+    {
+        Elimination {
+            held: 0,
+            m: [0.0; MATRIX],
+            b: [0.0; TERMS],
+        }
+    }
+
     // The k coefficients, from an elimination of at least as many.
     pub fn solution(&self, k: CoefficientCount) -> Solved
         requires { k.0 ≤ max_terms }
         ensures { result ≡ solution_of k.0 (stopped self.now.held self.now.m self.now.b) }
     {
+        let mut c = [0.0; TERMS];
         if self.held < k.0 {
-            return Solved {
-                held: self.held,
-                c: [0.0; TERMS],
-            };
+            return Solved { held: self.held, c };
         }
-        let mut c = front(&self.b[..k.0]);
+        put_front(&self.b[..k.0], &mut c);
         back_substitution(k, &self.m, &mut c);
         Solved { held: k.0, c }
     }
@@ -151,33 +162,26 @@ fn put_column(k: CoefficientCount, j: usize, b: &[f64; TERMS], v: &mut [f64; MAT
     }
 }
 
-// How many columns of the inverse are made, all k or none where a pivot fails, and the inverse; +0 in every other place. A number and no `Option`, as document 01
-// makes one column after the other.
-#[derive(Clone, Copy)]
-pub struct Inverted {
-    pub columns: usize,
-    pub v: [f64; MATRIX],
-}
-
-// The inverse of the corner of A with 2⁻⁵² first added to each diagonal place. Document 01 eliminates once per unit column; what decides a pivot is the
-// same each time.
-pub fn inverse(sums: &[f64], k: CoefficientCount) -> Inverted
-    requires { (matrix_places ≤ length sums.now) × (k.0 ≤ max_terms) }
-    ensures { result ≡ inverse_f sums.now k.0 }
+// The inverse of the corner of A with 2⁻⁵² first added to each diagonal place is put into v. Answers how many of its columns are made, all k or none where a
+// pivot fails: a number, as document 01 makes one column after the other. It eliminates once per unit column; what decides a pivot is the same each time.
+pub fn put_inverse(sums: &[f64], k: CoefficientCount, v: &mut [f64; MATRIX]) -> usize
+    requires { (matrix_places ≤ length sums.now) × (k.0 ≤ max_terms) × (v.old ≡ replicate matrix_places zero_f) }
+    ensures { record { columns = result; v = v.new } ≡ inverse_f sums.now k.0 }
 {
     let n = k.0;
-    let mut l = front(&sums[..MATRIX]);
+    let mut l = [0.0; MATRIX];
+    put_front(&sums[..MATRIX], &mut l);
     ridge(k, &mut l);
     let mut m = l;
-    let mut units = identity(k);
-    let mut v = [0.0; MATRIX];
+    let mut units = [0.0; MATRIX];
+    put_identity(k, &mut units);
     if eliminate_all(&l, k, &mut m, &mut units) < n {
-        return Inverted { columns: 0, v };
+        return 0;
     }
     for j in 0..n {
         let mut b = column_in(&units, j);
         back_substitution(k, &m, &mut b);
-        put_column(k, j, &b, &mut v);
+        put_column(k, j, &b, &mut *v);
     }
-    Inverted { columns: n, v }
+    n
 }

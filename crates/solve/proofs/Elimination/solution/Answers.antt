@@ -14,4 +14,4 @@ pub returns : goal.returns
 unfolding solution_of
 returns c =
     let least : min c.args.k.0 c.args.self.now.held ≡ c.args.k.0 = omega (arith, c.if-self-k.false) in
-    rw (le-ltb _ _ c.if-self-k.false, least, c.back_substitution.ensures, c.front-c.ensures ∙ cut_is 16 _ _ (omega arith) ∙ front_is c.args.k.0 c.args.self.now.b c.requires (search rules)) refl
+    rw (le-ltb _ _ c.if-self-k.false, least, c.back_substitution.ensures, c.put_front.ensures ∙ cut_is 16 _ _ (omega arith) ∙ front_is c.args.k.0 c.args.self.now.b c.requires (search rules)) refl

@@ -1,8 +1,8 @@
--- `solve::inverse` meets its contract. The loop's invariant: the definition from here on is the definition at the start.
+-- `solve::put_inverse` meets its contract. The loop's invariant: the definition from here on is the definition at the start.
 use Rattle.std.proofs.Common.{◌≡◌}
 use Rattle.loops.specs.Loop.{while}
 use Rattle.solve.specs.Solve.{matrix_of, ridge, column_holds, inverse_column}
-use Rattle.solve.proofs.inverse.Given as goal
+use Rattle.solve.proofs.put_inverse.Given as goal
 
 abbrev pub invariant-loop-j : goal.invariant-loop-j
 invariant-loop-j l =

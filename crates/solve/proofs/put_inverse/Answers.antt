@@ -1,4 +1,4 @@
--- `solve::inverse` meets its contract. The loop's invariant: the definition from here on is the definition at the start.
+-- `solve::put_inverse` meets its contract. The loop's invariant: the definition from here on is the definition at the start.
 use Rattle.std.proofs.Common.{◌≡◌, ◌<◌, ℕ, List, replicate, sym, ◌∙◌, arith, le-leb}
 use Rattle.std.proofs.lemmas.Bool.{lt-leb}
 use lib.Ieee.{Float}
@@ -9,7 +9,7 @@ use Rattle.solve.specs.Columns.{column_in}
 use Rattle.solve.specs.Nested.{stopped}
 use Rattle.solve.proofs.Steps.{ridged, answered, column_is, holds_is}
 use Rattle.solve.proofs.Fronts.{cut_is}
-use Rattle.solve.proofs.inverse.Goals as goal
+use Rattle.solve.proofs.put_inverse.Goals as goal
 
 -- what one elimination leaves in column j is what an elimination of unit column j leaves
 module _ (k held : ℕ) (l r m units v : List Float) (q : l ≡ r) (j : ℕ) (u : column_in units j ≡ unit j)
@@ -20,9 +20,9 @@ module _ (k held : ℕ) (l r m units v : List Float) (q : l ≡ r) (j : ℕ) (u 
 pub loop-j-preserved : goal.loop-j-preserved
 loop-j-preserved c =
     let k = c.args.k.0 in
-    let q = ridged c.args.sums.now k _ _ (c.front-l.ensures ∙ cut_is 256 256 c.args.sums.now (omega arith)) c.ridge.ensures in
+    let q = ridged c.args.sums.now k _ _ (c.put_front.ensures ∙ cut_is 256 256 c.args.sums.now (omega arith)) c.ridge.ensures in
     let j = c.loop-j.j in
-    let e = one_column k c.eliminate_all.result _ (ridge k (matrix_of c.args.sums.now)) c.eliminate_all.new.m c.identity-units.result c.eliminate_all.new.v q j (c.identity-units.ensures j c.loop-j-test.true) (c.eliminate_all.ensures j c.loop-j-test.true) in
+    let e = one_column k c.eliminate_all.result _ (ridge k (matrix_of c.args.sums.now)) c.eliminate_all.new.m c.put_identity.new.v c.eliminate_all.new.v q j (c.put_identity.ensures j c.loop-j-test.true) (c.eliminate_all.ensures j c.loop-j-test.true) in
     rw (c.put_column.ensures, c.back_substitution.ensures, c.column_in-b.ensures, column_is k (ridge k (matrix_of c.args.sums.now)) j c.loop-j.v _ e)
     (while_again _ _ _ _ _ c.loop-j-test.true (holds_is _ _ _ _ _ e ∙ le-leb _ _ c.if-eliminate_all-n.false) ∙ c.loop-j.invariant)
 
@@ -30,14 +30,14 @@ pub returns-then-eliminate_all-n : goal.returns-then-eliminate_all-n
 unfolding inverse_columns
 returns-then-eliminate_all-n c =
     let k = c.args.k.0 in
-    let q = ridged c.args.sums.now k _ _ (c.front-l.ensures ∙ cut_is 256 256 c.args.sums.now (omega arith)) c.ridge.ensures in
+    let q = ridged c.args.sums.now k _ _ (c.put_front.ensures ∙ cut_is 256 256 c.args.sums.now (omega arith)) c.ridge.ensures in
     let some : 0 < k = omega (arith, c.if-eliminate_all-n.true) in
-    let e = one_column k c.eliminate_all.result _ (ridge k (matrix_of c.args.sums.now)) c.eliminate_all.new.m c.identity-units.result c.eliminate_all.new.v q 0 (c.identity-units.ensures 0 some) (c.eliminate_all.ensures 0 some) in
-    answered c.args.sums.now k (record { at = 0; state = replicate 256 zero_f }) (sym (while_fails _ _ _ _ _ some (holds_is _ _ _ _ _ e ∙ lt-leb _ _ c.if-eliminate_all-n.true)))
+    let e = one_column k c.eliminate_all.result _ (ridge k (matrix_of c.args.sums.now)) c.eliminate_all.new.m c.put_identity.new.v c.eliminate_all.new.v q 0 (c.put_identity.ensures 0 some) (c.eliminate_all.ensures 0 some) in
+    rw c.requires.2 (answered c.args.sums.now k (record { at = 0; state = replicate 256 zero_f }) (sym (while_fails _ _ _ _ _ some (holds_is _ _ _ _ _ e ∙ lt-leb _ _ c.if-eliminate_all-n.true))))
 
 pub returns : goal.returns
 unfolding inverse_columns
 returns c =
     let z : c.loop-j.j ≡ c.args.k.0 = omega arith in
     let e = sym (while_done _ _ _ _ _ c.loop-j-test.false) ∙ c.loop-j.invariant in
-    answered c.args.sums.now c.args.k.0 (record { at = c.args.k.0; state = c.loop-j.v }) (rw z at e)
+    answered c.args.sums.now c.args.k.0 (record { at = c.args.k.0; state = c.loop-j.v }) (rw (z, c.requires.2) at e)
