@@ -21,7 +21,7 @@ use Rattle.value.specs.Finite.{finite}
 use Rattle.value.specs.Keys.{bits_le, le_key, plain_fits}
 use Rattle.value.specs.Nan.{bits_some as pattern-some}
 use Rattle.value.specs.Numbers.{zero_f}
-use Rattle.statistics.specs.Medians.{any_nan, sort, midpoint, median_of, deviations}
+use Rattle.statistics.specs.Medians.{any_nan, insert, sort, midpoint, median_of, deviations}
 use Rattle.statistics.specs.Counting.{Plain, distances}
 
 -- ---- the bits of a size
@@ -287,6 +287,12 @@ median_nan l h = rw h
 pub median_odd : (l : List Float) → any_nan l ≡ false → (length l ≡ 0 → ⊥) → length l % 2 ≡ 1 → get_or (sort l) (length l / 2) nan ≡ median_of l
 unfolding median_of
 median_odd l h n e = rw (h, ne_eqb (length l) 0 n, eq-eqb (length l % 2) 1 e)
+
+pub median_one : (d : Float) (a : List Float) → any_nan (distances d a) ≡ false → length a ≡ 1 → abs_f (sub binary64 (abs_f (get_or a 0 nan)) d) ≡ median_of (distances d a)
+unfolding distances sort insert
+median_one d [] h n = absurd (omega arith)
+median_one d (x ∷ []) h n = median_odd (abs_f (sub binary64 (abs_f x) d) ∷ []) h (λ z. absurd (omega (arith, z))) refl
+median_one d (x ∷ y ∷ ys) h n = absurd (omega arith)
 
 pub median_even : (l : List Float) → any_nan l ≡ false → (length l ≡ 0 → ⊥) → (length l % 2 ≡ 1 → ⊥)
     → midpoint (get_or (sort l) (length l / 2 - 1) nan) (get_or (sort l) (length l / 2) nan) ≡ median_of l

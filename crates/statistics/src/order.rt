@@ -378,7 +378,7 @@ impl Deviations<'_> {
         ensures { (result.low ≤ INFINITY) × (result.high ≤ INFINITY) }
     {
         let n = self.len();
-        let ends = if n < SMALL_SAMPLE {
+        let ends = if n < 2 * SMALL_SAMPLE {
             let k = self.key_at(n / 2);
             Pair { low: k, high: k }
         } else if n <= FEW {
@@ -660,6 +660,10 @@ pub fn median_of_some(a: &[f64], d: f64) -> f64
     let n = a.len();
     if n == 0 {
         return 0.0;
+    }
+    // a fold of a validation may hold one sample alone
+    if n == 1 {
+        return value::abs(value::abs(a[0]) - d);
     }
     let numbers = Deviations { sizes: a, from: d };
     let p = numbers.middles(n / 2);

@@ -4,7 +4,7 @@ use lib.Ieee.{Float, binary64, of_bits}
 use Rattle.statistics.specs.Medians.{any_nan, midpoint, median_of}
 use Rattle.statistics.specs.Counting.{distances, Middles}
 use Rattle.statistics.proofs.Counts.{placed}
-use Rattle.statistics.proofs.Deviations.{length_distances, distances_plain, bits_some, median_none, median_odd, median_even}
+use Rattle.statistics.proofs.Deviations.{length_distances, distances_plain, bits_some, median_none, median_one, median_odd, median_even}
 use Rattle.statistics.proofs.order.median_of_some.Goals as goal
 
 -- of an even number there is a place before the middle
@@ -40,10 +40,13 @@ pub float_from_bits-high : goal.float_from_bits-high
 float_from_bits-high c = bits_some _ c.middles-p.ensures.upper.small
 
 pub float_from_bits-p : goal.float_from_bits-p
-float_from_bits-p c = bits_some _ (c.middles-p.ensures.lower (lower _ c.if-n-eq0.false c.if-n-eq1.false)).small
+float_from_bits-p c = bits_some _ (c.middles-p.ensures.lower (lower _ c.if-n-eq0.false c.if-n-eq1-2.false)).small
 
 pub returns-then-n-eq1 : goal.returns-then-n-eq1
-returns-then-n-eq1 c = of_odd _ _ (c.requires) c.if-n-eq0.false _ _ c.middles-p.ensures c.if-n-eq1.true
+returns-then-n-eq1 c = rw (c.abs-then-n-eq1.ensures, c.abs.ensures) (median_one c.args.d c.args.a.now c.requires c.if-n-eq1.true)
+
+pub returns-then-n-eq1-2 : goal.returns-then-n-eq1-2
+returns-then-n-eq1-2 c = of_odd _ _ (c.requires) c.if-n-eq0.false _ _ c.middles-p.ensures c.if-n-eq1-2.true
 
 pub returns : goal.returns
-returns c = c.midpoint.ensures ∙ of_even _ _ (c.requires) c.if-n-eq0.false _ _ c.middles-p.ensures c.if-n-eq1.false
+returns c = c.midpoint.ensures ∙ of_even _ _ (c.requires) c.if-n-eq0.false _ _ c.middles-p.ensures c.if-n-eq1-2.false
