@@ -136,13 +136,13 @@ pub fn choose(
 pub fn write(
     rows: Rows<'_>,
     settings: Settings,
-    found: Found,
+    found: &Found,
     solved: usize,
     memory: Memory<'_>,
 ) -> Report
-    requires degree_in_bounds { (found.degree.0 ≤ highest_degree) × (count_of rows.basis found.degree.0 ≤ length rows.ys.now) × (count_of rows.basis found.degree.0 ≤ max_terms) }
+    requires degree_in_bounds { (found.now.degree.0 ≤ highest_degree) × (count_of rows.basis found.now.degree.0 ≤ length rows.ys.now) × (count_of rows.basis found.now.degree.0 ≤ max_terms) }
     requires outputs_fit { RoomFor rows.basis (length rows.ys.now) (outputs_now memory) }
-    ensures { Does (written_by rows.entry.basis (length rows.entry.ys.now) settings (rows_read rows.entry) found.degree.0 solved found.measured.c found.measured.covariance) (Ok result) (lent_outputs memory) }
+    ensures { Does (written_by rows.entry.basis (length rows.entry.ys.now) settings (rows_read rows.entry) found.now.degree.0 solved found.now.measured.c found.now.measured.covariance) (Ok result) (lent_outputs memory) }
 {
     let Memory {
         scratch,
@@ -155,8 +155,8 @@ pub fn write(
     } = memory;
     let places = measure::term_places(rows.basis);
     let degree = found.degree;
-    let c = found.measured.c;
-    let v = found.measured.covariance;
+    let c = &found.measured.c;
+    let v = &found.measured.covariance;
     let n = rows.ys.len();
     let k = degree.k(rows.basis);
     let df = n - k.0;
@@ -166,12 +166,12 @@ pub fn write(
     let z = statistics::z_score(confidence);
     let sd = covariance::deviation_read(tolerance, rows.ys);
     let spread = Spread { tolerance, z, sd };
-    let e = covariance::errors(k, &v);
+    let e = covariance::errors(k, v);
     lent::clear(scratch, n);
     lent::put_first(&c[..places], coefficients);
     lent::put_first(&e[..places], errors);
-    let terms = covariance::put_pruned(settings.pruning, k, &c, &e, t, &mut pruned[..places]);
-    let marks = covariance::put_bands(rows, k, &c, &v, spread, lower, upper, outliers);
+    let terms = covariance::put_pruned(settings.pruning, k, c, &e, t, &mut pruned[..places]);
+    let marks = covariance::put_bands(rows, k, c, v, spread, lower, upper, outliers);
     Report {
         degree,
         solved,
@@ -203,12 +203,12 @@ pub fn report_rows(
             tests: 0,
         };
     }
-    let found = match m.found {
+    let found = match &m.found {
         Ok(found) => found,
         Err(refusal) => {
             lent::clear(memory.scratch, rows.ys.len());
             return Counted {
-                answer: Err(refusal),
+                answer: Err(*refusal),
                 tests: m.choice.tests,
             };
         }

@@ -14,7 +14,7 @@ use Rattle.loops.specs.FoldLaws.{fold_map_again}
 use Rattle.value.specs.Absolute.{abs_f}
 use Rattle.value.specs.Keys.{bits_le, plain_fits}
 use Rattle.statistics.specs.Medians.{sort}
-use Rattle.statistics.specs.Counting.{Plain, distances, count, upto, under, AtPlace, Middles, InRange, nearer, farther, least_from, greatest_under}
+use Rattle.statistics.specs.Counting.{Plain, distances, count, upto, under, onward, AtPlace, Middles, InRange, nearer, farther, least_from, greatest_under}
 use Rattle.statistics.proofs.Sorting.{place, all_sort, length_sort}
 
 -- ---- counts along a list
@@ -62,6 +62,16 @@ under_next b (x ∷ xs) = rw (next (to_bits binary64 x) (leb (to_bits binary64 x
     next : (k : ℕ) (t : Bool) → leb k b ≡ t → not (leb (b + 1) k) ≡ t
     next k true q = let h = leb-true k b q in rw (lt-leb (b + 1) k (omega arith))
     next k false q = let h = leb-false k b q in rw (le-leb (b + 1) k (omega arith))
+
+-- what is not under b is b or above
+pub under_rest : (b : ℕ) (l : List Float) → count (under b) l + count (onward b) l ≡ length l
+unfolding count
+under_rest b [] = refl
+under_rest b (x ∷ xs) = let h = under_rest b xs in let g = one_rest (onward b x) in omega arith
+  where
+    one_rest : (t : Bool) → from_bool (not t) + from_bool t ≡ 1
+    one_rest true = refl
+    one_rest false = refl
 
 pub under_zero : (l : List Float) → count (under 0) l ≡ 0
 unfolding count

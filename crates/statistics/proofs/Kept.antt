@@ -130,35 +130,51 @@ module _ (p : Float → Bool) (d : Float) (a : List Float) (i : ℕ) (h : i < le
   unfolding distances
   keep_again = ap (keep p) (map_more (λ x. abs_f (sub binary64 (abs_f x) d)) a i nan h) ∙ keep_snoc p (map (λ x. abs_f (sub binary64 (abs_f x) d)) (take i a)) _
 
-  -- those kept so far stand first, if they fit; else some other place of out is written
-  pub keep_turn : (out : List Float) (n last k b : ℕ) (x : Float) → length out ≡ last + 1 → (n ≤ last → take n out ≡ keep p (distances d (take i a)))
-      → (n ≤ last → k ≡ n) → x ≡ abs_f (sub binary64 (abs_f (get_or a i nan)) d) → b ≡ from_bool (p x)
-      → n + b ≤ last → take (n + b) (set out k x) ≡ keep p (distances d (take (i + 1) a))
-  keep_turn out n last k b x l e f u g r =
-      let q : n ≤ last = omega arith in
-      rw (g, f q, u, keep_again, ← e q) (keep_at out n (omega arith) _ (p _))
+  -- x is written at place n, behind those kept so far, if they fit
+  pub keep_turn : (out : List Float) (n b : ℕ) (x : Float) → n < length out → take n out ≡ keep p (distances d (take i a))
+      → x ≡ abs_f (sub binary64 (abs_f (get_or a i nan)) d) → b ≡ from_bool (p x) → take (n + b) (set out n x) ≡ keep p (distances d (take (i + 1) a))
+  keep_turn out n b x l e u g = rw (g, u, keep_again, ← e) (keep_at out n l _ (p _))
 
--- two of them, x and y, at places k and l, of which b and c are kept
+  -- or nothing is written, and it is not kept
+  pub keep_none : (out : List Float) (n b : ℕ) (x : Float) → take n out ≡ keep p (distances d (take i a)) → x ≡ abs_f (sub binary64 (abs_f (get_or a i nan)) d) → b ≡ from_bool (p x) → b ≡ 0
+      → take (n + b) out ≡ keep p (distances d (take (i + 1) a))
+  keep_none out n b x e u g z = rw (z, add-zero, keep_again, ← e) (by _ (p _) (rw u at (sym g ∙ z)))
+    where
+      by : (v : Float) (t : Bool) → from_bool t ≡ 0 → take n out ≡ take n out ++ cond t (v ∷ []) []
+      by v true q = absurd (omega arith)
+      by v false q = sym (append-nil (take n out))
+
+-- two of them, x and y, of which b and c are kept
 module _ (p : Float → Bool) (d : Float) (a : List Float) (i : ℕ) (h : 2 * i + 1 < length a) (out : List Float) (n last : ℕ) (e : length out ≡ last + 1)
-    (f : n ≤ last → take n out ≡ keep p (distances d (take (2 * i) a))) where
-  pub keep_two : (k l b c : ℕ) (x y : Float) → (n ≤ last → k ≡ n) → (n + b ≤ last → l ≡ n + b) → x ≡ abs_f (sub binary64 (abs_f (get_or a (2 * i) nan)) d) → b ≡ from_bool (p x)
-      → y ≡ abs_f (sub binary64 (abs_f (get_or a (2 * i + 1) nan)) d) → c ≡ from_bool (p y) → n + b + c ≤ last → take (n + b + c) (set (set out k x) l y) ≡ keep p (distances d (take (2 * (i + 1)) a))
-  keep_two k l b c x y ke le u be v ce r =
-      let z : 2 * i + 1 + 1 ≡ 2 * (i + 1) = omega arith in
-      rw (← z)
-      (keep_turn p d a (2 * i + 1) h (set out k x) (n + b) last l c y (length-set out k x ∙ e) (keep_turn p d a (2 * i) (omega arith) out n last k b x e f ke u be) le v ce r)
+    (f : n ≤ last → take n out ≡ keep p (distances d (take (2 * i) a))) (b c : ℕ) (x y : Float) (u : x ≡ abs_f (sub binary64 (abs_f (get_or a (2 * i) nan)) d)) (be : b ≡ from_bool (p x))
+    (v : y ≡ abs_f (sub binary64 (abs_f (get_or a (2 * i + 1) nan)) d)) (ce : c ≡ from_bool (p y)) where
+  next : 2 * i + 1 + 1 ≡ 2 * (i + 1)
+  next = omega arith
+
+  pub keep_two : n < last → n + (b + c) ≤ last → take (n + (b + c)) (set (set out n x) (n + b) y) ≡ keep p (distances d (take (2 * (i + 1)) a))
+  keep_two l r =
+      let s : n + (b + c) ≡ n + b + c = omega arith in
+      let m : b ≤ 1 = rw be (from_bool_most (p x)) in
+      rw (s, ← next)
+      (keep_turn p d a (2 * i + 1) h (set out n x) (n + b) c y (rw (length-set out n x) (omega arith)) (keep_turn p d a (2 * i) (omega arith) out n b x (omega arith) (f (omega arith)) u be) v ce)
+
+  pub keep_neither : last ≤ n → n + (b + c) ≤ last → take (n + (b + c)) out ≡ keep p (distances d (take (2 * (i + 1)) a))
+  keep_neither l r =
+      let s : n + (b + c) ≡ n + b + c = omega arith in
+      rw (s, ← next)
+      (keep_none p d a (2 * i + 1) h out (n + b) c y (keep_none p d a (2 * i) (omega arith) out n b x (f (omega arith)) u be (omega arith)) v ce (omega arith))
 
 -- at the end, of an odd number and of an even one
 module _ (p : Float → Bool) (d : Float) (a : List Float) (i : ℕ) (h : i ≡ length a / 2) (out : List Float) (n last : ℕ) (e : n ≡ count p (distances d (take (2 * i) a)))
     (f : n ≤ last → take n out ≡ keep p (distances d (take (2 * i) a))) where
-  pub keep_odd : length a % 2 ≡ 1 → (k : ℕ) (x : Float) → length out ≡ last + 1 → (n ≤ last → k ≡ n) → x ≡ abs_f (sub binary64 (abs_f (get_or a (length a - 1) nan)) d)
-      → count p (distances d a) ≤ last → take (count p (distances d a)) (set out k x) ≡ keep p (distances d a)
-  keep_odd odd k x l g u r =
+  pub keep_odd : length a % 2 ≡ 1 → (x : Float) → length out ≡ last + 1 → x ≡ abs_f (sub binary64 (abs_f (get_or a (length a - 1) nan)) d)
+      → count p (distances d a) ≤ last → take (count p (distances d a)) (set out n x) ≡ keep p (distances d a)
+  keep_odd odd x l u r =
       let z : length a - 1 ≡ 2 * i = omega arith in
       let w : n + from_bool (p x) ≡ count p (distances d a) = rw (e, u) (count_odd p d a i h odd) in
       rw (← w)
-      (subst (λ (m : List Float). take (n + from_bool (p x)) (set out k x) ≡ keep p (distances d m)) (take_all (2 * i + 1) a (omega arith))
-      (keep_turn p d a (2 * i) (omega arith) out n last k (from_bool (p x)) x l f g (rw z at u) refl (omega (arith, w))))
+      (subst (λ (m : List Float). take (n + from_bool (p x)) (set out n x) ≡ keep p (distances d m)) (take_all (2 * i + 1) a (omega arith))
+      (keep_turn p d a (2 * i) (omega arith) out n (from_bool (p x)) x (omega (arith, w)) (f (omega (arith, w))) (rw z at u) refl))
 
   pub keep_even : (length a % 2 ≡ 1 → ⊥) → count p (distances d a) ≤ last → take (count p (distances d a)) out ≡ keep p (distances d a)
   keep_even even r =

@@ -8,7 +8,7 @@ use Rattle.loops.specs.All.{All}
 use Rattle.value.specs.Absolute.{abs_f}
 use Rattle.value.specs.Keys.{le_key}
 use Rattle.value.specs.LaneLaws.{lane_selected}
-use Rattle.statistics.specs.Counting.{Plain, distances, count, upto, under, between}
+use Rattle.statistics.specs.Counting.{Plain, distances, count, upto, onward, between}
 use Rattle.statistics.proofs.Counts.{count_turn}
 use Rattle.statistics.proofs.Deviations.{abs_some, sub_some, size_bits, size_pattern, bits_plain, bits_back}
 
@@ -49,13 +49,9 @@ ones_are (x ∷ y ∷ z ∷ zs) b e p h = absurd (omega arith)
 from_mask : (x : Float) (b : ℕ) → Plain x → b ≤ 0x7FF0_0000_0000_0000 → le (of_bits binary64 b) x ≡ leb b (to_bits binary64 x)
 from_mask x b p h = le_key (of_bits binary64 b) x (bits_plain b h) p ∙ ap (λ (k : ℕ). leb k (to_bits binary64 x)) (bits_back b h)
 
--- the one that stands for a number below lo, and that for a number from lo on of which m says the rest
-one_under : (x : Float) (b : ℕ) → Plain x → b ≤ 0x7FF0_0000_0000_0000 → cond (top 63 (cond (le (of_bits binary64 b) x) 0xFFFF_FFFF_FFFF_FFFF 0)) 0 1 ≡ from_bool (under b x)
-one_under x b p h = ap (λ (t : Bool). cond (top 63 (cond t 0xFFFF_FFFF_FFFF_FFFF 0)) 0 1) (from_mask x b p h) ∙ lane_selected (leb b (to_bits binary64 x)) 0 1 ∙ flip (leb b (to_bits binary64 x))
-  where
-    flip : (t : Bool) → cond t 0 1 ≡ from_bool (not t)
-    flip true = refl
-    flip false = refl
+-- the one that stands for a number from lo on, and of such a number that of which m says the rest
+one_onward : (x : Float) (b : ℕ) → Plain x → b ≤ 0x7FF0_0000_0000_0000 → cond (top 63 (cond (le (of_bits binary64 b) x) 0xFFFF_FFFF_FFFF_FFFF 0)) 1 0 ≡ from_bool (onward b x)
+one_onward x b p h = ap (λ (t : Bool). cond (top 63 (cond t 0xFFFF_FFFF_FFFF_FFFF 0)) 1 0) (from_mask x b p h) ∙ lane_selected (onward b x) 1 0 ∙ one_or_none (onward b x)
 
 one_between : (x : Float) (lo hi m : ℕ) → Plain x → lo ≤ 0x7FF0_0000_0000_0000 → m ≡ from_bool (upto hi x) → cond (top 63 (cond (le (of_bits binary64 lo) x) 0xFFFF_FFFF_FFFF_FFFF 0)) m 0 ≡ from_bool (between lo hi x)
 one_between x lo hi m p h e =
@@ -66,12 +62,12 @@ one_between x lo hi m p h e =
     both true t = refl
     both false t = refl
 
-pub ones_under_are : (v : List Float) (b : ℕ) → length v ≡ 2 → All Plain v → b ≤ 0x7FF0_0000_0000_0000
-    → sel_l (map (top 63) (zip2 (λ (l x : Float). cond (le l x) 0xFFFF_FFFF_FFFF_FFFF 0) (of_bits binary64 b ∷ of_bits binary64 b ∷ []) v)) (0 ∷ 0 ∷ []) (1 ∷ 1 ∷ []) ≡ map (λ x. from_bool (under b x)) v
-ones_under_are [] b e p h = absurd (omega arith)
-ones_under_are (x ∷ []) b e p h = absurd (omega arith)
-ones_under_are (x ∷ y ∷ []) b e p h = ap₂ (λ (m n : ℕ). m ∷ n ∷ []) (one_under x b p.0 h) (one_under y b p.1.0 h)
-ones_under_are (x ∷ y ∷ z ∷ zs) b e p h = absurd (omega arith)
+pub ones_onward_are : (v : List Float) (b : ℕ) → length v ≡ 2 → All Plain v → b ≤ 0x7FF0_0000_0000_0000
+    → sel_l (map (top 63) (zip2 (λ (l x : Float). cond (le l x) 0xFFFF_FFFF_FFFF_FFFF 0) (of_bits binary64 b ∷ of_bits binary64 b ∷ []) v)) (1 ∷ 1 ∷ []) (0 ∷ 0 ∷ []) ≡ map (λ x. from_bool (onward b x)) v
+ones_onward_are [] b e p h = absurd (omega arith)
+ones_onward_are (x ∷ []) b e p h = absurd (omega arith)
+ones_onward_are (x ∷ y ∷ []) b e p h = ap₂ (λ (m n : ℕ). m ∷ n ∷ []) (one_onward x b p.0 h) (one_onward y b p.1.0 h)
+ones_onward_are (x ∷ y ∷ z ∷ zs) b e p h = absurd (omega arith)
 
 pub ones_between_are : (v : List Float) (lo hi : ℕ) → length v ≡ 2 → All Plain v → lo ≤ 0x7FF0_0000_0000_0000 → (ls : List ℕ) → ls ≡ map (λ x. from_bool (upto hi x)) v
     → sel_l (map (top 63) (zip2 (λ (l x : Float). cond (le l x) 0xFFFF_FFFF_FFFF_FFFF 0) (of_bits binary64 lo ∷ of_bits binary64 lo ∷ []) v)) ls (0 ∷ 0 ∷ []) ≡ map (λ x. from_bool (between lo hi x)) v

@@ -29,6 +29,10 @@ upto b x = nat_le (to_bits binary64 x) b
 abbrev pub under : ℕ → Float → Bool
 under b x = not (nat_le b (to_bits binary64 x))
 
+-- whether they are b or above
+abbrev pub onward : ℕ → Float → Bool
+onward b x = nat_le b (to_bits binary64 x)
+
 -- b is the bits at place m of the list in order, from 0: at most m are under b, and more than m are up to b. +infinity has the greatest bits.
 pub record AtPlace (l : List Float) (m b : ℕ) : Type 0 where
   pub small : b ≤ 0x7FF0_0000_0000_0000

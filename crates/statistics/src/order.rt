@@ -6,7 +6,7 @@ ghost use Rattle.std.specs.Float.Ieee.{sub};
 ghost use Rattle.loops.specs.All.{All};
 ghost use Rattle.value.specs.Absolute.{abs_f};
 ghost use Rattle.statistics.specs.Medians.{any_nan, midpoint as midpoint_f, median_of};
-ghost use Rattle.statistics.specs.Counting.{Plain, distances, count, upto, under, between, keep, Middles, InRange, nearer as nearer_f, farther as farther_f, least_from, greatest_under};
+ghost use Rattle.statistics.specs.Counting.{Plain, distances, count, upto, under, onward, between, keep, Middles, InRange, nearer as nearer_f, farther as farther_f, least_from, greatest_under};
 
 use std::marker::Model;
 use std::simd::prelude::*;
@@ -65,13 +65,13 @@ fn ones_upto(v: f64x2, b: u64) -> u64x2
         .select(u64x2::splat(1), u64x2::splat(0))
 }
 
-// 1 for each number of v whose bits are below lo, and else 0.
-fn ones_under(v: f64x2, lo: u64) -> u64x2
+// 1 for each number of v whose bits are lo or above, and else 0.
+fn ones_onward(v: f64x2, lo: u64) -> u64x2
     requires { (length v ≡ 2) × (All Plain v) × (lo ≤ INFINITY) }
-    ensures { result ≡ map (λ x. from_bool (under lo x)) v }
+    ensures { result ≡ map (λ x. from_bool (onward lo x)) v }
 {
     v.simd_ge(f64x2::splat(f64::from_bits(lo)))
-        .select(u64x2::splat(0), u64x2::splat(1))
+        .select(u64x2::splat(1), u64x2::splat(0))
 }
 
 // 1 for each number of v whose bits lie from lo to hi, and else 0.
@@ -473,26 +473,31 @@ impl Deviations<'_> {
         let n = sizes.len();
         let pairs = n / 2;
         let last = out.len() - 1;
-        let mut unders = u64x2::splat(0);
-        let mut c: usize = 0;
+        let mut onward = u64x2::splat(0);
+        let mut c = 0;
         for p in 0..pairs {
             let v = both(sizes[2 * p], sizes[2 * p + 1], self.from);
             let inside = ones_between(v, lo, hi).to_array();
+            let first = inside[0] as usize;
+            let second = inside[1] as usize;
             let two = v.to_array();
-            unders += ones_under(v, lo);
-            out[c.min(last)] = two[0];
-            c += inside[0] as usize;
-            out[c.min(last)] = two[1];
-            c += inside[1] as usize;
+            onward += ones_onward(v, lo);
+            if c < last {
+                out[c] = two[0];
+                out[c + first] = two[1];
+            }
+            c += first + second;
         }
-        let under = unders.to_array();
-        let low = (under[0] + under[1]) as usize;
+        let ones = onward.to_array();
+        let low = 2 * pairs - (ones[0] + ones[1]) as usize;
         let mut found = Counts { low, high: low + c };
         if n % 2 == 1 {
             let k = key(sizes[n - 1], self.from);
-            out[c.min(last)] = f64::from_bits(k);
             found.low += usize::from(!at_most(lo, k));
             found.high += usize::from(at_most(k, hi));
+            if c < out.len() {
+                out[c] = f64::from_bits(k);
+            }
         }
         found
     }
