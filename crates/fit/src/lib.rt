@@ -20,10 +20,10 @@ ghost use Rattle.fit.specs.Solved.{scored_by, pivot_tests};
 ghost use Rattle.fit.specs.Chosen.{counts_of, choice_of};
 ghost use Rattle.fit.specs.Promises.{Attempted};
 
-use basis::{CoefficientCount, Degree, TERMS};
+use basis::{CoefficientCount, Degree, MATRIX, TERMS};
 use monomial::Rows;
 use score::Criterion;
-use solve::{Elimination, Solved};
+use solve::Solved;
 use std::simd::prelude::*;
 
 // y less the fitted value, of sample i.
@@ -207,14 +207,15 @@ pub fn choose(
 {
     let b = bound.0 + 1;
     let most = bound.k(rows.basis);
-    let mut e = Elimination::none();
-    solve::put_eliminated(sums, most, &mut e);
+    let mut m = [0.0; MATRIX];
+    let mut g = [0.0; TERMS];
+    let held = solve::put_eliminated(sums, most, &mut m, &mut g);
     let mut scores = [None; TERMS];
     let mut tests = 0;
     // by index, the degree: of an `iter_mut` behind `enumerate` a proof knows no element
     for d in 0..b {
         let k = Degree(d).k(rows.basis);
-        let s = e.solution(k);
+        let s = solve::solution(held, &m, &g, k);
         let t = trial(rows, sums, k, s, criterion, &mut *scratch);
         scores[d] = t.score;
         tests = tests + t.tests;

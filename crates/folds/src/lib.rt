@@ -21,11 +21,11 @@ ghost use Rattle.folds.specs.Reach.{Reached};
 ghost use Rattle.folds.specs.Folds.{start_of, end_of, own_of, degree_scored, mean_of, validated_choice};
 ghost use Rattle.folds.specs.Tallies.{added, mean_at, Tallied};
 
-use basis::{Basis, CoefficientCount, Degree, SUMS, TERMS};
+use basis::{Basis, CoefficientCount, Degree, MATRIX, SUMS, TERMS};
 use monomial::Rows;
 use reach::Reach;
 use score::Criterion;
-use solve::{Elimination, Solved};
+use solve::Solved;
 
 // Where fold f begins.
 fn start_of(n: usize, folds: usize, f: usize) -> usize
@@ -171,12 +171,13 @@ fn add_fold(
     let end = end_of(n, folds, f);
     let most = CoefficientCount(b);
     let sums = fold_others(rows, end, most, before);
-    let mut e = Elimination::none();
-    solve::put_eliminated(&sums, most, &mut e);
+    let mut m = [0.0; MATRIX];
+    let mut g = [0.0; TERMS];
+    let held = solve::put_eliminated(&sums, most, &mut m, &mut g);
     // by index, the degree: of an `iter_mut` behind `enumerate` a proof knows no element
     for d in 0..b {
         let k = Degree(d).k(Basis::Curve);
-        let solved = e.solution(k);
+        let solved = solve::solution(held, &m, &g, k);
         let s = score_fold(
             rows,
             reach,

@@ -87,59 +87,47 @@ pub fn solve(sums: &[f64], k: CoefficientCount) -> Solved
     requires { (sum_places ≤ length sums.now) × (k.0 ≤ max_terms) }
     ensures { result ≡ solve_f sums.now k.0 }
 {
-    let mut e = Elimination::none();
-    put_eliminated(sums, k, &mut e);
-    e.solution(k)
+    let mut m = [0.0; MATRIX];
+    let mut b = [0.0; TERMS];
+    let held = put_eliminated(sums, k, &mut m, &mut b);
+    solution(held, &m, &b, k)
 }
 
-// An elimination: how many pivots held, and M and b then.
-#[derive(Clone, Copy)]
-pub struct Elimination {
-    pub held: usize,
-    pub m: [f64; MATRIX],
-    pub b: [f64; TERMS],
-}
-
-// Eliminates for k coefficients, from the corner of A and from g. It serves all smaller counts too. It is made where it stands, since an array that is answered
-// is copied.
-pub fn put_eliminated(sums: &[f64], k: CoefficientCount, e: &mut Elimination)
-    requires { (sum_places ≤ length sums.now) × (k.0 ≤ max_terms) × (e.old.m ≡ replicate matrix_places zero_f) × (e.old.b ≡ replicate max_terms zero_f) }
-    ensures { stopped e.new.held e.new.m e.new.b ≡ elimination sums.now k.0 }
+// Eliminates for k coefficients, from the corner of A and from g, in m and b. It serves all smaller counts too. Answers how many pivots held. It is made where
+// it stands, since an array that is answered is copied.
+pub fn put_eliminated(
+    sums: &[f64],
+    k: CoefficientCount,
+    m: &mut [f64; MATRIX],
+    b: &mut [f64; TERMS],
+) -> usize
+    requires { (sum_places ≤ length sums.now) × (k.0 ≤ max_terms) × (m.old ≡ replicate matrix_places zero_f) × (b.old ≡ replicate max_terms zero_f) }
+    ensures { stopped result m.new b.new ≡ elimination sums.now k.0 }
 {
     let n = k.0;
     // No step for k coefficients reads past the first k rows.
-    put_front(&sums[..16 * n], &mut e.m);
-    put_front(&sums[MATRIX..][..n], &mut e.b);
-    e.held = eliminate(sums, k, &mut e.m, &mut e.b);
+    put_front(&sums[..16 * n], &mut *m);
+    put_front(&sums[MATRIX..][..n], &mut *b);
+    eliminate(sums, k, m, b)
 }
 
-impl Elimination {
-    // What an elimination is made in.
-    #[inline(always)]
-    pub fn none() -> Elimination
-        ensures m_is { result.m ≡ replicate matrix_places zero_f }
-        ensures b_is { result.b ≡ replicate max_terms zero_f }
-    {
-        Elimination {
-            held: 0,
-            m: [0.0; MATRIX],
-            b: [0.0; TERMS],
-        }
+// The k coefficients, from an elimination of at least as many: how many pivots held, and M and b then.
+pub fn solution(
+    held: usize,
+    m: &[f64; MATRIX],
+    b: &[f64; TERMS],
+    k: CoefficientCount,
+) -> Solved
+    requires { k.0 ≤ max_terms }
+    ensures { result ≡ solution_of k.0 (stopped held m.now b.now) }
+{
+    let mut c = [0.0; TERMS];
+    if held < k.0 {
+        return Solved { held, c };
     }
-
-    // The k coefficients, from an elimination of at least as many.
-    pub fn solution(&self, k: CoefficientCount) -> Solved
-        requires { k.0 ≤ max_terms }
-        ensures { result ≡ solution_of k.0 (stopped self.now.held self.now.m self.now.b) }
-    {
-        let mut c = [0.0; TERMS];
-        if self.held < k.0 {
-            return Solved { held: self.held, c };
-        }
-        put_front(&self.b[..k.0], &mut c);
-        back_substitution(k, &self.m, &mut c);
-        Solved { held: k.0, c }
-    }
+    put_front(&b[..k.0], &mut c);
+    back_substitution(k, m, &mut c);
+    Solved { held: k.0, c }
 }
 
 // Adds 2⁻⁵² to each diagonal place of the corner.

@@ -25,8 +25,8 @@ loop-d-init c = (search rules, search rules, within_itself _ _, refl, refl)
 pub k-most-requires : goal.k-most-requires
 k-most-requires c = c.requires.2
 
-pub put_eliminated-requires : goal.put_eliminated-requires
-put_eliminated-requires c = (c.requires.1, omega (arith, c.k-most.ensures, c.requires.3), c.none-e.ensures.m_is, c.none-e.ensures.b_is)
+pub put_eliminated-held-requires : goal.put_eliminated-held-requires
+put_eliminated-held-requires c = (c.requires.1, omega (arith, c.k-most.ensures, c.requires.3), refl, refl)
 
 pub solution-s-requires : goal.solution-s-requires
 solution-s-requires c = omega (arith, c.k-k.ensures, count_mono c.args.rows.basis c.loop-d.d c.args.bound.0 (omega (arith, c.loop-d-test.true)), c.requires.3)
@@ -35,7 +35,7 @@ pub trial-t-requires : goal.trial-t-requires
 trial-t-requires c =
     let m = count_mono c.args.rows.basis c.loop-d.d c.args.bound.0 (omega (arith, c.loop-d-test.true)) in
     let within = solve_nested c.args.sums.now c.k-k.result.0 c.k-most.result.0 (omega (arith, c.k-most.ensures, c.k-k.ensures, m)) (omega (arith, c.k-most.ensures, c.requires.3)) (omega (arith, c.requires.1)) in
-    (search rules, omega (arith, c.k-k.ensures, m, c.requires.3), c.solution-s.ensures ∙ ap (solution_of c.k-k.result.0) c.put_eliminated.ensures ∙ sym within)
+    (search rules, omega (arith, c.k-k.ensures, m, c.requires.3), c.solution-s.ensures ∙ ap (solution_of c.k-k.result.0) c.put_eliminated-held.ensures ∙ sym within)
 
 pub bounds-scores-d : goal.bounds-scores-d
 bounds-scores-d c = omega (arith, c.loop-d-test.true, c.requires.2)

@@ -36,8 +36,8 @@ loop-d-init c = (search rules, within_itself _ _, c.requires.tallied_before.long
 pub slice_bounds-put_eliminated-end : goal.slice_bounds-put_eliminated-end
 slice_bounds-put_eliminated-end c = sym c.fold_others-sums.ensures.long
 
-pub put_eliminated-requires : goal.put_eliminated-requires
-put_eliminated-requires c = (omega (arith, c.fold_others-sums.ensures.long), search rules, c.none-e.ensures.m_is, c.none-e.ensures.b_is)
+pub put_eliminated-held-requires : goal.put_eliminated-held-requires
+put_eliminated-held-requires c = (omega (arith, c.fold_others-sums.ensures.long), search rules, refl, refl)
 
 pub solution-solved-requires : goal.solution-solved-requires
 solution-solved-requires c = omega (arith, c.k-k.ensures, curve_count c.loop-d.d, c.loop-d-test.true, c.requires.f_in_bounds)
@@ -55,7 +55,7 @@ score_fold-s-requires c =
       omega (arith, l, c.start_of-start.ensures, c.end_of-end.ensures),
       omega (arith, g, c.end_of-end.ensures),
       omega (arith, c.k-k.ensures, curve_count c.loop-d.d, c.loop-d-test.true, c.requires.f_in_bounds),
-      c.solution-solved.ensures ∙ ap (solution_of k) c.put_eliminated.ensures ∙ sym fewer,
+      c.solution-solved.ensures ∙ ap (solution_of k) c.put_eliminated-held.ensures ∙ sym fewer,
       c.requires.in_reach,
     )
 
