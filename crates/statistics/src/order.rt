@@ -14,8 +14,11 @@ use std::simd::prelude::*;
 // The bits of +infinity: no number has greater ones.
 const INFINITY: u64 = 0x7FF0_0000_0000_0000;
 
-// So many are copied, where there are more.
+// So many are copied at most.
 const FEW: usize = 256;
+
+// Of no more than so many none is copied: counting them again is as quick.
+const VERY_FEW: usize = 64;
 
 // So many are sampled, to know about where a place lies; of no more than `FEW` numbers so many, which are put in order sooner than a pass takes.
 const SAMPLE: usize = 31;
@@ -605,7 +608,7 @@ impl Deviations<'_> {
         requires { m < length self.now }
         ensures { Middles self.now m result.low result.high }
     {
-        if self.len() <= FEW {
+        if self.len() <= VERY_FEW {
             self.middles_in(self.first_range(m), m)
         } else {
             self.middles_of_many(m)
