@@ -71,8 +71,8 @@ pub fn pair_coefficients(c: &[f64; TERMS]) -> [f64x2; TERMS]
     v
 }
 
-// The two fitted values: coefficient × term value, ascending, for the k coefficients. The coefficients are in both places of their vectors, which is done
-// once and not at each row.
+// The two fitted values: coefficient × term value, ascending, for the k coefficients, each by those in its place of the vectors. Of one curve they stand in
+// both places, which is done once and not at each row.
 #[inline(always)]
 pub fn pair_fitted(k: CoefficientCount, c: &[f64x2; TERMS], terms: &[f64x2; TERMS]) -> f64x2
     requires { (k.0 ≤ max_terms) × Paired c.now × Paired terms.now }

@@ -112,12 +112,7 @@ pub fn put_eliminated(
 }
 
 // The k coefficients, from an elimination of at least as many: how many pivots held, and M and b then.
-pub fn solution(
-    held: usize,
-    m: &[f64; MATRIX],
-    b: &[f64; TERMS],
-    k: CoefficientCount,
-) -> Solved
+pub fn solution(held: usize, m: &[f64; MATRIX], b: &[f64; TERMS], k: CoefficientCount) -> Solved
     requires { k.0 ≤ max_terms }
     ensures { result ≡ solution_of k.0 (stopped held m.now b.now) }
 {

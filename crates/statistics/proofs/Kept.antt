@@ -1,8 +1,7 @@
 -- Of a list only the numbers in a range of bits are kept: what then stands at a place stands so many places further in the whole as are under the range.
-use Rattle.std.proofs.Common.{◌≡◌, ℕ, zero, suc, ◌+◌, ◌-◌, ◌*◌, ◌/◌, ◌%◌, ◌<◌, ◌≤◌, Bool, true, false, cond, not, T, leb, List, [], ◌∷◌, ◌++◌, map, length, get_or, take, set, sym, refl, ap, ◌∙◌, subst, append-nil, zero-le, le_refl, add-zero, arith, leb→le, le-leb, take_all}
+use Rattle.std.proofs.Common.{◌≡◌, ℕ, ◌+◌, ◌-◌, ◌*◌, ◌/◌, ◌%◌, ◌<◌, ◌≤◌, Bool, true, false, cond, not, T, leb, List, [], ◌∷◌, ◌++◌, map, length, get_or, take, set, sym, refl, ap, ◌∙◌, subst, append-nil, zero-le, le_refl, add-zero, arith, leb→le, le-leb, take_all}
 use borrow.Author.Tests.{lt-leb}
-use lib.Ieee.{Float, nan, inf, fin, binary64, sub, to_bits, of_bits, fits}
-use lib.Ieee.Bits.{of_bits-to_bits}
+use lib.Ieee.{Float, nan, inf, fin, binary64, sub, to_bits, fits}
 use Rattle.std.specs.Int.{from_bool}
 use Rattle.std.proofs.lemmas.List.{map_more, take_more_set, take-set, length-set}
 use Rattle.loops.specs.All.{All}

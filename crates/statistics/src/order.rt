@@ -395,7 +395,7 @@ impl Deviations<'_> {
         }
     }
 
-    // A range where place m lies, cut at k, up to which `found` lie; where k is not in it, the range as it is.
+    // A range where place m lies, cut at k, up to which `found` lie; where k is not in it or is its end, the range as it is.
     fn parted(&self, r: Range, k: u64, found: usize, m: usize) -> Range
         requires { InRange self.now m r.lo r.hi r.below r.upto × (found ≡ count (upto k) self.now) }
         ensures is { InRange self.now m result.lo result.hi result.below result.upto }
@@ -430,7 +430,7 @@ impl Deviations<'_> {
         self.parted(above, cuts.low, found.low, m)
     }
 
-    // The range where place m lies after a first pass, which cuts it twice.
+    // A range where place m lies, after a first pass, which cuts the whole twice.
     fn first_range(&self, m: usize) -> Range
         requires { m < length self.now }
         ensures { InRange self.now m result.lo result.hi result.below result.upto }

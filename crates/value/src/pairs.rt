@@ -1,4 +1,4 @@
-// Two numbers at once, side by side in a vector: each goes through the steps that one goes through, in the same order.
+// Two numbers at once, side by side in a vector: each becomes what one by itself becomes.
 ghost use Rattle.std.specs.Prelude.{◌≡◌, [], ◌∷◌};
 ghost use Rattle.loops.specs.Places.{table};
 ghost use Rattle.value.specs.Absolute.{abs_f};

@@ -1,5 +1,5 @@
 -- `statistics::order::Deviations::gather` meets its contract. The invariant: both counts are right so far, and the first c places are those kept so far, if they fit.
-use Rattle.std.proofs.Common.{◌≡◌, ℕ, ◌+◌, ◌-◌, ◌*◌, ◌/◌, ◌%◌, ◌<◌, ◌≤◌, not, List, length, get_or, take, set, refl, ap, sym, ◌∙◌, zero-le, length-take-le, arith}
+use Rattle.std.proofs.Common.{◌≡◌, ℕ, ◌+◌, ◌-◌, ◌*◌, ◌/◌, ◌%◌, ◌<◌, ◌≤◌, List, length, get_or, take, refl, ◌∙◌, zero-le, length-take-le, arith}
 use Rattle.std.proofs.lemmas.List.{length-set}
 use lib.Ieee.{Float, nan, binary64, sub}
 use lib.Ieee.Bits.{of_bits-to_bits}
@@ -9,7 +9,7 @@ use Rattle.value.specs.Keys.{plain_fits}
 use Rattle.statistics.specs.Counting.{distances, count, under, upto, onward, between, keep}
 use Rattle.statistics.proofs.Counts.{from_bool_most, under_rest}
 use Rattle.statistics.proofs.Deviations.{length_distances, plain_at, bits_some}
-use Rattle.statistics.proofs.Kept.{keep_two, keep_neither, keep_odd, keep_even, count_between}
+use Rattle.statistics.proofs.Kept.{keep_two, keep_neither, keep_odd, count_between}
 use Rattle.statistics.proofs.Pairs.{Lanes, lanes_more, lanes_sum, count_two, count_even, count_odd}
 use Rattle.statistics.proofs.order.Deviations.gather.Goals as goal
 use Rattle.statistics.proofs.order.Deviations.gather.Goals.{then-c-last, else-c-last}
@@ -75,10 +75,10 @@ loop-p-preserved c =
       omega (arith, inv.1, m, n),
       rw (b, e, u, v, inv.2) (count_two q d a i t),
       elim c.if-c-last.branch [ then-c-last w ↦ rw w.out-is (length-set _ _ _ ∙ length-set _ _ _ ∙ inv.3) | else-c-last w ↦ rw w.out-is inv.3 ],
-      elim c.if-c-last.branch
-          [ then-c-last w ↦ rw w.out-is (keep_two q d a i t c.loop-p.out c.loop-p.c _ inv.3 inv.4 one other x y u b v e w.if-c-last.true)
-          | else-c-last w ↦ rw w.out-is (keep_neither q d a i t c.loop-p.out c.loop-p.c _ inv.3 inv.4 one other x y u b v e (omega (arith, w.if-c-last.false)))
-          ],
+      elim c.if-c-last.branch [
+        | then-c-last w ↦ rw w.out-is (keep_two q d a i t c.loop-p.out c.loop-p.c _ inv.3 inv.4 one other x y u b v e w.if-c-last.true)
+        | else-c-last w ↦ rw w.out-is (keep_neither q d a i t c.loop-p.out c.loop-p.c _ inv.3 inv.4 one other x y u b v e (omega (arith, w.if-c-last.false)))
+      ],
     )
 
 pub key-k-requires : goal.key-k-requires

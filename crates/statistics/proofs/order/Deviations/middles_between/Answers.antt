@@ -1,5 +1,5 @@
 -- `statistics::order::Deviations::middles_between` meets its contract.
-use Rattle.std.proofs.Common.{◌≡◌, ℕ, ◌+◌, ◌-◌, ◌<◌, ◌≤◌, List, length, take, sym, ap, ◌∙◌, arith}
+use Rattle.std.proofs.Common.{◌≡◌, ℕ, ◌-◌, ◌<◌, ◌≤◌, List, take, ap, ◌∙◌, arith}
 use lib.Ieee.{Float}
 use Rattle.statistics.specs.Counting.{count, under, upto, between, keep}
 use Rattle.statistics.proofs.Kept.{count_between, copied_plain, copied_range, copied_stand}
