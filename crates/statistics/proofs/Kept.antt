@@ -1,8 +1,9 @@
 -- Of a list only the numbers in a range of bits are kept: what then stands at a place stands so many places further in the whole as are under the range.
-use Rattle.std.proofs.Common.{◌≡◌, ℕ, ◌+◌, ◌-◌, ◌*◌, ◌/◌, ◌%◌, ◌<◌, ◌≤◌, Bool, true, false, cond, not, T, leb, List, [], ◌∷◌, ◌++◌, map, length, get_or, take, set, sym, refl, ap, ◌∙◌, subst, append-nil, zero-le, le_refl, add-zero, arith, leb→le, le-leb, take_all}
+use Rattle.std.proofs.Common.{◌≡◌, ℕ, ◌+◌, ◌-◌, ◌*◌, ◌/◌, ◌%◌, ◌<◌, ◌≤◌, Bool, true, false, cond, not, T, leb, List, [], ◌∷◌, ◌++◌, map, length, get_or, take, set, min, sym, refl, ap, ◌∙◌, subst, append-nil, zero-le, le_refl, add-zero, arith, leb→le, le-leb, take_all}
 use borrow.Author.Tests.{lt-leb}
 use lib.Ieee.{Float, nan, inf, fin, binary64, sub, to_bits, fits}
 use Rattle.std.specs.Int.{from_bool}
+use Rattle.std.proofs.Math.Nat.{min-eq_left}
 use Rattle.std.proofs.lemmas.List.{map_more, take_more_set, take-set, length-set}
 use Rattle.loops.specs.All.{All}
 use Rattle.loops.specs.Cases.{choose, either}
@@ -166,12 +167,14 @@ module _ (p : Float → Bool) (d : Float) (a : List Float) (i : ℕ) (h : 2 * i 
 -- at the end, of an odd number and of an even one
 module _ (p : Float → Bool) (d : Float) (a : List Float) (i : ℕ) (h : i ≡ length a / 2) (out : List Float) (n last : ℕ) (e : n ≡ count p (distances d (take (2 * i) a)))
     (f : n ≤ last → take n out ≡ keep p (distances d (take (2 * i) a))) where
+  -- a last number x is written at n, or at the last place
   pub keep_odd : length a % 2 ≡ 1 → (x : Float) → length out ≡ last + 1 → x ≡ abs_f (sub binary64 (abs_f (get_or a (length a - 1) nan)) d)
-      → count p (distances d a) ≤ last → take (count p (distances d a)) (set out n x) ≡ keep p (distances d a)
+      → count p (distances d a) ≤ last → take (count p (distances d a)) (set out (min n last) x) ≡ keep p (distances d a)
   keep_odd odd x l u r =
       let z : length a - 1 ≡ 2 * i = omega arith in
       let w : n + from_bool (p x) ≡ count p (distances d a) = rw (e, u) (count_odd p d a i h odd) in
-      rw (← w)
+      let q : n ≤ last = omega (arith, w) in
+      rw (← w, min-eq_left q)
       (subst (λ (m : List Float). take (n + from_bool (p x)) (set out n x) ≡ keep p (distances d m)) (take_all (2 * i + 1) a (omega arith))
       (keep_turn p d a (2 * i) (omega arith) out n (from_bool (p x)) x (omega (arith, w)) (f (omega (arith, w))) (rw z at u) refl))
 

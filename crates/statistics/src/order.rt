@@ -477,7 +477,7 @@ impl Deviations<'_> {
         let pairs = n / 2;
         let last = out.len() - 1;
         let mut onward = u64x2::splat(0);
-        let mut c = 0;
+        let mut c: usize = 0;
         for p in 0..pairs {
             let v = both(sizes[2 * p], sizes[2 * p + 1], self.from);
             let inside = ones_between(v, lo, hi).to_array();
@@ -496,11 +496,9 @@ impl Deviations<'_> {
         let mut found = Counts { low, high: low + c };
         if n % 2 == 1 {
             let k = key(sizes[n - 1], self.from);
+            out[c.min(last)] = f64::from_bits(k);
             found.low += usize::from(!at_most(lo, k));
             found.high += usize::from(at_most(k, hi));
-            if c < out.len() {
-                out[c] = f64::from_bits(k);
-            }
         }
         found
     }

@@ -87,37 +87,21 @@ key-k-requires c = plain_at _ _ _ (omega arith) c.self.invariant
 pub float_from_bits-out : goal.float_from_bits-out
 float_from_bits-out c = bits_some _ c.key-k.ensures.small
 
-pub returns-then-c-out-clause-low : goal.returns-then-c-out-clause-low
-returns-then-c-out-clause-low c =
+pub returns-then-n-eq1-clause-low : goal.returns-then-n-eq1-clause-low
+returns-then-n-eq1-clause-low c =
     rw (c.from.ensures, c.at_most.ensures, c.key-k.ensures.is, ← c.self.view_is)
     (low_odd c.args.lo c.args.hi c.requires.0 c.self.inside.from c.self.inside.sizes.now c.loop-p.p (omega arith) _ c.loop-p.invariant.0 c.if-n-eq1.true)
 
-pub returns-then-c-out-clause-high : goal.returns-then-c-out-clause-high
-returns-then-c-out-clause-high c =
+pub returns-then-n-eq1-clause-high : goal.returns-then-n-eq1-clause-high
+returns-then-n-eq1-clause-high c =
     rw (c.from-then-n-eq1.ensures, c.at_most-then-n-eq1.ensures, c.key-k.ensures.is, ← c.self.view_is)
     (high_odd c.args.lo c.args.hi c.requires.0 c.self.inside.from c.self.inside.sizes.now c.loop-p.p (omega arith) _ c.loop-p.invariant.0 c.if-n-eq1.true c.loop-p.c c.loop-p.invariant.2)
 
-pub returns-then-c-out-clause-out_after : goal.returns-then-c-out-clause-out_after
-returns-then-c-out-clause-out_after c =
-    rw (c.key-k.ensures.is, of_bits-to_bits binary64 _ (plain_fits _ (plain_at _ _ (length c.self.inside.sizes.now - 1) (omega arith) c.self.invariant)), ← c.self.view_is)
+pub returns-then-n-eq1-clause-out_after : goal.returns-then-n-eq1-clause-out_after
+returns-then-n-eq1-clause-out_after c =
+    rw (c.min.ensures, c.key-k.ensures.is, of_bits-to_bits binary64 _ (plain_fits _ (plain_at _ _ (length c.self.inside.sizes.now - 1) (omega arith) c.self.invariant)), ← c.self.view_is)
     (λ r. keep_odd (between c.args.lo c.args.hi) c.self.inside.from c.self.inside.sizes.now c.loop-p.p (omega arith) c.loop-p.out c.loop-p.c _ c.loop-p.invariant.2 c.loop-p.invariant.4
     c.if-n-eq1.true _ c.loop-p.invariant.3 refl (omega arith))
-
-pub returns-else-c-out-clause-low : goal.returns-else-c-out-clause-low
-returns-else-c-out-clause-low c =
-    rw (c.from.ensures, c.at_most.ensures, c.key-k.ensures.is, ← c.self.view_is)
-    (low_odd c.args.lo c.args.hi c.requires.0 c.self.inside.from c.self.inside.sizes.now c.loop-p.p (omega arith) _ c.loop-p.invariant.0 c.if-n-eq1.true)
-
-pub returns-else-c-out-clause-high : goal.returns-else-c-out-clause-high
-returns-else-c-out-clause-high c =
-    rw (c.from-then-n-eq1.ensures, c.at_most-then-n-eq1.ensures, c.key-k.ensures.is, ← c.self.view_is)
-    (high_odd c.args.lo c.args.hi c.requires.0 c.self.inside.from c.self.inside.sizes.now c.loop-p.p (omega arith) _ c.loop-p.invariant.0 c.if-n-eq1.true c.loop-p.c c.loop-p.invariant.2)
-
-pub returns-else-c-out-clause-out_after : goal.returns-else-c-out-clause-out_after
-returns-else-c-out-clause-out_after c =
-    let s = count_odd (between c.args.lo c.args.hi) c.self.inside.from c.self.inside.sizes.now c.loop-p.p (omega arith) c.if-n-eq1.true in
-    let f = c.if-c-out.false in
-    rw (← c.self.view_is) (λ r. absurd (omega (arith, r, s, f, c.loop-p.invariant.2, c.loop-p.invariant.3)))
 
 pub returns-else-n-eq1-clause-low : goal.returns-else-n-eq1-clause-low
 returns-else-n-eq1-clause-low c =
