@@ -1,5 +1,5 @@
 -- What a choice comes to: no degree, or one that is measured.
-use Rattle.std.specs.Prelude.{Option, Some, Result, Ok, Err, IsOkAnd, MatchResult}
+use Rattle.std.specs.Prelude.{Option, Some, Result, Ok, Err, MatchResult}
 use Rattle.std.specs.Result.{result_map_both}
 use mathlib.Core.Path.{◌≡◌, refl, sym, ap, ◌∙◌}
 use mathlib.Core.Bool.{Bool, true, false, cond}
@@ -40,12 +40,10 @@ measured_solved basis sums rows d h = rw h (go (inverse_fails sums (count_of bas
     go true m = refl
     go false m = refl
 
--- what `map` makes of an answer
-mapped : {A B : Type 0} {P : A → B → Type 0} (f : A → B) (a : Result A Refusal) (b : Result B Refusal) → MatchResult a (λ x. IsOkAnd b (P x)) (λ e. b ≡ Err e)
-    → ((x : A) (y : B) → P x y → y ≡ f x) → b ≡ result_map_both f (λ e. e) a
-mapped f (Ok x) (Ok y) h q = ap (λ z. Ok z) (q x y h)
-mapped f (Ok x) (Err e) h q = elim h [ ]
-mapped f (Err e) b h q = h
+-- what becomes of an answer
+mapped : {A B : Type 0} (f : A → B) (a : Result A Refusal) (b : Result B Refusal) → MatchResult a (λ x. b ≡ Ok (f x)) (λ e. b ≡ Err e) → b ≡ result_map_both f (λ e. e) a
+mapped f (Ok x) b h = h
+mapped f (Err e) b h = h
 
 -- r is what the code chooses among the degrees up to the last
 module _ (basis : Basis) (criterion : Criterion) (n last : ℕ) (rows : List Row) (sums : List Float) (r : Choice)
@@ -55,15 +53,14 @@ module _ (basis : Basis) (criterion : Criterion) (n last : ℕ) (rows : List Row
 
   -- d is chosen, and measured
   pub chooses_some : (d : Degree) → r.chosen ≡ Some d → (a : Result Measured Refusal) (s t u : List Float) → Within n s t
-      → Measures sums rows (count_of basis d.0) n t u a → {P : Measured → Found → Type 0} (f : Result Found Refusal) → MatchResult a (λ m. IsOkAnd f (P m)) (λ e. f ≡ Err e)
-      → ((m : Measured) (g : Found) → P m g → g ≡ of_degree d m)
+      → Measures sums rows (count_of basis d.0) n t u a → (f : Result Found Refusal) → MatchResult a (λ m. f ≡ Ok (of_degree d m)) (λ e. f ≡ Err e)
       → Chooses basis (choice_of criterion sums rows (counts_of basis last)) n rows sums s u (record { choice = r; found = f })
-  chooses_some d h a s t u w q f m g =
+  chooses_some d h a s t u w q f m =
       let o = chosen_is (Some d) h in
       record {
         choice = found;
         found =
-            mapped _ a f m g ∙ ap (result_map_both (of_degree d) (λ e. e)) q.measured_is
+            mapped _ a f m ∙ ap (result_map_both (of_degree d) (λ e. e)) q.measured_is
             ∙ measured_solved basis sums rows d (last_solved basis criterion rows sums last d o).1 ∙ ap (found_of basis rows sums) (sym o);
         within = within_then w q.within;
       }

@@ -122,14 +122,22 @@ pub fn choose(
     ensures { Chooses rows.entry.basis (choice_of criterion sums.now (rows_read rows.entry) (counts_of rows.entry.basis last.0)) (length rows.entry.ys.now) (rows_read rows.entry) sums.now (before scratch) (after scratch) result }
 {
     let choice = fit::choose(rows, sums, last, criterion, &mut *scratch);
-    let found = match choice.chosen {
-        None => Err(Refusal::NoneChosen),
-        Some(degree) => {
-            let k = degree.k(rows.basis);
-            measure::measure(rows, sums, k, scratch).map(|measured| Found { degree, measured })
-        }
+    let Some(degree) = choice.chosen else {
+        let found = Err(Refusal::NoneChosen);
+        return Chosen { choice, found };
     };
-    Chosen { choice, found }
+    let k = degree.k(rows.basis);
+    // no `map`: each function that the 2 KB of a covariance pass through copies them
+    match measure::measure(rows, sums, k, scratch) {
+        Ok(measured) => Chosen {
+            choice,
+            found: Ok(Found { degree, measured }),
+        },
+        Err(refusal) => Chosen {
+            choice,
+            found: Err(refusal),
+        },
+    }
 }
 
 // Writes what a report of this degree writes, and answers it.
