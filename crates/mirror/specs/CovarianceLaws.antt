@@ -3,6 +3,7 @@ use Rattle.std.specs.Prelude.{◌≡◌, List, ℕ, ltb, Float}
 use Rattle.std.proofs.Common.{ap}
 use Rattle.std.proofs.Math.Path.{ap₂}
 use Rattle.monomial.specs.Rows.{Row}
+use Rattle.solve.specs.Solve.{Inverted}
 use Rattle.covariance.specs.Covariance.{covariance_of, errors_of}
 use Rattle.measure.specs.Measures.{inverse_fails, measure_refusal, covariance_at}
 use Rattle.mirror.specs.Mirror.{MirrorRows, MirrorSums}
