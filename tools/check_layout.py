@@ -7,6 +7,7 @@ files name, may list those that declare the types which its code reaches, and no
 Edits: the first line is a comment that names an input; each `old:` text stands exactly once in its file.
 docs/DESIGN.md: the table of layers has every crate, in the order of crates.txt. Each edit is named, as `WHAT`, or as `CRATE/WHAT`, which it must be where two crates have
 an edit of that name.
+Both: what is named as `CRATE::NAME` is in the code of that crate.
 docs/READING.md: each list of files to read has as many lines as it says, and so have the files of its command, which are those of the first table.
 Files: no contract line is longer than 300 characters; no comment of specs/ or proofs/ says that nothing is assumed, which the prover sees to.
 specs/: a file whose first comment says `Definitions only.` has no law, and any other has no definition that is `pub`.
@@ -157,6 +158,15 @@ def check_edits_named(crates):
             wrong.append(f'{DESIGN}: the edit {whole} is not named')
 
 
+# An item that a text names as `CRATE::NAME`, or with modules and types between, is declared or passed on in that crate.
+def check_items_named(crates):
+    for text in (DESIGN, READING):
+        for name in sorted(set(re.findall(r'`([a-z_]+(?:::\w+)+)`', text.read_text(encoding='utf-8')))):
+            crate, item = name.split('::')[0], name.split('::')[-1]
+            if crate in crates and not re.search(rf'\b(?:fn|struct|enum|const|trait|type|mod|macro_rules!)\s+{item}\b|\bpub use\b[^;]*\b{item}\b', code_of(crate)):
+                wrong.append(f'{text}: there is no {name}')
+
+
 # The files that a text names: CRATE/specs/NAME, or several as CRATE/specs/{NAME,NAME}.
 def files_named(text):
     found = re.findall(r'(\w+/specs/)(?:\{([\w,]+)\}|(\w+))', text)
@@ -233,6 +243,7 @@ def main():
     edits = check_edits(crates)
     check_design(crates)
     check_edits_named(crates)
+    check_items_named(crates)
     check_reading()
     check_files(crates)
     check_specs(crates)
