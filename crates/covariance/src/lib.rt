@@ -32,7 +32,7 @@ const EPSILON: f64 = f64::from_bits(0x3CB0_0000_0000_0000);
 pub fn put_covariance(inverse: &mut [f64; MATRIX], variance: f64)
     ensures { inverse.new ≡ covariance_of inverse.old variance }
 {
-    // by index: of what the closure of a `map` holds, here the variance, a proof knows nothing at a later place
+    // by index: of what the closure of a `for_each` holds, here the variance, a proof knows nothing at a later place
     for t in 0..MATRIX {
         inverse[t] = inverse[t] * variance;
     }

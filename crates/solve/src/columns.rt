@@ -41,7 +41,7 @@ pub fn eliminate_all(
     held
 }
 
-// The first k columns become unit columns.
+// The first k columns of v, which is all +0 before, become unit columns.
 pub fn put_identity(k: CoefficientCount, v: &mut [f64; MATRIX])
     requires { (k.0 ≤ max_terms) × (v.old ≡ replicate matrix_places zero_f) }
     ensures { (j : ℕ) → j < k.0 → column_in v.new j ≡ unit j }

@@ -93,8 +93,8 @@ pub fn solve(sums: &[f64], k: CoefficientCount) -> Solved
     solution(held, &m, &b, k)
 }
 
-// Eliminates for k coefficients, from the corner of A and from g, in m and b. It serves all smaller counts too. Answers how many pivots held. It is made where
-// it stands, since an array that is answered is copied.
+// Eliminates for k coefficients, from the corner of A and from g, in m and b, which are all +0 before. It serves all smaller counts too. Answers how many pivots
+// held. It is made where it stands, since an array that is answered is copied.
 pub fn put_eliminated(
     sums: &[f64],
     k: CoefficientCount,
@@ -145,8 +145,9 @@ fn put_column(k: CoefficientCount, j: usize, b: &[f64; TERMS], v: &mut [f64; MAT
     }
 }
 
-// The inverse of the corner of A with 2⁻⁵² first added to each diagonal place is put into v. Answers how many of its columns are made, all k or none where a
-// pivot fails: a number, as document 01 makes one column after the other. It eliminates once per unit column; what decides a pivot is the same each time.
+// The inverse of the corner of A with 2⁻⁵² first added to each diagonal place is put into v, which is all +0 before; every place beside the corner stays +0.
+// Answers how many of its columns are made, all k or none where a pivot fails: a number, as document 01 makes one column after the other. Document 01 eliminates
+// once per unit column; what decides a pivot is the same each time.
 pub fn put_inverse(sums: &[f64], k: CoefficientCount, v: &mut [f64; MATRIX]) -> usize
     requires { (matrix_places ≤ length sums.now) × (k.0 ≤ max_terms) × (v.old ≡ replicate matrix_places zero_f) }
     ensures { record { columns = result; v = v.new } ≡ inverse_f sums.now k.0 }

@@ -1,4 +1,5 @@
-// Order statistics with no sort and no write: what stands at a place of the numbers in order is found by counting bit patterns.
+// Order statistics with no sort of the numbers and no write to them: what stands at a place of them in order is found by counting bit patterns, and some are
+// copied.
 ghost use Rattle.std.specs.Prelude.{◌≡◌, ◌+◌, ◌-◌, ◌/◌, ◌<◌, ◌≤◌, ◌&&◌, ◌⊎◌, IfSome, length, map, take, nat_le, to_bits, [], ◌∷◌, false};
 ghost use Rattle.std.specs.Int.{from_bool};
 ghost use Rattle.std.specs.Float.{binary64};
@@ -20,10 +21,14 @@ const FEW: usize = 256;
 // Of no more than so many none is copied: counting them again is as quick.
 const VERY_FEW: usize = 64;
 
-// So many are sampled, to know about where a place lies; of no more than `FEW` numbers so many, which are put in order sooner than a pass takes.
+// So many are sampled, to know about where a place lies.
 const SAMPLE: usize = 31;
 
+// Of no more than `FEW` numbers so many are sampled: more take longer to put in order than a pass over all.
 const SMALL_SAMPLE: usize = 9;
+
+// So many places about the one looked for are copied, to either side of it.
+const MARGIN: f64 = 77.0;
 
 // As many bits as lie between a double and the one sixteen times as large.
 const FOUR_BINADES: u64 = 0x40_0000_0000_0000;
@@ -122,7 +127,7 @@ struct Sample {
 }
 
 impl Sample {
-    // The one at place i, or the last.
+    // The one at place i, or the last; 0 where there is none.
     fn at(self, i: usize) -> u64
         requires { self.many ≤ SAMPLE }
     {
@@ -206,8 +211,8 @@ impl Range {
         }
     }
 
-    // Cuts some 77 places below place m and above it, by rank, of a range that is not too wide for that. The range is no point, and both cuts lie in it, one
-    // above the other.
+    // Cuts `MARGIN` places below place m and above it, by rank, of a range that is not too wide for that. Where there are some, the range is no point, and both
+    // lie in it, one above the other.
     fn about(self, m: usize) -> Option<Pair>
         requires { (self.lo ≤ self.hi) × (self.hi ≤ INFINITY) }
         ensures { IfSome result (λ p. (self.lo ≤ p.low) × (p.low < p.high) × (p.high < self.hi)) }
@@ -215,8 +220,8 @@ impl Range {
         if (self.lo == self.hi) | (FOUR_BINADES < self.hi - self.lo) {
             return None;
         }
-        let low = self.within(self.by_rank(m, -77.0));
-        let high = self.within(self.by_rank(m, 77.0));
+        let low = self.within(self.by_rank(m, -MARGIN));
+        let high = self.within(self.by_rank(m, MARGIN));
         if high <= low {
             return None;
         }
@@ -362,7 +367,7 @@ impl Deviations<'_> {
         Sample { keys, many }
     }
 
-    // Two numbers of a sample, so many places below place m and above it. A guess.
+    // Two numbers of a sample, `margin` of its places below where place m falls in it, and above. A guess.
     fn about(&self, m: usize, many: usize, margin: usize) -> Pair
         requires { (0 < many) × (many ≤ SAMPLE) × (many ≤ length self.now) }
     {
@@ -374,8 +379,8 @@ impl Deviations<'_> {
         }
     }
 
-    // Two numbers, a little below place m and a little above it: the range is cut first before the one and after the other. A guess; of very few numbers, about
-    // the middle one.
+    // Two numbers, a little below place m and a little above it: the range is cut first before the one and after the other. A guess; of fewer than two small
+    // samples, the one in the middle of the list, twice.
     fn first_cuts(&self, m: usize) -> Pair
         requires { m < length self.now }
         ensures { (result.low ≤ INFINITY) × (result.high ≤ INFINITY) }
@@ -463,8 +468,8 @@ impl Deviations<'_> {
         }
     }
 
-    // How many have bits below lo, and up to hi; and copies of the numbers from lo to hi, if they fit with a place more. Each number is written, and the next one
-    // over it where it does not lie there, which needs no branch.
+    // How many have bits below lo, and up to hi; and copies of the numbers from lo to hi, if they fit with a place more. While there is room each number is
+    // written, and the next one over it where it does not lie there, which needs no branch.
     fn gather(&self, lo: u64, hi: u64, out: &mut [f64]) -> Counts
         requires { (lo ≤ hi) × (hi ≤ INFINITY) × (0 < length out.old) }
         ensures low { result.low ≡ count (under lo) self.now }

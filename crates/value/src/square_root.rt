@@ -186,8 +186,8 @@ fn root_by(x: f64, r: u64) -> f64
     sqrt(x)
 }
 
-// Each number becomes its root. The guess is the machine's root, which waits for no division before it, and is tried as any other: `sqrt` guesses by itself,
-// as the digits would else never be asked for.
+// Each number becomes its root. The guess is the machine's root, which waits for no division before it, and is tried as any other. `sqrt` keeps its own guess:
+// the machine's would never be refused, and the digits never run.
 pub fn put_roots(v: &mut [f64])
     ensures { v.new ≡ map root_f v.old }
 {
