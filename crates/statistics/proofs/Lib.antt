@@ -5,3 +5,4 @@ pub mod Counts
 pub mod Deviations
 pub mod Pairs
 pub mod Kept
+pub mod Ordered

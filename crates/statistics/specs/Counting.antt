@@ -1,4 +1,4 @@
--- What the code counts to find the numbers in the middle without a sort. Not needed to read a public promise. Definitions only.
+-- What the code counts to find the numbers in the middle of many without a sort. Not needed to read a public promise. Definitions only.
 -- The bits of doubles with no sign are in the order of the doubles, so a place of the list in order is told by two counts of bits.
 use Rattle.std.specs.Prelude.{◌≡◌, ℕ, ◌+◌, ◌-◌, ◌<◌, ◌≤◌, Bool, cond, not, ◌&&◌, T, List, [], ◌∷◌, map, nat_le, nat_lt, to_bits, Float}
 use Rattle.std.specs.Int.{from_bool}

@@ -1,9 +1,10 @@
-// Order statistics with no sort of the numbers and no write to them: what stands at a place of them in order is found by counting bit patterns, and some are
-// copied.
+// Order statistics with no write to the numbers. Few are put in order in a local array; of many, what stands at a place in order is found by counting bit
+// patterns, and some are copied.
 ghost use Rattle.std.specs.Prelude.{◌≡◌, ◌+◌, ◌-◌, ◌/◌, ◌<◌, ◌≤◌, ◌&&◌, ◌⊎◌, IfSome, length, map, take, nat_le, to_bits, [], ◌∷◌, false};
 ghost use Rattle.std.specs.Int.{from_bool};
 ghost use Rattle.std.specs.Float.{binary64};
 ghost use Rattle.std.specs.Float.Ieee.{sub};
+ghost use Rattle.std.specs.List.Sorted.{IsNonDecreasing, IsPermutation};
 ghost use Rattle.loops.specs.All.{All};
 ghost use Rattle.value.specs.Absolute.{abs_f};
 ghost use Rattle.statistics.specs.Medians.{any_nan, midpoint as midpoint_f, median_of};
@@ -17,6 +18,9 @@ const INFINITY: u64 = 0x7FF0_0000_0000_0000;
 
 // So many are copied at most.
 const FEW: usize = 256;
+
+// No more than so many are put in order, by insertion in the library, which is quicker than a search by counts.
+const SORTED: usize = 20;
 
 // Of no more than so many none is copied: counting them again is as quick.
 const VERY_FEW: usize = 64;
@@ -247,7 +251,7 @@ impl Range {
     }
 }
 
-// The deviations ||x| − d| of the sizes of numbers from d, none of them a NaN. They are worked out anew in each pass, and not stored.
+// The deviations ||x| − d| of the sizes of numbers from d, none of them a NaN. They are worked out anew in each pass; of few the bits are stored.
 #[derive(Drop)]
 struct Deviations<'a> {
     sizes: &'a [f64],
@@ -348,7 +352,7 @@ impl Deviations<'_> {
         Pair { low, high }
     }
 
-    // The bits of the numbers at evenly spread places, the first at `from`, in order: so few are put in order by insertion.
+    // The bits of the numbers at evenly spread places, the first at `from`, in order.
     fn sampled(&self, many: usize, from: usize) -> Sample
         requires { (many ≤ SAMPLE) × (from < length self.now / many) }
         ensures { result.many ≤ SAMPLE }
@@ -356,14 +360,9 @@ impl Deviations<'_> {
         let step = self.len() / many;
         let mut keys = [0; SAMPLE];
         for i in 0..many {
-            let k = self.key_at(i * step + from);
-            let mut j = i;
-            while 0 < j && k < keys[j - 1] {
-                keys[j] = keys[j - 1];
-                j -= 1;
-            }
-            keys[j] = k;
+            keys[i] = self.key_at(i * step + from);
         }
+        keys[..many].sort_unstable();
         Sample { keys, many }
     }
 
@@ -379,17 +378,12 @@ impl Deviations<'_> {
         }
     }
 
-    // Two numbers, a little below place m and a little above it: the range is cut first before the one and after the other. A guess; of fewer than two small
-    // samples, the one in the middle of the list, twice.
+    // Two numbers, a little below place m and a little above it: the range is cut first before the one and after the other. A guess.
     fn first_cuts(&self, m: usize) -> Pair
-        requires { m < length self.now }
+        requires { (m < length self.now) × (SORTED < length self.now) }
         ensures { (result.low ≤ INFINITY) × (result.high ≤ INFINITY) }
     {
-        let n = self.len();
-        let ends = if n < 2 * SMALL_SAMPLE {
-            let k = self.key_at(n / 2);
-            Pair { low: k, high: k }
-        } else if n <= FEW {
+        let ends = if self.len() <= FEW {
             self.about(m, SMALL_SAMPLE, 1)
         } else {
             self.about(m, SAMPLE, 3)
@@ -437,7 +431,7 @@ impl Deviations<'_> {
 
     // A range where place m lies, after a first pass, which cuts the whole twice.
     fn first_range(&self, m: usize) -> Range
-        requires { m < length self.now }
+        requires { (m < length self.now) × (SORTED < length self.now) }
         ensures { InRange self.now m result.lo result.hi result.below result.upto }
     {
         let whole = Range {
@@ -586,7 +580,7 @@ impl Deviations<'_> {
 
     // The same of many numbers, from those that are copied if they can be.
     fn middles_of_many(&self, m: usize) -> Pair
-        requires { m < length self.now }
+        requires { (m < length self.now) × (SORTED < length self.now) }
         ensures { Middles self.now m result.low result.high }
     {
         let mut r = self.first_range(m);
@@ -606,12 +600,41 @@ impl Deviations<'_> {
         self.middles_in(r, m)
     }
 
+    // The bits of the numbers are put in `keys`, in order.
+    fn put_in_order(&self, keys: &mut [u64])
+        requires { length keys.old ≡ length self.now }
+        ensures moved { IsPermutation (map (to_bits binary64) self.now) keys.new }
+        ensures rising { IsNonDecreasing keys.new }
+    {
+        let sizes = self.sizes;
+        for i in 0..sizes.len() {
+            keys[i] = key(sizes[i], self.from);
+        }
+        keys.sort_unstable();
+    }
+
+    // The numbers at place m and before it, of few: their bits are put in order.
+    fn middles_of_few(&self, m: usize) -> Pair
+        requires { (m < length self.now) × (length self.now ≤ SORTED) }
+        ensures { Middles self.now m result.low result.high }
+    {
+        let mut room = [0; SORTED];
+        let keys = &mut room[..self.len()];
+        self.put_in_order(&mut *keys);
+        Pair {
+            low: keys[m.saturating_sub(1)],
+            high: keys[m],
+        }
+    }
+
     // The same, of any.
     fn middles(&self, m: usize) -> Pair
         requires { m < length self.now }
         ensures { Middles self.now m result.low result.high }
     {
-        if self.len() <= VERY_FEW {
+        if self.len() <= SORTED {
+            self.middles_of_few(m)
+        } else if self.len() <= VERY_FEW {
             self.middles_in(self.first_range(m), m)
         } else {
             self.middles_of_many(m)
