@@ -4,7 +4,7 @@
 
 mod pairs;
 
-ghost use Rattle.std.specs.Prelude.{◌≡◌, ◌++◌, ◌≤◌, ◌<◌, length, get_or, drop};
+ghost use Rattle.std.specs.Prelude.{◌≡◌, ◌++◌, ◌≤◌, ◌<◌, ◌&&◌, nat_lt, length, get_or, drop};
 ghost use Rattle.std.specs.Float.{nan};
 ghost use Rattle.basis.specs.Sizes.{max_terms};
 ghost use Rattle.loops.specs.Places.{each, table};
@@ -38,21 +38,18 @@ pub fn put_covariance(inverse: &mut [f64; MATRIX], variance: f64)
     }
 }
 
-// The roots of the first k diagonal places, then +0. The loops here and below count: a place of the matrix is worked out from two indices, and several memories
-// are read or written at one place.
+// The roots of the first k diagonal places, then +0.
 pub fn errors(k: CoefficientCount, covariance: &[f64; MATRIX]) -> [f64; TERMS]
     requires { k.0 ≤ max_terms }
     ensures { result ≡ errors_of k.0 covariance.now }
 {
-    let n = k.0;
-    let mut e = [0.0; TERMS];
-    for i in 0..n {
-        e[i] = value::sqrt(covariance[16 * i + i]);
-    }
+    let mut e = solve::diagonal(k, covariance);
+    value::put_roots(&mut e[..k.0]);
     e
 }
 
-// Term value × place, down column j.
+// Term value × place, down column j. The loops here and below count: a place of the matrix is worked out from two indices, and several memories are read or written
+// at one place.
 fn column(k: CoefficientCount, terms: &[f64; TERMS], covariance: &[f64; MATRIX], j: usize) -> f64
     requires { (k.0 ≤ max_terms) × (j < max_terms) }
     ensures { result ≡ column_of k.0 terms.now covariance.now j }
@@ -208,6 +205,21 @@ pub fn prunes(rule: PruningRule, t: f64, c: f64, error: f64) -> bool
     (tested(rule, c, size) > EPSILON) & (size / error < t)
 }
 
+// Whether coefficient i is one of the k and is pruned. No other is tried: each would cost a division.
+fn is_pruned(
+    rule: PruningRule,
+    k: CoefficientCount,
+    c: &[f64; TERMS],
+    errors: &[f64; TERMS],
+    t: f64,
+    i: usize,
+) -> bool
+    requires { i < max_terms }
+    ensures { result ≡ (nat_lt i k.0 && prunes_f rule t (get_or c.now i nan) (get_or errors.now i nan)) }
+{
+    i < k.0 && prunes(rule, t, c[i], errors[i])
+}
+
 // The pruning bytes of k coefficients. Answers how many are pruned.
 pub fn put_pruned(
     rule: PruningRule,
@@ -221,10 +233,9 @@ pub fn put_pruned(
     ensures counted { result ≡ ones (pruned_bytes (length out.old) rule k.0 c.now errors.now t) }
     ensures written { out.new ≡ pruned_bytes (length out.old) rule k.0 c.now errors.now t }
 {
-    let n = k.0;
     let mut count: usize = 0;
     for i in 0..out.len() {
-        let pruned = (i < n) & prunes(rule, t, c[i], errors[i]);
+        let pruned = is_pruned(rule, k, c, errors, t, i);
         out[i] = u8::from(pruned);
         count += usize::from(pruned);
     }

@@ -1,29 +1,29 @@
 // Right sides that lie beside each other, as columns of a matrix.
-ghost use Rattle.std.specs.Prelude.{◌≡◌, ℕ, ◌≤◌, ◌<◌, length, replicate};
+ghost use Rattle.std.specs.Prelude.{◌≡◌, ℕ, ◌≤◌, ◌<◌, List, Float, replicate};
 ghost use Rattle.basis.specs.Sizes.{matrix_places, max_terms};
 ghost use Rattle.value.specs.Numbers.{zero_f};
 ghost use Rattle.solve.specs.Solve.{eliminate as eliminate_f, unit};
-ghost use Rattle.solve.specs.Columns.{column_in};
+ghost use Rattle.solve.specs.Columns.{Diagonal, column_in};
 
 use crate::PIVOT_RATIO;
 use basis::{CoefficientCount, MATRIX, TERMS};
 
-// Eliminates as `eliminate` does, with all k columns of v beside the corner: one elimination of m serves them all. The product of a factor and a place is
-// taken off in each column where the elimination of that column alone takes it off.
+// Eliminates as `eliminate` does, with all k columns of v beside the corner, from the pivots' starting values: one elimination of m serves them all. The product of
+// a factor and a place is taken off in each column where the elimination of that column alone takes it off.
 pub fn eliminate_all(
-    start: &[f64],
+    start: &[f64; TERMS],
     k: CoefficientCount,
     m: &mut [f64; MATRIX],
     v: &mut [f64; MATRIX],
 ) -> usize
-    requires { (matrix_places ≤ length start.now) × (k.0 ≤ max_terms) }
-    ensures { (j : ℕ) → j < k.0 → record { at = result; state = record { m = m.new; b = column_in v.new j } } ≡ eliminate_f start.now k.0 (record { m = m.old; b = column_in v.old j }) }
+    requires { k.0 ≤ max_terms }
+    ensures { (s : List Float) → Diagonal k.0 s start.now → (j : ℕ) → j < k.0 → record { at = result; state = record { m = m.new; b = column_in v.new j } } ≡ eliminate_f s k.0 (record { m = m.old; b = column_in v.old j }) }
 {
     let n = k.0;
     let mut held = n;
     'pivots: for p in 0..n {
         let pp = 16 * p + p;
-        let least = PIVOT_RATIO * start[pp];
+        let least = PIVOT_RATIO * start[p];
         if !(m[pp] > least) {
             held = p;
             break 'pivots;

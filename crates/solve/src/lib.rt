@@ -6,8 +6,9 @@ mod columns;
 
 ghost use Rattle.std.specs.Prelude.{◌≡◌, ◌++◌, ◌≤◌, ◌<◌, length, take, drop, replicate};
 ghost use Rattle.basis.specs.Sizes.{matrix_places, max_terms, sum_places};
+ghost use Rattle.loops.specs.Places.{each};
 ghost use Rattle.value.specs.Numbers.{zero_f};
-ghost use Rattle.solve.specs.Solve.{eliminate as eliminate_f, back, solve as solve_f, ridge as ridge_f, put_column, inverse as inverse_f};
+ghost use Rattle.solve.specs.Solve.{cell, eliminate as eliminate_f, back, solve as solve_f, ridge as ridge_f, put_column, inverse as inverse_f};
 ghost use Rattle.solve.specs.Nested.{stopped, elimination, solution_of};
 
 use basis::{CoefficientCount, MATRIX, TERMS};
@@ -135,6 +136,18 @@ fn ridge(k: CoefficientCount, m: &mut [f64; MATRIX])
     }
 }
 
+// The first k diagonal places, then +0.
+pub fn diagonal(k: CoefficientCount, m: &[f64; MATRIX]) -> [f64; TERMS]
+    requires { k.0 ≤ max_terms }
+    ensures { result ≡ each (λ i _. cell m.now i i) k.0 (replicate max_terms zero_f) }
+{
+    let mut d = [0.0; TERMS];
+    for i in 0..k.0 {
+        d[i] = m[16 * i + i];
+    }
+    d
+}
+
 // Column j of v becomes the first k places of b.
 fn put_column(k: CoefficientCount, j: usize, b: &[f64; TERMS], v: &mut [f64; MATRIX])
     requires { (k.0 ≤ max_terms) × (j < max_terms) }
@@ -150,16 +163,17 @@ fn put_column(k: CoefficientCount, j: usize, b: &[f64; TERMS], v: &mut [f64; MAT
 // once per unit column; what decides a pivot is the same each time.
 pub fn put_inverse(sums: &[f64], k: CoefficientCount, v: &mut [f64; MATRIX]) -> usize
     requires { (matrix_places ≤ length sums.now) × (k.0 ≤ max_terms) × (v.old ≡ replicate matrix_places zero_f) }
-    ensures { record { columns = result; v = v.new } ≡ inverse_f sums.now k.0 }
+    ensures is { record { columns = result; v = v.new } ≡ inverse_f sums.now k.0 }
+    ensures kept { result < k.0 → v.new ≡ v.old }
 {
     let n = k.0;
-    let mut l = [0.0; MATRIX];
-    put_front(&sums[..MATRIX], &mut l);
-    ridge(k, &mut l);
-    let mut m = l;
+    let mut m = [0.0; MATRIX];
+    put_front(&sums[..MATRIX], &mut m);
+    ridge(k, &mut m);
+    let start = diagonal(k, &m);
     let mut units = [0.0; MATRIX];
     put_identity(k, &mut units);
-    if eliminate_all(&l, k, &mut m, &mut units) < n {
+    if eliminate_all(&start, k, &mut m, &mut units) < n {
         return 0;
     }
     for j in 0..n {

@@ -1,22 +1,20 @@
--- `covariance::errors` meets its contract. The loop's invariant: the places passed are roots.
-use mathlib.Core.Path.{◌≡◌, refl}
-use native.Mathlib.Omega.{arith}
-use borrow.Author.Rules.{rules}
-use lib.Ieee.{nan}
-use Rattle.loops.specs.Places.{each}
-use Rattle.loops.specs.PlaceLaws.{each_again}
+-- `covariance::errors` meets its contract.
+use Rattle.std.proofs.Common.{◌≡◌, ℕ, ◌≤◌, List, ◌++◌, map, length, take, drop, sym, ap, ap₂, ◌∙◌, rules}
+use Rattle.std.proofs.Math.Seq.{take-append_seam}
+use lib.Ieee.{Float}
+use Rattle.loops.specs.Places.{each, table}
+use Rattle.loops.specs.PlaceLaws.{each_rest, each_write, length_table, map_table}
+use Rattle.value.specs.Root.{root_f}
 use Rattle.covariance.specs.Covariance.{errors_of}
 use Rattle.covariance.proofs.errors.Goals as goal
 
-pub loop-i-init : goal.loop-i-init
-unfolding each
-loop-i-init c = (search rules, refl)
-
-pub loop-i-preserved : goal.loop-i-preserved
-loop-i-preserved c = (search rules, rw (c.loop-i.invariant.1, c.sqrt.ensures) (each_again _ _ _ nan (search rules)))
+-- the first n places become their roots, where they were written before
+roots_of : (f : ℕ → Float) (n : ℕ) (s : List Float) → n ≤ length s → map root_f (take n (each (λ i _. f i) n s)) ++ drop n (each (λ i _. f i) n s) ≡ each (λ i _. root_f (f i)) n s
+roots_of f n s h =
+    let front : take n (each (λ i _. f i) n s) ≡ table f n =
+    ap (take n) (each_write f n s h) ∙ ap (λ (k : ℕ). take k (table f n ++ drop n s)) (sym (length_table f n)) ∙ take-append_seam (table f n) (drop n s) in
+    ap₂ (λ (l r : List Float). l ++ r) (ap (map root_f) front ∙ sym (map_table root_f f n)) (each_rest (λ i _. f i) n s) ∙ sym (each_write (λ i. root_f (f i)) n s h)
 
 pub returns : goal.returns
 unfolding errors_of
-returns c =
-    let z : c.loop-i.i ≡ c.args.k.0 = omega arith in
-    rw z at c.loop-i.invariant.1
+returns c = rw (c.put_roots.ensures, c.diagonal-e.ensures) (roots_of _ _ _ (search rules))

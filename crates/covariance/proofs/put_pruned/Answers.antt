@@ -1,6 +1,5 @@
 -- `covariance::put_pruned` meets its contract. The loop's invariant: the places passed hold their bytes, and count is their number of ones.
 use mathlib.Core.Path.{◌≡◌, refl, sym, ◌∙◌}
-use Rattle.std.proofs.Common.{ltb, ◌&&◌}
 use native.Mathlib.Omega.{arith}
 use borrow.Author.Rules.{rules}
 use lib.ListN.{length, length-set}
@@ -17,18 +16,18 @@ unfolding each ones fold table
 loop-i-init c = (search rules, refl, refl, search rules, refl)
 
 pub overflow_add-count : goal.overflow_add-count
-overflow_add-count c = omega (arith, c.from-count.ensures, mark_at_most (ltb c.loop-i.i c.args.k.0 && c.prunes.result), c.loop-i.invariant.3)
+overflow_add-count c = omega (arith, c.from-count.ensures, mark_at_most c.is_pruned-pruned.result, c.loop-i.invariant.3)
 
 pub loop-i-preserved : goal.loop-i-preserved
 unfolding pruned_at
 loop-i-preserved c =
     let at = pruned_at c.args.rule c.args.k.0 c.args.c.now c.args.errors.now c.args.t in
-    let b : c.from.result ≡ at c.loop-i.i = c.from.ensures ∙ mark_byte _ ∙ rw c.prunes.ensures in
-    let m : c.from-count.result ≡ at c.loop-i.i = c.from-count.ensures ∙ mark_byte _ ∙ rw c.prunes.ensures in (
+    let b : c.from.result ≡ at c.loop-i.i = c.from.ensures ∙ mark_byte _ ∙ rw c.is_pruned-pruned.ensures in
+    let m : c.from-count.result ≡ at c.loop-i.i = c.from-count.ensures ∙ mark_byte _ ∙ rw c.is_pruned-pruned.ensures in (
       search rules,
       simp length-set c.loop-i.invariant.1,
       rw (b, c.loop-i.invariant.2) (each_again (λ j _. at j) c.loop-i.i _ 0 (search rules)),
-      omega (arith, c.from-count.ensures, mark_at_most (ltb c.loop-i.i c.args.k.0 && c.prunes.result), c.loop-i.invariant.3),
+      omega (arith, c.from-count.ensures, mark_at_most c.is_pruned-pruned.result, c.loop-i.invariant.3),
       rw (m, c.loop-i.invariant.4) (sym (ones_again at c.loop-i.i)),
     )
 

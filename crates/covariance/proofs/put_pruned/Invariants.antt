@@ -8,8 +8,8 @@ use Rattle.covariance.specs.Pruning.{pruned_at}
 use Rattle.covariance.proofs.put_pruned.Given as goal
 
 abbrev pub invariant-loop-i : goal.invariant-loop-i
-invariant-loop-i l = (l.i ≤ length l.initial.out) × (length l.out ≡ length l.initial.out) × (l.out ≡ each (λ j _. pruned_at l.rule l.n l.c l.errors l.t j) l.i l.initial.out)
-    × (l.count ≤ l.i) × (l.count ≡ ones (table (pruned_at l.rule l.n l.c l.errors l.t) l.i))
+invariant-loop-i l = (l.i ≤ length l.initial.out) × (length l.out ≡ length l.initial.out) × (l.out ≡ each (λ j _. pruned_at l.rule l.k.0 l.c l.errors l.t j) l.i l.initial.out)
+    × (l.count ≤ l.i) × (l.count ≡ ones (table (pruned_at l.rule l.k.0 l.c l.errors l.t) l.i))
 
 abbrev pub decreases-loop-i : goal.decreases-loop-i
 decreases-loop-i l = length l.initial.out - l.i

@@ -1,9 +1,10 @@
 -- `solve::columns::eliminate_all` meets its contract. The invariants of the loops: for each column the definition from here on is the definition where the loop began,
 -- and no pivot has failed yet.
-use Rattle.std.proofs.Common.{◌≡◌, ◌<◌, ℕ, length}
+use Rattle.std.proofs.Common.{◌≡◌, ◌<◌, ℕ, List, length}
+use lib.Ieee.{Float}
 use Rattle.loops.specs.Loop.{from, while}
 use Rattle.solve.specs.Solve.{less_cell, clear_row, clear_below, pivot_holds}
-use Rattle.solve.specs.Columns.{column_in}
+use Rattle.solve.specs.Columns.{Diagonal, column_in}
 use Rattle.solve.proofs.columns.eliminate_all.Given as goal
 
 abbrev pub invariant-columns : goal.invariant-columns
@@ -19,5 +20,5 @@ invariant-rows l =
 
 abbrev pub invariant-pivots : goal.invariant-pivots
 invariant-pivots l =
-    ((j : ℕ) → j < l.n → while (pivot_holds l.start) (clear_below l.n) l.p l.n (record { m = l.m; b = column_in l.v j }) ≡ while (pivot_holds l.start) (clear_below l.n) l.initial.p l.n (record { m = l.initial.m; b = column_in l.initial.v j })) × (l.held ≡ l.n)
+    ((s : List Float) → Diagonal l.n s l.start → (j : ℕ) → j < l.n → while (pivot_holds s) (clear_below l.n) l.p l.n (record { m = l.m; b = column_in l.v j }) ≡ while (pivot_holds s) (clear_below l.n) l.initial.p l.n (record { m = l.initial.m; b = column_in l.initial.v j })) × (l.held ≡ l.n)
     × (length l.v ≡ 256)
