@@ -1,8 +1,6 @@
 -- What an attempt at k coefficients comes to.
-use mathlib.Core.Path.{◌≡◌, ◌∙◌}
-use mathlib.Core.Bool.{Bool, true, false, false≢true}
-use Rattle.std.specs.Prelude.{Some, None, cond}
-use Rattle.std.specs.Bool.{then_some}
+use mathlib.Core.Path.{◌≡◌, refl, ◌∙◌}
+use mathlib.Core.Bool.{Bool, false, false≢true}
 use mathlib.Core.List.{List, ◌++◌, map}
 use Prim.Native.Nat.{ℕ, ◌+◌, ◌≤◌, ◌<◌}
 use native.Mathlib.Omega.{arith}
@@ -19,7 +17,7 @@ use Rattle.solve.specs.SolveLaws.{solve_at_most}
 use Rattle.solve.specs.declared.Solved.{Solved}
 use Rattle.fit.specs.Promises.{Attempted}
 use Rattle.fit.specs.Residuals.{residual, residuals}
-use Rattle.fit.specs.Solved.{is_solved, coefficients_of, pivot_tests}
+use Rattle.fit.specs.Solved.{is_solved, pivot_tests}
 
 length_sizes : (k : ℕ) (c : List Float) (rows : List Row) → length (map abs_f (residuals k c rows)) ≡ length rows
 unfolding residuals
@@ -30,32 +28,28 @@ module _ (sums : List Float) (rows : List Row) (k n : ℕ) (t : List Float) (s :
   at_most = rw e (solve_at_most sums k)
 
   -- a pivot fails
-  pub pivot_fails : s.held < k → Attempted sums rows k n t t (record { tests = s.held + 1; c = None })
-  unfolding is_solved coefficients_of pivot_tests
+  pub pivot_fails : s.held < k → Attempted sums rows k n t t (record { tests = s.held + 1; solved = false })
+  unfolding is_solved pivot_tests
   pivot_fails h =
       let fails = ne_eqb s.held k (λ q. omega arith) in
       record {
         tests = rw (← e) (omega arith);
-        coefficients = rw (← e, fails);
+        solved = rw (← e, fails) refl;
         within = within_itself n t;
         sizes = λ q. absurd (false≢true (rw (← e, fails) at q));
       }
 
   -- every pivot holds
   pub pivots_hold : k ≤ s.held → (all : Bool) (u : List Float) → all ≡ all_of finite (residuals k s.c rows) → u ≡ map abs_f (residuals k s.c rows) ++ drop n t
-      → length rows ≡ n → n ≤ length t → Attempted sums rows k n t u (record { tests = k; c = then_some all s.c })
-  unfolding is_solved coefficients_of pivot_tests
+      → length rows ≡ n → n ≤ length t → Attempted sums rows k n t u (record { tests = k; solved = all })
+  unfolding is_solved pivot_tests
   pivots_hold h all u a w l r =
       record {
         tests = rw (← e) (omega arith);
-        coefficients = rw (← e, eq-eqb s.held k (omega (arith, at_most))) (by_all all a);
+        solved = rw (← e, eq-eqb s.held k (omega (arith, at_most))) a;
         within = within_written n t u (map abs_f (residuals k s.c rows)) w sized r;
         sizes = λ q. rw (← e) (front_written n t u (map abs_f (residuals k s.c rows)) w sized);
       }
     where
       sized : length (map abs_f (residuals k s.c rows)) ≡ n
       sized = length_sizes k s.c rows ∙ l
-
-      by_all : (t : Bool) → t ≡ all_of finite (residuals k s.c rows) → then_some t s.c ≡ cond (all_of finite (residuals k s.c rows)) (Some s.c) None
-      by_all true q = rw (← q)
-      by_all false q = rw (← q)

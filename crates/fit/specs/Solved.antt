@@ -14,10 +14,6 @@ use Rattle.fit.specs.Residuals.{residuals}
 unfoldable pub is_solved : List Float → List Row → ℕ → Bool
 is_solved sums rows k = eqb (solve sums k).held k && all_of finite (residuals k (solve sums k).c rows)
 
--- its coefficients, if it is solved
-unfoldable pub coefficients_of : List Float → List Row → ℕ → Option (List Float)
-coefficients_of sums rows k = cond (is_solved sums rows k) (Some (solve sums k).c) None
-
 -- its score on the rows `own`, from the total of their losses
 unfoldable pub score_on : Criterion → List Float → List Row → ℕ → Float
 score_on criterion sums own k = score_of criterion (length own) k (total_f (losses (residuals k (solve sums k).c own)))

@@ -14,6 +14,7 @@ ghost use Rattle.basis.specs.Counts.{count_of};
 ghost use Rattle.monomial.specs.Rows.{row_at};
 ghost use Rattle.monomial.specs.Reading.{rows_read};
 ghost use Rattle.solve.specs.Solve.{solve};
+ghost use Rattle.solve.specs.Nested.{stopped, elimination};
 ghost use Rattle.score.specs.Score.{score_of};
 ghost use Rattle.fit.specs.Residuals.{residual as residual_f, residuals};
 ghost use Rattle.fit.specs.Solved.{scored_by, pivot_tests};
@@ -101,45 +102,33 @@ pub fn sizes(rows: Rows<'_>, k: CoefficientCount, c: &[f64; TERMS], scratch: &mu
     }
 }
 
-// A solution from the sums: the pivots tested, and its coefficients if it is solved.
+// What an attempt at k coefficients comes to: the pivots tested, and whether they are solved.
 #[derive(Clone, Copy)]
-pub struct Solution {
+pub struct Attempt {
     pub tests: usize,
-    pub c: Option<[f64; TERMS]>,
+    pub solved: bool,
 }
 
-// The k coefficients that were solved from the sums, if their residuals are finite. Then the first places of scratch hold the sizes of the residuals.
-fn judged(
+// Of k coefficients from the sums: they are solved if all pivots held and their residuals are finite. Then the first places of scratch hold the sizes of the
+// residuals.
+pub fn judged(
     rows: Rows<'_>,
     sums: &[f64],
     k: CoefficientCount,
-    solved: Solved,
+    s: &Solved,
     scratch: &mut [f64],
-) -> Solution
-    requires { (length rows.ys.now ≤ length scratch.old) × (k.0 ≤ max_terms) × (solved ≡ solve sums.now k.0) }
+) -> Attempt
+    requires { (length rows.ys.now ≤ length scratch.old) × (k.0 ≤ max_terms) × (s.now ≡ solve sums.now k.0) }
     ensures { Attempted sums.now (rows_read rows.entry) k.0 (length rows.entry.ys.now) scratch.old scratch.new result }
 {
-    if solved.held < k.0 {
-        return Solution {
-            tests: solved.held + 1,
-            c: None,
+    if s.held < k.0 {
+        return Attempt {
+            tests: s.held + 1,
+            solved: false,
         };
     }
-    let c = solved.c;
-    let all = sizes(rows, k, &c, &mut *scratch);
-    Solution {
-        tests: k.0,
-        c: all.then_some(c),
-    }
-}
-
-// Solves k coefficients from the sums. Where it is solved, the first places of scratch hold the sizes of the residuals.
-pub fn attempt(rows: Rows<'_>, sums: &[f64], k: CoefficientCount, scratch: &mut [f64]) -> Solution
-    requires { (length rows.ys.now ≤ length scratch.old) × (sum_places ≤ length sums.now) × (k.0 ≤ max_terms) }
-    ensures { Attempted sums.now (rows_read rows.entry) k.0 (length rows.entry.ys.now) scratch.old scratch.new result }
-{
-    let solved = solve::solve(sums, k);
-    judged(rows, sums, k, solved, scratch)
+    let solved = sizes(rows, k, &s.c, &mut *scratch);
+    Attempt { tests: k.0, solved }
 }
 
 // The score of k coefficients by their residuals or the sizes of these.
@@ -161,20 +150,20 @@ fn trial(
     rows: Rows<'_>,
     sums: &[f64],
     k: CoefficientCount,
-    solved: Solved,
+    s: &Solved,
     criterion: Criterion,
     scratch: &mut [f64],
 ) -> Tried
-    requires { (length rows.ys.now ≤ length scratch.old) × (k.0 ≤ max_terms) × (solved ≡ solve sums.now k.0) }
+    requires { (length rows.ys.now ≤ length scratch.old) × (k.0 ≤ max_terms) × (s.now ≡ solve sums.now k.0) }
     ensures scored { result.score ≡ scored_by criterion sums.now (rows_read rows.entry) (rows_read rows.entry) k.0 }
     ensures tests { result.tests ≡ pivot_tests sums.now k.0 }
     ensures within { Within (length rows.entry.ys.now) scratch.old scratch.new }
 {
-    let a = judged(rows, sums, k, solved, &mut *scratch);
+    let a = judged(rows, sums, k, s, &mut *scratch);
     let tests = a.tests;
-    let Some(_) = a.c else {
+    if !a.solved {
         return Tried { score: None, tests };
-    };
+    }
     let n = rows.ys.len();
     let total = statistics::total_of_finite(&scratch[..n]);
     let score = Some(score::score(criterion, n, k, total));
@@ -193,30 +182,30 @@ pub struct Choice {
     pub scores: [Option<f64>; TERMS],
 }
 
-// The choice among the degrees 0 to the bound, all from one elimination. Only scores are kept; `attempt` solves the chosen degree again.
-pub fn choose(
+// The choice among the degrees 0 to the bound, all from one elimination, whose state is lent: how many pivots held, and M and g then. Only scores are kept.
+pub fn choose_from(
     rows: Rows<'_>,
     sums: &[f64],
     bound: Degree,
     criterion: Criterion,
+    held: usize,
+    m: &[f64; MATRIX],
+    g: &[f64; TERMS],
     scratch: &mut [f64],
 ) -> Choice
-    requires { (length rows.ys.now ≤ length scratch.old) × (sum_places ≤ length sums.now) × (bound.0 ≤ highest_degree) × (count_of rows.basis bound.0 ≤ max_terms) }
+    requires degrees { (length rows.ys.now ≤ length scratch.old) × (sum_places ≤ length sums.now) × (bound.0 ≤ highest_degree) × (count_of rows.basis bound.0 ≤ max_terms) }
+    requires eliminated { stopped held m.now g.now ≡ elimination sums.now (count_of rows.basis bound.0) }
     ensures is { result ≡ choice_of criterion sums.now (rows_read rows.entry) (counts_of rows.entry.basis bound.0) }
     ensures within { Within (length rows.entry.ys.now) scratch.old scratch.new }
 {
     let b = bound.0 + 1;
-    let most = bound.k(rows.basis);
-    let mut m = [0.0; MATRIX];
-    let mut g = [0.0; TERMS];
-    let held = solve::put_eliminated(sums, most, &mut m, &mut g);
     let mut scores = [None; TERMS];
     let mut tests = 0;
     // by index, the degree: of an `iter_mut` behind `enumerate` a proof knows no element
     for d in 0..b {
         let k = Degree(d).k(rows.basis);
-        let s = solve::solution(held, &m, &g, k);
-        let t = trial(rows, sums, k, s, criterion, &mut *scratch);
+        let s = solve::solution(held, m, g, k);
+        let t = trial(rows, sums, k, &s, criterion, &mut *scratch);
         scores[d] = t.score;
         tests = tests + t.tests;
     }
@@ -233,4 +222,23 @@ pub fn choose(
         tests,
         scores,
     }
+}
+
+// The same, with the elimination made.
+pub fn choose(
+    rows: Rows<'_>,
+    sums: &[f64],
+    bound: Degree,
+    criterion: Criterion,
+    scratch: &mut [f64],
+) -> Choice
+    requires { (length rows.ys.now ≤ length scratch.old) × (sum_places ≤ length sums.now) × (bound.0 ≤ highest_degree) × (count_of rows.basis bound.0 ≤ max_terms) }
+    ensures is { result ≡ choice_of criterion sums.now (rows_read rows.entry) (counts_of rows.entry.basis bound.0) }
+    ensures within { Within (length rows.entry.ys.now) scratch.old scratch.new }
+{
+    let most = bound.k(rows.basis);
+    let mut m = [0.0; MATRIX];
+    let mut g = [0.0; TERMS];
+    let held = solve::put_eliminated(sums, most, &mut m, &mut g);
+    choose_from(rows, sums, bound, criterion, held, &m, &g, scratch)
 }

@@ -13,6 +13,7 @@ use Rattle.loops.specs.Within.{Within}
 use Rattle.loops.specs.WithinLaws.{within_then, within_written, front_written}
 use Rattle.basis.specs.Counts.{count_of}
 use Rattle.basis.specs.declared.Basis.TheVariants.{Curve}
+use Rattle.basis.specs.declared.Degree.{Degree}
 use Rattle.value.specs.Absolute.{abs_f}
 use Rattle.value.specs.Total.{total_f}
 use Rattle.statistics.specs.Losses.{huber_loss, losses}
@@ -29,7 +30,6 @@ use Rattle.lent.specs.Written.{zeros}
 use Rattle.lent.specs.WrittenLaws.{over_by, over_cleared}
 use Rattle.settings.specs.declared.Settings.{Settings}
 use Rattle.reporting.specs.declared.Chosen.{Chosen}
-use Rattle.reporting.specs.declared.Found.{Found}
 use Rattle.reporting.specs.Chosen.{chosen_refusal, Chooses}
 use Rattle.reporting.specs.ChosenLaws.{of_late, of_told, none_found, one_found}
 use Rattle.report.specs.Reports.{report_choice}
@@ -58,56 +58,56 @@ let_through q n settings rows own sums r s s' l l' e same f = rw (e, ← same) f
 
 module _ (n : ℕ) (settings : Settings) (rows : List Row) (sums : List Float) where
   -- m is what was chosen, and u scratch after it
-  module _ (s u : List Float) (m : Chosen) (ch : Chooses Curve (report_choice n settings rows sums) n rows sums s u m) where
+  module _ (s u c c' v v' : List Float) (m : Chosen) (ch : Chooses Curve (report_choice n settings rows sums) n rows sums s u c c' v v' m) where
     -- 11 or 12: scratch is cleared
     pub refused_late_lem : {e : Refusal} {r : LossAnswer} → m.found ≡ Err e → r ≡ Err e → (l t : List Float) → t ≡ zeros n ++ drop n u
         → LossIs (loss_past n settings rows sums) r (contents_of s t) (contents_of l l)
     unfolding loss_past loss_of
     refused_late_lem h q l t cleared =
         let o = (report_choice n settings rows sums).chosen in
-        let w = none_found Curve rows sums o ch.found h in
+        let w = none_found Curve rows sums c' v' o ch.found h in
         rw (of_late Curve sums (loss_late n) (λ d. losses_by n settings rows sums d.0) o (chosen_refusal Curve o sums) refl w.0)
         (record { answer = q ∙ ap (λ d. Err d) w.1; scratch = over_cleared n s u t ch.within cleared; losses = refl })
 
-    module _ {f : Found} (z : m.found ≡ Ok f) where
+    module _ {e : Degree} (z : m.found ≡ Ok e) where
       -- the chosen degree has at most 16 coefficients
-      pub few_terms : max_degree settings.bound n ≤ 15 → f.degree.0 ≤ 15
-      few_terms h = omega (arith, h, (chosen_solved n settings rows sums f.degree (one_found Curve rows sums (report_choice n settings rows sums).chosen ch.found z).0).0)
+      pub few_terms : max_degree settings.bound n ≤ 15 → e.0 ≤ 15
+      few_terms h = omega (arith, h, (chosen_solved n settings rows sums e (one_found Curve rows sums c' v' (report_choice n settings rows sums).chosen ch.found z).0).0)
 
-      told_by : loss_past n settings rows sums ≡ losses_by n settings rows sums f.degree.0
+      told_by : loss_past n settings rows sums ≡ losses_by n settings rows sums e.0
       unfolding loss_past loss_of
       told_by =
-          let o = one_found Curve rows sums (report_choice n settings rows sums).chosen ch.found z in
-          rw o.0 (of_told Curve sums (loss_late n) (λ d. losses_by n settings rows sums d.0) f.degree o.1)
+          let o = one_found Curve rows sums c' v' (report_choice n settings rows sums).chosen ch.found z in
+          rw o.0 (of_told Curve sums (loss_late n) (λ d. losses_by n settings rows sums d.0) e o.1)
 
-      -- k is the count of its coefficients; the sizes of their residuals were written to scratch, which v is now
-      module _ (k : ℕ) (ek : k ≡ count_of Curve f.degree.0) (rowed : length rows ≡ n) (v : List Float) (written : v ≡ map abs_f (residuals k f.measured.c rows) ++ drop n u) (h : n ≤ length u) where
-        length_sizes : length (map abs_f (residuals k f.measured.c rows)) ≡ n
+      -- k is the count of its coefficients; the sizes of their residuals were written to scratch, which w is now
+      module _ (k : ℕ) (ek : k ≡ count_of Curve e.0) (rowed : length rows ≡ n) (w : List Float) (written : w ≡ map abs_f (residuals k c' rows) ++ drop n u) (h : n ≤ length u) where
+        length_sizes : length (map abs_f (residuals k c' rows)) ≡ n
         unfolding residuals
-        length_sizes = length-map (residuals k f.measured.c rows) abs_f ∙ length-map rows (residual k f.measured.c) ∙ rowed
+        length_sizes = length-map (residuals k c' rows) abs_f ∙ length-map rows (residual k c') ∙ rowed
 
-        sizes_within : Within n u v
-        sizes_within = within_written n u v (map abs_f (residuals k f.measured.c rows)) written length_sizes h
+        sizes_within : Within n u w
+        sizes_within = within_written n u w (map abs_f (residuals k c' rows)) written length_sizes h
 
         -- their losses are the definition's
-        sizes_told : losses (take n v) ≡ losses_at sums rows (count_of Curve f.degree.0)
+        sizes_told : losses (take n w) ≡ losses_at sums rows (count_of Curve e.0)
         unfolding losses_at
         sizes_told =
-            ap losses (front_written n u v (map abs_f (residuals k f.measured.c rows)) written length_sizes) ∙ losses_sizes (residuals k f.measured.c rows)
-            ∙ (rw (ek, (one_found Curve rows sums (report_choice n settings rows sums).chosen ch.found z).2))
+            ap losses (front_written n u w (map abs_f (residuals k c' rows)) written length_sizes) ∙ losses_sizes (residuals k c' rows)
+            ∙ (rw (ek, (one_found Curve rows sums c' v' (report_choice n settings rows sums).chosen ch.found z).2))
 
         -- they are told
-        pub told_whole : (l l' t : List Float) (total score : Float) → total ≡ total_f (losses (take n v)) → l' ≡ losses (take n v) ++ drop n l
-            → score ≡ score_of settings.criterion n k total → t ≡ zeros n ++ drop n v
-            → LossIs (loss_past n settings rows sums) (Ok (record { degree = f.degree; total = total; score = score })) (contents_of s t) (contents_of l l')
+        pub told_whole : (l l' t : List Float) (total score : Float) → total ≡ total_f (losses (take n w)) → l' ≡ losses (take n w) ++ drop n l
+            → score ≡ score_of settings.criterion n k total → t ≡ zeros n ++ drop n w
+            → LossIs (loss_past n settings rows sums) (Ok (record { degree = e; total = total; score = score })) (contents_of s t) (contents_of l l')
         unfolding losses_by
         told_whole l l' t total score et el es cleared =
-            let told = losses_at sums rows (count_of Curve f.degree.0) in
-            let e : total ≡ total_f told = et ∙ ap total_f sizes_told in
-            let q : score ≡ score_of settings.criterion n (count_of Curve f.degree.0) (total_f told) = es ∙ ap₂ (λ j x. score_of settings.criterion n j x) ek e in
+            let told = losses_at sums rows (count_of Curve e.0) in
+            let total_is : total ≡ total_f told = et ∙ ap total_f sizes_told in
+            let q : score ≡ score_of settings.criterion n (count_of Curve e.0) (total_f told) = es ∙ ap₂ (λ j x. score_of settings.criterion n j x) ek total_is in
             rw told_by
             (record {
-              answer = λ i. Ok (record { degree = f.degree; total = e i; score = q i });
-              scratch = over_cleared n s v t (within_then ch.within sizes_within) cleared;
-              losses = over_by n told l l' (length_losses_at sums rows (count_of Curve f.degree.0) ∙ rowed) (el ∙ ap (λ a. a ++ drop n l) sizes_told);
+              answer = λ i. Ok (record { degree = e; total = total_is i; score = q i });
+              scratch = over_cleared n s w t (within_then ch.within sizes_within) cleared;
+              losses = over_by n told l l' (length_losses_at sums rows (count_of Curve e.0) ∙ rowed) (el ∙ ap (λ a. a ++ drop n l) sizes_told);
             })

@@ -11,7 +11,7 @@ ghost use Rattle.samples.specs.Held.{held};
 ghost use Rattle.lent.specs.Slices.{before, after, contents};
 ghost use Rattle.losses.specs.Losses.{LossIs, loss_out};
 
-use basis::{Basis, Degree, SUMS};
+use basis::{Basis, Degree, MATRIX, SUMS, TERMS};
 use book::Book;
 use monomial::Rows;
 use refusal::Refusal;
@@ -68,16 +68,24 @@ pub fn losses(
     let criterion = settings.criterion;
     let last = statistics::max_degree(bound, n);
     let rows = Rows::curve(n, columns);
-    let m = reporting::choose(rows, last, criterion, &sums[..SUMS], &mut *scratch);
-    let found = match m.found {
-        Ok(found) => found,
+    let mut c = [0.0; TERMS];
+    let mut covariance = [0.0; MATRIX];
+    let m = reporting::choose(
+        rows,
+        last,
+        criterion,
+        &sums[..SUMS],
+        &mut *scratch,
+        &mut c,
+        &mut covariance,
+    );
+    let degree = match m.found {
+        Ok(degree) => degree,
         Err(refusal) => {
             lent::clear(scratch, n);
             return Err(refusal);
         }
     };
-    let degree = found.degree;
-    let c = found.measured.c;
     let k = degree.k(Basis::Curve);
     fit::sizes(rows, k, &c, &mut *scratch);
     let total = put_losses(&scratch[..n], losses);

@@ -1,4 +1,3 @@
 -- Laws that the proofs of the functions cite, here and in the crates above.
 pub mod Fitting
 pub mod Banding
-pub mod Options

@@ -1,5 +1,5 @@
 -- Laws of Measures.antt.
-use Rattle.std.specs.Prelude.{◌≡◌, refl, true, false, List, map, ℕ, zero, suc, Float, Result, Ok, Err}
+use Rattle.std.specs.Prelude.{◌≡◌, refl, true, false, List, map, ℕ, zero, suc, Float, Result, Ok, Err, ⊤}
 use Rattle.std.proofs.Math.Path.{ap, ap₂}
 use Rattle.std.proofs.Common.{sym, ◌∙◌}
 use Rattle.value.specs.Absolute.{abs_f}
@@ -14,8 +14,7 @@ use Rattle.refusal.specs.Refusals.{first_of, settle, numbers_of, InOrder, those,
 use Rattle.refusal.specs.declared.refusals.Refusal.{Refusal}
 use Rattle.refusal.specs.Named.{named, refused_by}
 use Rattle.refusal.specs.NamedLaws.{settled_err, settled_ok}
-use Rattle.measure.specs.declared.Measured.{Measured}
-use Rattle.measure.specs.Measures.{measured, measure_tests, inverse_fails, measure_refusal, covariance_at}
+use Rattle.measure.specs.Measures.{Measured, told, measured, measure_tests, inverse_fails, measure_refusal, covariance_at}
 
 module _ (sums : List Float) (rows : List Row) (k : ℕ) where
   pub measure_unsolved : is_solved sums rows k ≡ false → 10 ≡ measure_refusal sums rows k
@@ -43,15 +42,15 @@ module _ (sums : List Float) (rows : List Row) (k : ℕ) where
   measured_whole e c v ec ev = rw (← e) (λ i. Ok (record { c = ec i; covariance = ev i }))
 
   -- and the other way
-  pub measured_ok : {r : Result Measured Refusal} {m : Measured} → r ≡ measured sums rows k → r ≡ Ok m
-      → (measure_refusal sums rows k ≡ 0) × (m.c ≡ (solve sums k).c) × (m.covariance ≡ covariance_at sums rows k)
-  measured_ok e h =
-      let p = settled_ok (measure_refusal sums rows k) _ (sym e ∙ h) in
+  pub measured_ok : {r : Result ⊤ Refusal} {a : ⊤} (c v : List Float) → told r c v ≡ measured sums rows k → r ≡ Ok a
+      → (measure_refusal sums rows k ≡ 0) × (c ≡ (solve sums k).c) × (v ≡ covariance_at sums rows k)
+  measured_ok c v e h =
+      let p = settled_ok (measure_refusal sums rows k) _ (sym e ∙ ap (λ (r : Result ⊤ Refusal). told r c v) h) in
       (p.0, ap (λ (m : Measured). m.c) p.1, ap (λ (m : Measured). m.covariance) p.1)
 
-  pub measured_err : {r : Result Measured Refusal} {e : Refusal} → r ≡ measured sums rows k → r ≡ Err e
+  pub measured_err : {r : Result ⊤ Refusal} {e : Refusal} (c v : List Float) → told r c v ≡ measured sums rows k → r ≡ Err e
       → (measure_refusal sums rows k ≡ 0 → ⊥) × (e ≡ named (measure_refusal sums rows k))
-  measured_err p h = settled_err (measure_refusal sums rows k) _ (sym p ∙ h)
+  measured_err c v p h = settled_err (measure_refusal sums rows k) _ (sym p ∙ ap (λ (r : Result ⊤ Refusal). told r c v) h)
 
   -- the covariance from the inverse i, the sizes a of the residuals, and their variance v
   pub measured_covariance : (i : Inverted) (a : List Float) (v : Float) (w : List Float) → i ≡ inverse sums k

@@ -1,5 +1,5 @@
 -- What a choice comes to: no degree, or one that is measured.
-use Rattle.std.specs.Prelude.{Option, Some, Result, Ok, Err, MatchResult}
+use Rattle.std.specs.Prelude.{Option, Some, Result, Ok, Err, MatchResult, OnErr, ⊤}
 use Rattle.std.specs.Result.{result_map_both}
 use mathlib.Core.Path.{◌≡◌, refl, sym, ap, ◌∙◌}
 use mathlib.Core.Bool.{Bool, true, false, cond}
@@ -19,10 +19,8 @@ use Rattle.fit.specs.declared.Choice.{Choice}
 use Rattle.refusal.specs.Refusals.{first_of, settle}
 use Rattle.refusal.specs.Named.{refused_by}
 use Rattle.refusal.specs.declared.refusals.Refusal.{Refusal}
-use Rattle.measure.specs.Measures.{measured, Measures, measure_refusal, inverse_fails}
-use Rattle.measure.specs.declared.Measured.{Measured}
-use Rattle.reporting.specs.declared.Found.{Found}
-use Rattle.reporting.specs.Chosen.{found_of, Chooses}
+use Rattle.measure.specs.Measures.{Measured, measured, told, Measures, measure_refusal, inverse_fails}
+use Rattle.reporting.specs.Chosen.{Found, found_of, found_by, Chooses}
 use Rattle.reporting.specs.ChosenLaws.{last_solved}
 
 abbrev of_degree : Degree → Measured → Found
@@ -41,9 +39,15 @@ measured_solved basis sums rows d h = rw h (go (inverse_fails sums (count_of bas
     go false m = refl
 
 -- what becomes of an answer
-mapped : {A B : Type 0} (f : A → B) (a : Result A Refusal) (b : Result B Refusal) → MatchResult a (λ x. b ≡ Ok (f x)) (λ e. b ≡ Err e) → b ≡ result_map_both f (λ e. e) a
-mapped f (Ok x) b h = h
-mapped f (Err e) b h = h
+module _ (d : Degree) where
+  mapped : (c v : List Float) (a : Result ⊤ Refusal) (b : Result Degree Refusal) → MatchResult a (λ x. b ≡ Ok d) (λ e. b ≡ Err e)
+      → found_by b c v ≡ result_map_both (of_degree d) (λ e. e) (told a c v)
+  mapped c v (Ok x) b h = rw h refl
+  mapped c v (Err e) b h = rw h refl
+
+  kept_then : (P : Type 0) (a : Result ⊤ Refusal) (b : Result Degree Refusal) → MatchResult a (λ x. b ≡ Ok d) (λ e. b ≡ Err e) → OnErr a P → OnErr b P
+  kept_then P (Ok x) b h k = rw h k
+  kept_then P (Err e) b h k = rw h k
 
 -- r is what the code chooses among the degrees up to the last
 module _ (basis : Basis) (criterion : Criterion) (n last : ℕ) (rows : List Row) (sums : List Float) (r : Choice)
@@ -52,16 +56,17 @@ module _ (basis : Basis) (criterion : Criterion) (n last : ℕ) (rows : List Row
   chosen_is o h = ap (λ (c : Choice). c.chosen) (sym found) ∙ h
 
   -- d is chosen, and measured
-  pub chooses_some : (d : Degree) → r.chosen ≡ Some d → (a : Result Measured Refusal) (s t u : List Float) → Within n s t
-      → Measures sums rows (count_of basis d.0) n t u a → (f : Result Found Refusal) → MatchResult a (λ m. f ≡ Ok (of_degree d m)) (λ e. f ≡ Err e)
-      → Chooses basis (choice_of criterion sums rows (counts_of basis last)) n rows sums s u (record { choice = r; found = f })
-  chooses_some d h a s t u w q f m =
+  pub chooses_some : (d : Degree) → r.chosen ≡ Some d → (a : Result ⊤ Refusal) (s t u c c' v v' : List Float) → Within n s t
+      → Measures sums rows (count_of basis d.0) n t u c c' v v' a → (f : Result Degree Refusal) → MatchResult a (λ x. f ≡ Ok d) (λ e. f ≡ Err e)
+      → Chooses basis (choice_of criterion sums rows (counts_of basis last)) n rows sums s u c c' v v' (record { choice = r; found = f })
+  chooses_some d h a s t u c c' v v' w q f m =
       let o = chosen_is (Some d) h in
       record {
         choice = found;
         found =
-            mapped _ a f m ∙ ap (result_map_both (of_degree d) (λ e. e)) q.measured_is
+            mapped d c' v' a f m ∙ ap (result_map_both (of_degree d) (λ e. e)) q.measured_is
             ∙ measured_solved basis sums rows d (last_solved basis criterion rows sums last d o).1 ∙ ap (found_of basis rows sums) (sym o);
+        kept = kept_then d _ a f m q.kept;
         within = within_then w q.within;
       }
 

@@ -18,7 +18,7 @@ use Rattle.lent.specs.WrittenLaws.{over_cleared}
 use Rattle.settings.specs.declared.Settings.{Settings}
 use Rattle.refusal.specs.declared.refusals.Refusal.{Refusal}
 use Rattle.refusal.specs.Named.{refused_by}
-use Rattle.reporting.specs.declared.Found.{Found}
+use Rattle.basis.specs.declared.Degree.{Degree}
 use Rattle.reporting.specs.declared.Chosen.{Chosen}
 use Rattle.reporting.specs.declared.Report.{Report}
 use Rattle.reporting.specs.Chosen.{chosen_refusal, Chooses}
@@ -35,8 +35,8 @@ with_scratch w t =
     record { scratch = t; coefficients = w.coefficients; errors = w.errors; pruned = w.pruned; lower = w.lower; upper = w.upper; outliers = w.outliers }
 
 -- m is what was chosen of the rows, by the choice o, and u scratch after it
-module _ (basis : Basis) (n : ℕ) (settings : Settings) (limit : ℕ) (rows : List Row) (sums : List Float) (o : Choice) (w : Outputs) (m : Chosen) (u : List Float)
-    (ch : Chooses basis o n rows sums w.scratch u m) where
+module _ (basis : Basis) (n : ℕ) (settings : Settings) (limit : ℕ) (rows : List Row) (sums : List Float) (o : Choice) (w : Outputs) (m : Chosen) (u c c' v v' : List Float)
+    (ch : Chooses basis o n rows sums w.scratch u c c' v v' m) where
   -- scratch is cleared, and nothing else written
   late : (k : ℕ) (t : List Float) → t ≡ zeros n ++ drop n u → Does (refused_late n k) (refused_by k) (record { found = w; left = with_scratch w t })
   late k t cleared =
@@ -64,24 +64,24 @@ module _ (basis : Basis) (n : ℕ) (settings : Settings) (limit : ℕ) (rows : L
         → DoesWithin (limited_of basis n settings limit rows sums o) (record { answer = Err e; tests = m.choice.tests }) (record { found = w; left = with_scratch w t })
     limited_late h t cleared =
         let k = chosen_refusal basis o.chosen sums in
-        let q = none_found basis rows sums o.chosen ch.found h in
+        let q = none_found basis rows sums c' v' o.chosen ch.found h in
         rw (within_limit basis n settings limit rows sums o enough, late_refused basis n settings rows sums o.solved o.chosen k refl q.0, q.1)
         (record { does = late k t cleared; taken = same_tests })
 
     -- what is answered of the chosen degree
-    module _ {f : Found} (h : m.found ≡ Ok f) where
-      whole_chosen : report_of basis n settings rows sums o.solved o.chosen ≡ written_by basis n settings rows f.degree.0 m.choice.solved f.measured.c f.measured.covariance
+    module _ {e : Degree} (h : m.found ≡ Ok e) where
+      whole_chosen : report_of basis n settings rows sums o.solved o.chosen ≡ written_by basis n settings rows e.0 m.choice.solved c' v'
       whole_chosen =
-          let d = one_found basis rows sums o.chosen ch.found h in
+          let d = one_found basis rows sums c' v' o.chosen ch.found h in
           let s : m.choice.solved ≡ o.solved = ap (λ (a : Choice). a.solved) ch.choice in
-          rw (d.0, ← s, d.2, d.3) (chosen_whole basis n settings rows sums m.choice.solved f.degree d.1)
+          rw (d.0, ← s, d.2, d.3) (chosen_whole basis n settings rows sums m.choice.solved e d.1)
 
       -- the report is written
       pub limited_whole : (a : Report) (w' : Outputs)
-          → Does (written_by basis n settings rows f.degree.0 m.choice.solved f.measured.c f.measured.covariance) (Ok a) (record { found = with_scratch w u; left = w' })
+          → Does (written_by basis n settings rows e.0 m.choice.solved c' v') (Ok a) (record { found = with_scratch w u; left = w' })
           → DoesWithin (limited_of basis n settings limit rows sums o) (record { answer = Ok a; tests = m.choice.tests }) (record { found = w; left = w' })
       limited_whole a w' d =
-          let v = written_by basis n settings rows f.degree.0 m.choice.solved f.measured.c f.measured.covariance in
+          let written = written_by basis n settings rows e.0 m.choice.solved c' v' in
           rw (within_limit basis n settings limit rows sums o enough, whole_chosen)
           (record {
             does =
@@ -89,16 +89,16 @@ module _ (basis : Basis) (n : ℕ) (settings : Settings) (limit : ℕ) (rows : L
                   answer = d.answer;
                   outputs =
                       d.outputs
-                      ∙ used_scratch n w.scratch u ch.within v.written w (written_scratch basis n settings rows f.degree.0 m.choice.solved f.measured.c f.measured.covariance);
+                      ∙ used_scratch n w.scratch u ch.within written.written w (written_scratch basis n settings rows e.0 m.choice.solved c' v');
                 };
             taken = same_tests;
           })
 
 -- the degree that a report is written of is at most the last one tried, and has no more terms
-pub chosen_fits : (basis : Basis) (criterion : Criterion) (n last : ℕ) (rows : List Row) (sums s t : List Float) (m : Chosen)
-    → Chooses basis (choice_of criterion sums rows (counts_of basis last)) n rows sums s t m → {f : Found} → m.found ≡ Ok f
-    → (f.degree.0 ≤ last) × (count_of basis f.degree.0 ≤ count_of basis last)
-chosen_fits basis criterion n last rows sums s t m w {f} z =
-    let o = one_found basis rows sums _ w.found z in
-    let d = last_solved basis criterion rows sums last f.degree o.0 in
-    (d.0, count_mono basis f.degree.0 last d.0)
+pub chosen_fits : (basis : Basis) (criterion : Criterion) (n last : ℕ) (rows : List Row) (sums s t c c' v v' : List Float) (m : Chosen)
+    → Chooses basis (choice_of criterion sums rows (counts_of basis last)) n rows sums s t c c' v v' m → {e : Degree} → m.found ≡ Ok e
+    → (e.0 ≤ last) × (count_of basis e.0 ≤ count_of basis last)
+chosen_fits basis criterion n last rows sums s t c c' v v' m w {e} z =
+    let o = one_found basis rows sums c' v' _ w.found z in
+    let d = last_solved basis criterion rows sums last e o.0 in
+    (d.0, count_mono basis e.0 last d.0)

@@ -21,8 +21,7 @@ use Rattle.refusal.specs.Named.{named, refused_by}
 use Rattle.refusal.specs.NamedLaws.{settled_ok, settled_err}
 use Rattle.solve.specs.Solve.{solve}
 use Rattle.measure.specs.Measures.{inverse_fails, covariance_at}
-use Rattle.reporting.specs.declared.Found.{Found}
-use Rattle.reporting.specs.Chosen.{chosen_refusal, of_chosen, found_of}
+use Rattle.reporting.specs.Chosen.{Found, chosen_refusal, of_chosen, found_of, found_by}
 
 -- the chosen degree is at most the last one to try, and solved
 pub last_solved : (basis : Basis) (criterion : Criterion) (rows : List Row) (sums : List Float) (last : ℕ) (d : Degree)
@@ -91,19 +90,20 @@ module _ (basis : Basis) (rows : List Row) (sums : List Float) where
       go true f = refl
       go false f = refl
 
-  pub none_found : (o : Option Degree) {r : Result Found Refusal} {e : Refusal} → r ≡ found_of basis rows sums o → r ≡ Err e
-      → (chosen_refusal basis o sums ≡ 0 → ⊥) × (e ≡ named (chosen_refusal basis o sums))
-  unfolding chosen_refusal
-  none_found None {e} p h = let q : ◌≡◌ {A = Result Found Refusal} (refused_by 11) (Err e) = sym p ∙ h in (λ z. absurd (omega (arith, z)), cc)
-  none_found (Some d) p h = settled_err (chosen_refusal basis (Some d) sums) _ (sym (found_settled d) ∙ sym p ∙ h)
+  module _ (c v : List Float) where
+    pub none_found : (o : Option Degree) {r : Result Degree Refusal} {e : Refusal} → found_by r c v ≡ found_of basis rows sums o → r ≡ Err e
+        → (chosen_refusal basis o sums ≡ 0 → ⊥) × (e ≡ named (chosen_refusal basis o sums))
+    unfolding chosen_refusal
+    none_found None {r} {e} p h = let q : ◌≡◌ {A = Result Found Refusal} (refused_by 11) (Err e) = sym p ∙ ap (λ (a : Result Degree Refusal). found_by a c v) h in (λ z. absurd (omega (arith, z)), cc)
+    none_found (Some d) p h = settled_err (chosen_refusal basis (Some d) sums) _ (sym (found_settled d) ∙ sym p ∙ ap (λ (a : Result Degree Refusal). found_by a c v) h)
 
-  pub one_found : (o : Option Degree) {r : Result Found Refusal} {f : Found} → r ≡ found_of basis rows sums o → r ≡ Ok f
-      → (o ≡ Some f.degree) × (chosen_refusal basis (Some f.degree) sums ≡ 0) × (f.measured.c ≡ (solve sums (count_of basis f.degree.0)).c)
-      × (f.measured.covariance ≡ covariance_at sums rows (count_of basis f.degree.0))
-  one_found None p h = absurd (let q = sym p ∙ h in cc)
-  one_found (Some d) p h =
-      let w = settled_ok (chosen_refusal basis (Some d) sums) _ (sym (found_settled d) ∙ sym p ∙ h) in
-      rw w.1 (refl, w.0, refl, refl)
+    pub one_found : (o : Option Degree) {r : Result Degree Refusal} {d : Degree} → found_by r c v ≡ found_of basis rows sums o → r ≡ Ok d
+        → (o ≡ Some d) × (chosen_refusal basis (Some d) sums ≡ 0) × (c ≡ (solve sums (count_of basis d.0)).c) × (v ≡ covariance_at sums rows (count_of basis d.0))
+    one_found None {r} {d} p h = absurd (let q = sym p ∙ ap (λ (a : Result Degree Refusal). found_by a c v) h in cc)
+    one_found (Some e) {r} {d} p h =
+        let w = settled_ok (chosen_refusal basis (Some e) sums) _ (sym (found_settled e) ∙ sym p ∙ ap (λ (a : Result Degree Refusal). found_by a c v) h) in
+        let same : d ≡ e = ap (λ (f : Found). f.degree) w.1 in
+        rw same (refl, w.0, ap (λ (f : Found). f.measured.c) w.1, ap (λ (f : Found). f.measured.covariance) w.1)
 
 -- it is 0, 11 or 12
 pub chosen_numbers : (basis : Basis) (o : Option Degree) (sums : List Float) → Memᴰ (chosen_refusal basis o sums) (0 ∷ 1 ∷ 4 ∷ 7 ∷ 8 ∷ 11 ∷ 12 ∷ [])

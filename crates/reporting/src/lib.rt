@@ -4,9 +4,10 @@
 
 mod refusals;
 
-ghost use Rattle.std.specs.Prelude.{◌≡◌, ◌≤◌, length, Ok};
-ghost use Rattle.basis.specs.Sizes.{highest_degree, max_terms, sum_places};
+ghost use Rattle.std.specs.Prelude.{◌≡◌, ◌≤◌, length, replicate, Ok};
+ghost use Rattle.basis.specs.Sizes.{highest_degree, matrix_places, max_terms, sum_places};
 ghost use Rattle.basis.specs.Counts.{count_of};
+ghost use Rattle.value.specs.Numbers.{zero_f};
 ghost use Rattle.monomial.specs.Reading.{rows_read};
 ghost use Rattle.fit.specs.Chosen.{choice_of, counts_of};
 ghost use Rattle.measure.specs.Places.{term_places};
@@ -16,10 +17,9 @@ ghost use Rattle.reporting.specs.Outputs.{RoomFor, lent_outputs, outputs_now, pl
 ghost use Rattle.reporting.specs.Reports.{Does, written_by};
 ghost use Rattle.reporting.specs.Limited.{DoesWithin, limited_up_to};
 
-use basis::Degree;
+use basis::{Degree, MATRIX, TERMS};
 use covariance::Spread;
 use fit::Choice;
-use measure::Measured;
 use monomial::Rows;
 use refusal::Refusal;
 pub use refusals::check_settings;
@@ -96,42 +96,42 @@ pub struct Counted {
     pub tests: usize,
 }
 
-// A chosen degree, with its coefficients and their covariance.
-#[derive(Clone, Copy)]
-pub struct Found {
-    pub degree: Degree,
-    pub measured: Measured,
-}
-
-// The choice, and what it found; or the refusal, 11 or 12.
+// The choice, and the chosen degree if it was measured; or the refusal, 11 or 12.
 #[derive(Clone, Copy)]
 pub struct Chosen {
     pub choice: Choice,
-    pub found: Result<Found, Refusal>,
+    pub found: Result<Degree, Refusal>,
 }
 
-// Chooses among the degrees 0 to the last one, solves the chosen one again and measures it. Of scratch, only the first n places change.
+// Chooses among the degrees 0 to the last one, and measures the chosen one, solved again from the same elimination: its coefficients and their covariance are put
+// where they are lent. `covariance` is all +0 before; where it is refused both stand as they were. Of scratch, only the first n places change.
 pub fn choose(
     rows: Rows<'_>,
     last: Degree,
     criterion: Criterion,
     sums: &[f64],
     scratch: &mut [f64],
+    c: &mut [f64; TERMS],
+    covariance: &mut [f64; MATRIX],
 ) -> Chosen
-    requires { (length rows.ys.now ≤ length scratch.old) × (sum_places ≤ length sums.now) × (last.0 ≤ highest_degree) × (count_of rows.basis last.0 ≤ max_terms) }
-    ensures { Chooses rows.entry.basis (choice_of criterion sums.now (rows_read rows.entry) (counts_of rows.entry.basis last.0)) (length rows.entry.ys.now) (rows_read rows.entry) sums.now (before scratch) (after scratch) result }
+    requires { (length rows.ys.now ≤ length scratch.old) × (sum_places ≤ length sums.now) × (last.0 ≤ highest_degree) × (count_of rows.basis last.0 ≤ max_terms) × (covariance.old ≡ replicate matrix_places zero_f) }
+    ensures { Chooses rows.entry.basis (choice_of criterion sums.now (rows_read rows.entry) (counts_of rows.entry.basis last.0)) (length rows.entry.ys.now) (rows_read rows.entry) sums.now (before scratch) (after scratch) c.old c.new covariance.old covariance.new result }
 {
-    let choice = fit::choose(rows, sums, last, criterion, &mut *scratch);
+    let most = last.k(rows.basis);
+    let mut m = [0.0; MATRIX];
+    let mut g = [0.0; TERMS];
+    let held = solve::put_eliminated(sums, most, &mut m, &mut g);
+    let choice = fit::choose_from(rows, sums, last, criterion, held, &m, &g, &mut *scratch);
     let Some(degree) = choice.chosen else {
         let found = Err(Refusal::NoneChosen);
         return Chosen { choice, found };
     };
     let k = degree.k(rows.basis);
-    // no `map`: each function that the 2 KB of a covariance pass through copies them
-    match measure::measure(rows, sums, k, scratch) {
-        Ok(measured) => Chosen {
+    let solved = solve::solution(held, &m, &g, k);
+    match measure::measure(rows, sums, k, &solved, scratch, c, covariance) {
+        Ok(()) => Chosen {
             choice,
-            found: Ok(Found { degree, measured }),
+            found: Ok(degree),
         },
         Err(refusal) => Chosen {
             choice,
@@ -140,17 +140,19 @@ pub fn choose(
     }
 }
 
-// Writes what a report of this degree writes, and answers it.
+// Writes what a report of this degree writes, from its coefficients c and their covariance v, and answers it.
 pub fn write(
     rows: Rows<'_>,
     settings: Settings,
-    found: &Found,
+    degree: Degree,
+    c: &[f64; TERMS],
+    v: &[f64; MATRIX],
     solved: usize,
     memory: Memory<'_>,
 ) -> Report
-    requires degree_in_bounds { (found.now.degree.0 ≤ highest_degree) × (count_of rows.basis found.now.degree.0 ≤ length rows.ys.now) × (count_of rows.basis found.now.degree.0 ≤ max_terms) }
+    requires degree_in_bounds { (degree.0 ≤ highest_degree) × (count_of rows.basis degree.0 ≤ length rows.ys.now) × (count_of rows.basis degree.0 ≤ max_terms) }
     requires outputs_fit { RoomFor rows.basis (length rows.ys.now) (outputs_now memory) }
-    ensures { Does (written_by rows.entry.basis (length rows.entry.ys.now) settings (rows_read rows.entry) found.now.degree.0 solved found.now.measured.c found.now.measured.covariance) (Ok result) (lent_outputs memory) }
+    ensures { Does (written_by rows.entry.basis (length rows.entry.ys.now) settings (rows_read rows.entry) degree.0 solved c.now v.now) (Ok result) (lent_outputs memory) }
 {
     let Memory {
         scratch,
@@ -162,9 +164,6 @@ pub fn write(
         outliers,
     } = memory;
     let places = measure::term_places(rows.basis);
-    let degree = found.degree;
-    let c = &found.measured.c;
-    let v = &found.measured.covariance;
     let n = rows.ys.len();
     let k = degree.k(rows.basis);
     let df = n - k.0;
@@ -203,7 +202,17 @@ pub fn report_rows(
 {
     local!(memory);
     let criterion = settings.criterion;
-    let m = choose(rows, last, criterion, sums, &mut *memory.scratch);
+    let mut c = [0.0; TERMS];
+    let mut covariance = [0.0; MATRIX];
+    let m = choose(
+        rows,
+        last,
+        criterion,
+        sums,
+        &mut *memory.scratch,
+        &mut c,
+        &mut covariance,
+    );
     if limit < m.choice.tests {
         lent::clear(memory.scratch, rows.ys.len());
         return Counted {
@@ -211,17 +220,18 @@ pub fn report_rows(
             tests: 0,
         };
     }
-    let found = match &m.found {
-        Ok(found) => found,
+    let degree = match m.found {
+        Ok(degree) => degree,
         Err(refusal) => {
             lent::clear(memory.scratch, rows.ys.len());
             return Counted {
-                answer: Err(*refusal),
+                answer: Err(refusal),
                 tests: m.choice.tests,
             };
         }
     };
-    let report = write(rows, settings, found, m.choice.solved, memory);
+    let solved = m.choice.solved;
+    let report = write(rows, settings, degree, &c, &covariance, solved, memory);
     Counted {
         answer: Ok(report),
         tests: m.choice.tests,

@@ -19,7 +19,6 @@ use Rattle.lent.specs.Written.{over, zeros}
 use Rattle.lent.specs.WrittenLaws.{over_by, over_cleared}
 use Rattle.settings.specs.declared.Settings.{Settings}
 use Rattle.reporting.specs.declared.Chosen.{Chosen}
-use Rattle.reporting.specs.declared.Found.{Found}
 use Rattle.reporting.specs.Chosen.{chosen_refusal, of_chosen, Chooses}
 use Rattle.reporting.specs.ChosenLaws.{of_late, of_told, none_found, one_found}
 use Rattle.report.specs.Reports.{report_choice}
@@ -39,7 +38,7 @@ pub let_through : (q n : ℕ) (settings : Settings) (rows own : List Row) (sums 
 let_through q n settings rows own sums r s s' b b' l l' e same f = rw (e, ← same) f
 
 -- m is what was chosen, and u scratch after it, which was cleared
-module _ (n : ℕ) (settings : Settings) (rows : List Row) (sums s u : List Float) (m : Chosen) (ch : Chooses Curve (report_choice n settings rows sums) n rows sums s u m)
+module _ (n : ℕ) (settings : Settings) (rows : List Row) (sums s u c c' v v' : List Float) (m : Chosen) (ch : Chooses Curve (report_choice n settings rows sums) n rows sums s u c c' v v' m)
     (t : List Float) (cleared : t ≡ zeros n ++ drop n u) where
   -- 11 or 12
   pub refused_late_lem : {e : Refusal} {r : ScoresAnswer} → m.found ≡ Err e → IsErrAnd r (λ d. d ≡ e) → (b : List ℕ) (l : List Float)
@@ -47,24 +46,24 @@ module _ (n : ℕ) (settings : Settings) (rows : List Row) (sums s u : List Floa
   unfolding scores_past scores_of
   refused_late_lem h q b l =
       let choice = report_choice n settings rows sums in
-      let w = none_found Curve rows sums choice.chosen ch.found h in
+      let w = none_found Curve rows sums c' v' choice.chosen ch.found h in
       rw (of_late Curve sums (scores_late n) (scores_by n (max_degree settings.bound n) choice) choice.chosen (chosen_refusal Curve choice.chosen sums) refl w.0)
       (record { answer = (given_back w q).1; scratch = over_cleared n s u t ch.within cleared; solved = refl; scores = refl })
 
   -- the chosen degree is told
-  module _ {f : Found} (z : m.found ≡ Ok f) where
-    told_by : scores_past n settings rows sums ≡ scores_by n (max_degree settings.bound n) (report_choice n settings rows sums) f.degree
+  module _ {e : Degree} (z : m.found ≡ Ok e) where
+    told_by : scores_past n settings rows sums ≡ scores_by n (max_degree settings.bound n) (report_choice n settings rows sums) e
     unfolding scores_past scores_of
     told_by =
         let choice = report_choice n settings rows sums in
-        let o = one_found Curve rows sums choice.chosen ch.found z in
+        let o = one_found Curve rows sums c' v' choice.chosen ch.found z in
         let told = scores_by n (max_degree settings.bound n) choice in
-        ap (λ (d : Option Degree). of_chosen Curve sums (scores_late n) told d) o.0 ∙ of_told Curve sums (scores_late n) told f.degree o.1
+        ap (λ (d : Option Degree). of_chosen Curve sums (scores_late n) told d) o.0 ∙ of_told Curve sums (scores_late n) told e o.1
 
     pub told_whole : (last : Degree) → last.0 ≡ max_degree settings.bound n
         → (b b' : List ℕ) (l l' : List Float) → b' ≡ map solved_mark m.choice.scores ++ drop 16 b → l' ≡ over (map score_or_zero m.choice.scores) l
         → ScoresIs (scores_past n settings rows sums)
-        (Ok (record { degree = f.degree; bound = last; solved = m.choice.solved; least = m.choice.least; tests = m.choice.tests })) (contents_of s t) (contents_of b b') (contents_of l l')
+        (Ok (record { degree = e; bound = last; solved = m.choice.solved; least = m.choice.least; tests = m.choice.tests })) (contents_of s t) (contents_of b b') (contents_of l l')
     unfolding scores_by
     told_whole last el b b' l l' eb es =
         let fl = ap (λ (o : Choice). length o.scores) ch.choice ∙ length_scores n settings rows sums in

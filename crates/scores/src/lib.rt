@@ -11,7 +11,7 @@ ghost use Rattle.lent.specs.Slices.{before, after, contents};
 ghost use Rattle.lent.specs.Written.{over};
 ghost use Rattle.scores.specs.Scores.{ScoresIs, solved_mark, score_or_zero, scores_out};
 
-use basis::{Basis, Degree, SUMS, TERMS};
+use basis::{Basis, Degree, MATRIX, SUMS, TERMS};
 use book::Book;
 use monomial::Rows;
 use refusal::Refusal;
@@ -80,14 +80,24 @@ pub fn scores(
     let criterion = settings.criterion;
     let last = statistics::max_degree(bound, n);
     let rows = Rows::curve(n, columns);
-    let m = reporting::choose(rows, last, criterion, &sums[..SUMS], &mut *scratch);
+    let mut c = [0.0; TERMS];
+    let mut covariance = [0.0; MATRIX];
+    let m = reporting::choose(
+        rows,
+        last,
+        criterion,
+        &sums[..SUMS],
+        &mut *scratch,
+        &mut c,
+        &mut covariance,
+    );
     lent::clear(scratch, n);
-    let found = m.found?;
+    let degree = m.found?;
     let choice = m.choice;
     put_solved(choice.scores, solved);
     put_scores(choice.scores, scores);
     Ok(ScoreTable {
-        degree: found.degree,
+        degree,
         bound: last,
         solved: choice.solved,
         least: choice.least,

@@ -29,7 +29,7 @@ slice_bounds-choose-end c =
 pub choose-m-requires : goal.choose-m-requires
 choose-m-requires c =
     let w = loss_room _ _ _ _ _ _ _ (passed c.check_losses.ensures c.in_ok-check_losses.was) in
-    (omega (arith, w.0.enough.1.0, c.curve-rows.ensures.long), omega (arith, length-take-le 272 c.args.sums.now w.0.enough.0), omega (arith, c.max_degree-last.ensures, w.2), rw c.curve-rows.ensures.curved (omega (arith, c.max_degree-last.ensures, w.2, curve_count c.max_degree-last.result.0)))
+    (omega (arith, w.0.enough.1.0, c.curve-rows.ensures.long), omega (arith, length-take-le 272 c.args.sums.now w.0.enough.0), omega (arith, c.max_degree-last.ensures, w.2), rw c.curve-rows.ensures.curved (omega (arith, c.max_degree-last.ensures, w.2, curve_count c.max_degree-last.result.0)), refl)
 
 pub clear-requires : goal.clear-requires
 clear-requires c =
@@ -39,20 +39,20 @@ clear-requires c =
 pub returns-in-Err : goal.returns-in-Err
 unfolding loss_on report_choice
 returns-in-Err c = let_through _ c.args.book.count c.args.settings _ _ (take 272 c.args.sums.now) _ _ _ _ _ (passed c.check_losses.ensures c.in_ok-check_losses.was) refl
-    (refused_late_lem c.args.book.count c.args.settings _ (take 272 c.args.sums.now) _ _ c.choose-m.result (rw (c.curve-rows.ensures.rows, c.curve-rows.ensures.long, c.curve-rows.ensures.curved, c.max_degree-last.ensures) at c.choose-m.ensures) c.in-Err.is refl _ _ c.clear.ensures)
+    (refused_late_lem c.args.book.count c.args.settings _ (take 272 c.args.sums.now) _ _ _ _ _ _ c.choose-m.result (rw (c.curve-rows.ensures.rows, c.curve-rows.ensures.long, c.curve-rows.ensures.curved, c.max_degree-last.ensures) at c.choose-m.ensures) c.in-Err.is refl _ _ c.clear.ensures)
 
 pub k-k-requires : goal.k-k-requires
 unfolding report_choice
 k-k-requires c =
     let w = loss_room _ _ _ _ _ _ _ (passed c.check_losses.ensures c.in_ok-check_losses.was) in
-    few_terms c.args.book.count c.args.settings _ (take 272 c.args.sums.now) _ _ c.choose-m.result (rw (c.curve-rows.ensures.rows, c.curve-rows.ensures.long, c.curve-rows.ensures.curved, c.max_degree-last.ensures) at c.choose-m.ensures) c.in-Ok.is w.2
+    few_terms c.args.book.count c.args.settings _ (take 272 c.args.sums.now) _ _ _ _ _ _ c.choose-m.result (rw (c.curve-rows.ensures.rows, c.curve-rows.ensures.long, c.curve-rows.ensures.curved, c.max_degree-last.ensures) at c.choose-m.ensures) c.in-Ok.is w.2
 
 pub sizes-requires : goal.sizes-requires
 unfolding report_choice
 sizes-requires c =
     let w = loss_room _ _ _ _ _ _ _ (passed c.check_losses.ensures c.in_ok-check_losses.was) in
-    let d = few_terms c.args.book.count c.args.settings _ (take 272 c.args.sums.now) _ _ c.choose-m.result (rw (c.curve-rows.ensures.rows, c.curve-rows.ensures.long, c.curve-rows.ensures.curved, c.max_degree-last.ensures) at c.choose-m.ensures) c.in-Ok.is w.2 in
-    (omega (arith, w.0.enough.1.0, c.choose-m.ensures.within.long, c.curve-rows.ensures.long), omega (arith, d, c.k-k.ensures ∙ curve_count c.in-Ok.found.degree.0))
+    let d = few_terms c.args.book.count c.args.settings _ (take 272 c.args.sums.now) _ _ _ _ _ _ c.choose-m.result (rw (c.curve-rows.ensures.rows, c.curve-rows.ensures.long, c.curve-rows.ensures.curved, c.max_degree-last.ensures) at c.choose-m.ensures) c.in-Ok.is w.2 in
+    (omega (arith, w.0.enough.1.0, c.choose-m.ensures.within.long, c.curve-rows.ensures.long), omega (arith, d, c.k-k.ensures ∙ curve_count c.in-Ok.degree.0))
 
 pub slice_bounds-put_losses-end : goal.slice_bounds-put_losses-end
 slice_bounds-put_losses-end c =
@@ -80,5 +80,5 @@ returns c =
     let n = c.args.book.count in
     let w = loss_room _ _ _ _ _ _ _ (passed c.check_losses.ensures c.in_ok-check_losses.was) in
     let_through _ n c.args.settings _ _ (take 272 c.args.sums.now) _ _ _ _ _ (passed c.check_losses.ensures c.in_ok-check_losses.was) refl
-    (told_whole n c.args.settings _ (take 272 c.args.sums.now) _ _ c.choose-m.result (rw (c.curve-rows.ensures.rows, c.curve-rows.ensures.long, c.curve-rows.ensures.curved, c.max_degree-last.ensures) at c.choose-m.ensures) c.in-Ok.is c.k-k.result.0 c.k-k.ensures (ap length (sym c.curve-rows.ensures.rows) ∙ length_rows_read c.curve-rows.result ∙ c.curve-rows.ensures.long) _ (rw (c.curve-rows.ensures.rows, c.curve-rows.ensures.long) at c.sizes.ensures.written)
+    (told_whole n c.args.settings _ (take 272 c.args.sums.now) _ _ _ _ _ _ c.choose-m.result (rw (c.curve-rows.ensures.rows, c.curve-rows.ensures.long, c.curve-rows.ensures.curved, c.max_degree-last.ensures) at c.choose-m.ensures) c.in-Ok.is c.k-k.result.0 c.k-k.ensures (ap length (sym c.curve-rows.ensures.rows) ∙ length_rows_read c.curve-rows.result ∙ c.curve-rows.ensures.long) _ (rw (c.curve-rows.ensures.rows, c.curve-rows.ensures.long) at c.sizes.ensures.written)
     (omega (arith, w.0.enough.1.0, c.choose-m.ensures.within.long)) _ _ _ _ _ c.put_losses-total.ensures.total (rw (length-take-le n c.sizes.new.scratch (omega (arith, w.0.enough.1.0))) at c.put_losses-total.ensures.written) c.score.ensures c.clear-2.ensures)

@@ -14,7 +14,7 @@ returns c =
     let cut : length (take c.term_places-places.result c.args.memory.pruned.now) ≡ c.term_places-places.result = length-take-le _ _ (search rules) in
     let n = (length c.args.rows.ys.now) in
     let rows = rows_read c.args.rows in
-    writes_is c.args.rows.basis n c.args.settings rows c.args.found.now.degree.0 c.args.solved c.args.found.now.measured.c c.args.found.now.measured.covariance
+    writes_is c.args.rows.basis n c.args.settings rows c.args.degree.0 c.args.solved c.args.c.now c.args.v.now
     c.term_places-places.result c.term_places-places.ensures.is
     c.k-k.result.0 c.k-k.ensures (length_rows_read c.args.rows)
     c.t_score-t.result c.z_score-z.result c.deviation_read-sd.result c.errors-e.result c.t_score-t.ensures c.z_score-z.ensures

@@ -28,17 +28,17 @@ slice_bounds-choose-end c =
 pub choose-m-requires : goal.choose-m-requires
 choose-m-requires c =
     let w = scores_room _ _ _ _ _ _ _ _ (passed c.check_scores.ensures c.in_ok-check_scores.was) in
-    (omega (arith, w.0.enough.1.0, c.curve-rows.ensures.long), omega (arith, length-take-le 272 c.args.sums.now w.0.enough.0), omega (arith, c.max_degree-last.ensures, w.2), rw c.curve-rows.ensures.curved (omega (arith, c.max_degree-last.ensures, w.2, curve_count c.max_degree-last.result.0)))
+    (omega (arith, w.0.enough.1.0, c.curve-rows.ensures.long), omega (arith, length-take-le 272 c.args.sums.now w.0.enough.0), omega (arith, c.max_degree-last.ensures, w.2), rw c.curve-rows.ensures.curved (omega (arith, c.max_degree-last.ensures, w.2, curve_count c.max_degree-last.result.0)), refl)
 
 pub clear-requires : goal.clear-requires
 clear-requires c =
     let w = scores_room _ _ _ _ _ _ _ _ (passed c.check_scores.ensures c.in_ok-check_scores.was) in
     omega (arith, w.0.enough.1.0)
 
-pub returns-in_err-found : goal.returns-in_err-found
+pub returns-in_err-degree : goal.returns-in_err-degree
 unfolding scores_on report_choice
-returns-in_err-found c = let_through _ c.args.book.count c.args.settings _ _ (take 272 c.args.sums.now) _ _ _ _ _ _ _ (passed c.check_scores.ensures c.in_ok-check_scores.was) refl
-    (refused_late_lem c.args.book.count c.args.settings _ (take 272 c.args.sums.now) _ _ c.choose-m.result (rw (c.curve-rows.ensures.rows, c.curve-rows.ensures.long, c.curve-rows.ensures.curved, c.max_degree-last.ensures) at c.choose-m.ensures) _ c.clear.ensures c.in_err-found.was c.from_residual-in_err-found.ensures.1 _ _)
+returns-in_err-degree c = let_through _ c.args.book.count c.args.settings _ _ (take 272 c.args.sums.now) _ _ _ _ _ _ _ (passed c.check_scores.ensures c.in_ok-check_scores.was) refl
+    (refused_late_lem c.args.book.count c.args.settings _ (take 272 c.args.sums.now) _ _ _ _ _ _ c.choose-m.result (rw (c.curve-rows.ensures.rows, c.curve-rows.ensures.long, c.curve-rows.ensures.curved, c.max_degree-last.ensures) at c.choose-m.ensures) _ c.clear.ensures c.in_err-degree.was c.from_residual-in_err-degree.ensures.1 _ _)
 
 pub put_solved-requires : goal.put_solved-requires
 put_solved-requires c =
@@ -53,4 +53,4 @@ put_scores-requires c =
 pub returns : goal.returns
 unfolding scores_on report_choice
 returns c = let_through _ c.args.book.count c.args.settings _ _ (take 272 c.args.sums.now) _ _ _ _ _ _ _ (passed c.check_scores.ensures c.in_ok-check_scores.was) refl
-    (told_whole c.args.book.count c.args.settings _ (take 272 c.args.sums.now) _ _ c.choose-m.result (rw (c.curve-rows.ensures.rows, c.curve-rows.ensures.long, c.curve-rows.ensures.curved, c.max_degree-last.ensures) at c.choose-m.ensures) _ c.clear.ensures c.in_ok-found.was c.max_degree-last.result c.max_degree-last.ensures _ _ _ _ c.put_solved.ensures c.put_scores.ensures)
+    (told_whole c.args.book.count c.args.settings _ (take 272 c.args.sums.now) _ _ _ _ _ _ c.choose-m.result (rw (c.curve-rows.ensures.rows, c.curve-rows.ensures.long, c.curve-rows.ensures.curved, c.max_degree-last.ensures) at c.choose-m.ensures) _ c.clear.ensures c.in_ok-degree.was c.max_degree-last.result c.max_degree-last.ensures _ _ _ _ c.put_solved.ensures c.put_scores.ensures)

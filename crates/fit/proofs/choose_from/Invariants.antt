@@ -1,4 +1,4 @@
--- `fit::choose` meets its contract.
+-- `fit::choose_from` meets its contract.
 use mathlib.Core.Path.{◌≡◌}
 use Prim.Native.Nat.{◌+◌, ◌-◌, ◌*◌, ◌≤◌}
 use lib.ListN.{length}
@@ -9,7 +9,7 @@ use Rattle.basis.specs.Counts.{count_of}
 use Rattle.monomial.specs.Reading.{rows_read}
 use Rattle.fit.specs.Solved.{pivot_tests}
 use Rattle.fit.proofs.Choosing.{known}
-use Rattle.fit.proofs.choose.Given as goal
+use Rattle.fit.proofs.choose_from.Given as goal
 
 abbrev pub invariant-loop-d : goal.invariant-loop-d
 invariant-loop-d l = (l.d ≤ l.b) × (l.tests ≤ 16 * l.d) × Within (length l.rows.ys.now) l.initial.scratch l.scratch
