@@ -12,7 +12,7 @@
 //! [`Book`]. [`Surface`] fits samples with two coordinates. An [`Allowance`] bounds what each of eight
 //! course groups may ask of one machine. A [`Season`] holds the 32 stakes of a glacier.
 //!
-//! A call needs at most 56 KB of stack. What it takes in time, and how both were measured, is said
+//! A call needs at most 40 KB of stack. What it takes in time, and how both were measured, is said
 //! in `include/stakebook.h`.
 //!
 //! ```
