@@ -29,7 +29,7 @@ fn word(digits: &[u8]) -> u64 {
 }
 
 // What becomes of a line.
-#[derive(Clone, Copy, PartialEq, Eq)]
+#[derive(Clone, Copy)]
 enum Outcome {
     RootEqual,
     RootDiffers,
@@ -38,6 +38,22 @@ enum Outcome {
     // more than one last bit from the library's
     LogarithmFar,
     NoVector,
+}
+
+impl Outcome {
+    // Its place among the counts.
+    fn place(self) -> usize
+        ensures { result < 6 }
+    {
+        match self {
+            Outcome::RootEqual => 0,
+            Outcome::RootDiffers => 1,
+            Outcome::LogarithmEqual => 2,
+            Outcome::LogarithmDiffers => 3,
+            Outcome::LogarithmFar => 4,
+            Outcome::NoVector => 5,
+        }
+    }
 }
 
 fn compare(line: &[u8]) -> Outcome
@@ -68,11 +84,14 @@ fn compare(line: &[u8]) -> Outcome
     }
 }
 
-// How many lines have an outcome.
-fn count(text: &[u8], of: Outcome) -> usize {
-    text.chunks_exact(53)
-        .filter(|line| compare(line) == of)
-        .count()
+// How many lines have each outcome, in the order in which they are printed.
+fn tally(text: &[u8]) -> [usize; 6] {
+    let mut counts = [0usize; 6];
+    for line in text.chunks_exact(53) {
+        let place = compare(line).place();
+        counts[place] = counts[place].wrapping_add(1);
+    }
+    counts
 }
 
 fn say(text: &[u8], n: usize) {
@@ -86,20 +105,15 @@ fn main() {
     let mut space = io::large_buffer();
     let n = io::read_full(STDIN, &mut space);
     let text = &space[..n];
-    say(b"square roots equal ", count(text, Outcome::RootEqual));
-    say(
-        b"square roots that differ ",
-        count(text, Outcome::RootDiffers),
-    );
-    say(b"logarithms equal ", count(text, Outcome::LogarithmEqual));
-    say(
-        b"logarithms that differ ",
-        count(text, Outcome::LogarithmDiffers),
-    );
+    let counts = tally(text);
+    say(b"square roots equal ", counts[0]);
+    say(b"square roots that differ ", counts[1]);
+    say(b"logarithms equal ", counts[2]);
+    say(b"logarithms that differ ", counts[3]);
     say(
         b"logarithms more than one last bit from the library's ",
-        count(text, Outcome::LogarithmFar),
+        counts[4],
     );
-    say(b"lines that are no vector ", count(text, Outcome::NoVector));
+    say(b"lines that are no vector ", counts[5]);
     say(b"bytes left over ", n % 53);
 }
