@@ -43,14 +43,15 @@ use Rattle.decimal.specs.Lines.{read_lines}
 use Rattle.book.specs.Refusals.{open_refusal, add_refusal, correct_refusal, withdraw_refusal, frame_add_refusal, lines_add_refusal}
 use Rattle.refusal.specs.NamedLaws.{number_fits}
 use Rattle.refusal.specs.Named.{named}
-use Rattle.refusal.specs.Refusals.{settle}
+use Rattle.refusal.specs.Refusals.{by, settle, most_number}
+use Rattle.refusal.specs.Laws.{among, numbered}
 use Rattle.refusal.specs.Tests.{capacity}
 use Rattle.book.specs.RefusalLaws.{add_room, correct_room, withdraw_room, frame_room, lines_room}
 use Rattle.book.specs.Calls.{Answer, Out, State, state_of, state_after, book_after, refused, add_next, add_many, open_out, add_out, correct_out, withdraw_out, add_frame_out, add_lines_out}
 use Rattle.book.specs.Window.{window_refusal, with_place, window_out}
 use Rattle.book.specs.WindowLaws.{window_room}
 use Rattle.measure.specs.Places.{term_places}
-use Rattle.measure.specs.Measures.{measure_refusal}
+use Rattle.measure.specs.Measures.{inverse_fails, measure_refusal}
 use Rattle.query.specs.Refusals.{fit_refusal, validate_refusal, band_refusal}
 use Rattle.query.specs.RefusalLaws.{fit_room, validate_room}
 use Rattle.measure.specs.Fits.{FitOut, fit_refused, fit_past}
@@ -237,6 +238,10 @@ module _ (n : ℕ) (columns : Columns) (sums scratch coefficients : List Float) 
           past_fits Curve n d.0 _ _ (omega (arith, w.within))
 
 -- ---- the band
+
+pub measure_most : (sums : List Float) (rows : List Row) (k : ℕ) → measure_refusal sums rows k ≤ most_number
+unfolding measure_refusal
+measure_most sums rows k = omega (arith, among _ (numbered (by (not (is_solved sums rows k)) 10 ∷ by (inverse_fails sums k) 12 ∷ [])))
 
 pub band_settles : (k : ℕ) (b : Band) → BandFits (settle k (Ok b) (refused_by k))
 unfolding BandFits

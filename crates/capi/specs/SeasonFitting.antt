@@ -8,6 +8,8 @@ use Rattle.std.proofs.lemmas.Bool.{eqb-false}
 use Rattle.std.proofs.Math.ListN.{length-replicate}
 use Rattle.std.proofs.lemmas.List.{get_or-replicate}
 use Rattle.refusal.specs.Named.{refused_by}
+use Rattle.refusal.specs.Refusals.{most_number}
+use Rattle.refusal.specs.Laws.{among, numbered}
 use Rattle.reporting.specs.declared.Report.{Report}
 use Rattle.reporting.specs.Reports.{ReportAnswer}
 use Rattle.loops.specs.Loop.{from, turns}
@@ -18,7 +20,7 @@ use Rattle.ledger.specs.Ledger.{Change, adds, corrects, withdraws, frames, texts
 use Rattle.settings.specs.declared.Settings.{Settings}
 use Rattle.reporting.specs.Outputs.{Outputs, places_of}
 use Rattle.stakes.specs.Parts.{stakes}
-use Rattle.stakes.specs.Season.{SeasonState, stake_state, stake_refusal, season_open_refusal, read_stake}
+use Rattle.stakes.specs.Season.{SeasonState, stake_state, stake_tests, stake_refusal, season_open_refusal, read_stake}
 use Rattle.season.specs.Changes.{SeasonOut, left_alone, on_stake, season_out, opens, open_stake_out, carries, carry_stake_out, season_open_out}
 use Rattle.season_report.specs.ReportLaws.{passes_most}
 use Rattle.season_report.specs.Reports.{parts_of, stake_report_out, passes, Reported, report_turn, unreported, season_report}
@@ -28,6 +30,10 @@ use Rattle.capi.specs.CarryFitting.{carry_fits}
 use Rattle.capi.specs.Reading.{number_in, count_in, BookRead, ReportRead}
 use Rattle.capi.specs.ReadingLaws.{book_read, report_read}
 use Rattle.capi.specs.SeasonPacked.{StakesFit, packed_stakes}
+
+pub stake_most : (s n : ℕ) → stake_refusal s n ≤ most_number
+unfolding stake_refusal
+stake_most s n = omega (arith, among _ (numbered (stake_tests s n)))
 
 -- ---- calls that change a season
 

@@ -38,6 +38,11 @@ unfoldable pub chosen_score : (ℕ → Option Float) → Option Degree → Float
 chosen_score S None = zero_f
 chosen_score S (Some d) = unwrap_or (S d.0) zero_f
 
+-- a degree, if one is chosen, is below b
+abbrev pub Below : ℕ → Option Degree → Type 0
+Below b None = Unit {0}
+Below b (Some d) = d.0 < b
+
 -- the number of solved degrees
 unfoldable pub solved_count : (ℕ → Option Float) → ℕ → ℕ
 solved_count S b = from (λ d m. cond (is_some (S d)) (m + 1) m) 0 b 0

@@ -1,5 +1,5 @@
 -- What the choice comes to, of any scores.
-use Rattle.std.specs.Prelude.{◌≡◌, refl, Bool, true, false, cond, not, ◌||◌, ◌⊎◌, ℕ, zero, suc, ◌-◌, ◌*◌, ◌<◌, T, ltb, Float, Option, Some, None, unwrap_or}
+use Rattle.std.specs.Prelude.{◌≡◌, refl, Bool, true, false, cond, not, ◌||◌, ◌⊎◌, ℕ, zero, suc, ◌-◌, ◌*◌, ◌≤◌, ◌<◌, T, ltb, Float, Option, Some, None, unwrap_or}
 use Rattle.std.proofs.Common.{sym, ap, ◌∙◌, inl, inr, mul-pos, arith, ltb-true, ltb-false, le-ltb, lit<}
 use Rattle.std.specs.Int.Count.{count_trailing_zeros}
 use Rattle.std.specs.Float.{nan, inf, fin, binary64}
@@ -13,7 +13,7 @@ use Rattle.value.specs.Finite.{finite}
 use Rattle.basis.specs.declared.Degree.{Degree}
 use Rattle.value.specs.Numbers.{zero_f, two_f, infinity_f}
 use Rattle.value.specs.Order.{lt_itself, lt_trans}
-use Rattle.choice.specs.Choice.{Attained, Chosen, degree, yields, least_of, near, degree_of, chosen_of, chosen_score}
+use Rattle.choice.specs.Choice.{Attained, Chosen, degree, yields, least_of, near, degree_of, chosen_of, chosen_score, Below}
 
 -- ---- the least
 
@@ -234,7 +234,14 @@ none_such_only S b h = go (chosen_of S b) refl
     go None q = q
     go (Some d) q = absurd (h d.0 (chosen S b d.0 q))
 
--- ---- the chosen degree's score
+-- ---- the chosen degree's place and score
+
+pub chosen_below : (S : ℕ → Option Float) (b m : ℕ) (o : Option Degree) → b ≤ m → o ≡ chosen_of S b → Below m o
+chosen_below S b m None h e = tt
+chosen_below S b m (Some d) h e = omega (arith, (chosen S b d.0 (sym e)).within)
+
+pub below_some : (b : ℕ) (o : Option Degree) (d : Degree) → o ≡ Some d → Below b o → d.0 < b
+below_some b o d e h = rw e at h
 
 -- where two ways to score agree below b, they agree of the chosen degree
 pub chosen_score_same : (S R : ℕ → Option Float) (b : ℕ) → ((d : ℕ) → d < b → S d ≡ R d) → (o : Option Degree) → o ≡ chosen_of S b

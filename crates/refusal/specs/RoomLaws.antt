@@ -1,11 +1,11 @@
 -- Laws of Rooms.antt: the tests of 1, and the room that there is where neither 1 nor 5 holds.
 use Rattle.std.specs.Prelude.{◌≡◌, refl, Bool, true, false, ◌||◌, List, [], ◌∷◌, ℕ, ◌+◌, ◌-◌, ◌≤◌, ◌<◌, min, ltb, Result, Ok, ⊤}
-use Rattle.std.proofs.Common.{sym, ap₂, arith, lt-ltb, le-ltb, ltb-true, ltb-false}
+use Rattle.std.proofs.Common.{sym, ap, ap₂, ◌∙◌, arith, lt-ltb, le-ltb, ltb-true, ltb-false}
 use Rattle.loops.specs.All.{All}
 use Rattle.loops.specs.Cases.{or_false}
 use Rattle.loops.specs.Fold.{fold}
 use Rattle.basis.specs.Sizes.{max_samples}
-use Rattle.refusal.specs.Tests.{Needed, any_short, capacity, too_short, no_room}
+use Rattle.refusal.specs.Tests.{Needed, needed, any_short, capacity, too_short, no_room}
 use Rattle.refusal.specs.Rooms.{Enough, Room}
 use Rattle.refusal.specs.declared.refusals.Refusal.{Refusal}
 use Rattle.refusal.specs.Refusals.{Test, by, first_of}
@@ -14,6 +14,19 @@ use Rattle.refusal.specs.NamedLaws.{passed}
 use Rattle.refusal.specs.Laws.{first_none}
 
 -- ---- the code's tests
+
+-- one memory more in front
+pub short_of : (needs lent : ℕ) (ms : List Needed) {t others : Bool} → t ≡ (ltb lent needs || others) → others ≡ any_short ms → t ≡ any_short (needed needs lent ∷ ms)
+unfolding any_short
+short_of needs lent ms e q = e ∙ ap (λ b. ltb lent needs || b) q
+
+-- no memory left
+pub short_end : false ≡ any_short []
+unfolding any_short
+short_end = refl
+
+pub short_is : (n : ℕ) (columns : List ℕ) (ms : List Needed) {t m : Bool} → t ≡ (m || ltb (capacity columns) n) → m ≡ any_short ms → t ≡ too_short n columns ms
+short_is n columns ms e q = e ∙ ap (λ b. b || ltb (capacity columns) n) q
 
 -- 5, where the count is at most the room
 pub room_left : (room n more : ℕ) → n ≤ room → ltb (room - n) more ≡ ltb room (n + more)

@@ -42,6 +42,15 @@ module _ (limit tests : ℕ) (best : Option Best) where
   unfolding those is_among
   search_in_order = refl
 
+  -- a search that is not refused is within the limit, and found a break
+  pub search_within : search_refusal limit tests best ≡ 0 → ltb limit tests ≡ false
+  unfolding search_refusal
+  search_within e = (first_none _ 15 _ e).0
+
+  pub search_found : search_refusal limit tests best ≡ 0 → is_none best ≡ false
+  unfolding search_refusal
+  search_found e = (first_none _ 10 _ (first_none _ 15 _ e).1).0
+
 -- the number of what a search comes to is its refusal's
 pub searched_number : (limit tests : ℕ) (best : Option Best) → number_of (searched limit tests best) ≡ search_refusal limit tests best
 unfolding searched search_refusal first_of
