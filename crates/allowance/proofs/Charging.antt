@@ -107,7 +107,6 @@ module _ (group : ℕ) (table : List ℕ) (short : Bool) (later : List Test) whe
         go zero d = record { does = d.does; table = ap (taken_from table group) d.taken }
         go (suc k) d = record { does = d.does; table = ap (taken_from table group) d.taken ∙ nothing_taken table group }
 
-    --SPLIT
     -- the same of a split
     pub split_refused_early : {x : Refusal} {a : SplitAnswer} → r ≡ Err x → IsErrAnd a (λ d. d ≡ x) → (past : SplitOut) (taken : ℕ) (s b l : List Float)
         → SplitCharged (charged group table all (split_refused all []) past taken) a (record { scratch = contents_of s s; before = contents_of b b; after = contents_of l l }) table
@@ -127,7 +126,6 @@ module _ (group : ℕ) (table : List ℕ) (short : Bool) (later : List Test) whe
             → SplitCharged (charged group table k (split_refused k []) past taken) a.answer w (set table group (get_or table group 0 - a.tests))
         go zero d t = record { does = d; table = ap (taken_from table group) t }
         go (suc k) d t = record { does = d; table = ap (taken_from table group) t ∙ nothing_taken table group }
-        --END
 
 -- a call takes no more than is left
 limited_taken : (basis : Basis) (n : ℕ) (settings : Settings) (limit : ℕ) (rows : List Row) (sums : List Float) (choice : Choice)
@@ -161,7 +159,6 @@ surface_taken n settings limit points columns places =
     let choice = surface_choice n settings rows sums in
     settled_taken (surface_report_refusal n points columns settings places) limit (limited_of Surface n settings limit rows sums choice) (limited_taken Surface n settings limit rows sums choice)
 
---SPLIT
 split_settled : (q limit tests : ℕ) → settle q (taken_of limit tests) 0 ≤ limit
 unfolding taken_of
 split_settled (suc q) limit tests = omega arith
@@ -176,5 +173,3 @@ pub split_taken_most : (n : ℕ) (settings : Settings) (limit : ℕ) (samples : 
 unfolding split_taken
 split_taken_most n settings limit samples columns sums places =
     split_settled (split_refusal n settings samples columns sums places) limit (search_tests settings.bound settings.criterion (weighted_rows samples))
-
---END
